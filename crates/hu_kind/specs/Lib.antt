@@ -1,0 +1,9 @@
+pub mod Cell
+pub mod Record
+pub mod Database
+pub mod Itemsets
+pub mod Order
+pub mod Sequence
+pub mod Answer
+pub mod Number
+pub mod Rows
