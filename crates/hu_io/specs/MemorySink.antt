@@ -1,0 +1,33 @@
+-- A sink in memory with a fixed room, of which chosen calls fail.
+use Rattle.std.specs.Prelude.{ℕ, ◌-◌, ◌==◌, ◌||◌, ◌&&◌, Bool, nat_lt, List, [], ◌++◌, length, take, if◌then◌else◌}
+use Rattle.hu_io.specs.Count.{one_more}
+use Rattle.hu_io.specs.Plan.{PlanView, after_call, next_fails}
+
+-- what is seen of a `MemorySink`: its bytes, how many bytes fit in all, its plan, and the calls that failed
+pub record SinkView : Type 0 where
+  pub bytes : List ℕ
+  pub room : ℕ
+  pub plan : PlanView
+  pub failed : ℕ
+
+-- no byte, no plan and no fault
+abbrev pub empty_sink : ℕ → SinkView
+empty_sink room = record { bytes = []; room = room; plan = record { failing = []; calls = 0 }; failed = 0 }
+
+-- the room that is left
+abbrev pub room_left : SinkView → ℕ
+room_left s = s.room - length s.bytes
+
+-- the calls that failed, 0 while no call is listed and room is left
+abbrev pub sink_faults : SinkView → ℕ
+sink_faults s = if length s.plan.failing == 0 && nat_lt 0 (room_left s) then 0 else s.failed
+
+-- whether the next call fails: by plan, or because no room is left for a byte
+abbrev pub put_fails : SinkView → List ℕ → Bool
+put_fails s piece = next_fails s.plan || (nat_lt 0 (length piece) && (room_left s == 0))
+
+-- the sink after a call: it took what fits, or its count rose
+abbrev pub after_put : SinkView → List ℕ → SinkView
+after_put s piece =
+    if put_fails s piece then record s { plan = after_call s.plan; failed = one_more s.failed }
+    else record s { plan = after_call s.plan; bytes = s.bytes ++ take (room_left s) piece }

@@ -1,0 +1,21 @@
+//! Files and sinks: where hupm reads its input and writes its answer.
+//!
+//! `Files` reads bytes of a named file from a place on, and `Sink` takes bytes in order. Both may fail, and each
+//! counts its failures, so that a caller can prove what a failure came from. `MemoryFiles` and `MemorySink` hold
+//! their bytes in memory and fail where they are told to; `SureFiles` and `SureSink` never fail; `DiskFiles` and
+//! `StreamSink` stand on the system. Begin with the traits `Files` and `Sink`, and with `put_all`.
+#![tactic(auto)]
+
+mod contents;
+mod failed;
+mod files;
+mod memory_files;
+mod memory_sink;
+mod plan;
+mod sink;
+
+pub use failed::Failed;
+pub use files::Files;
+pub use memory_files::MemoryFiles;
+pub use memory_sink::MemorySink;
+pub use sink::{Sink, put_all};
