@@ -1,5 +1,5 @@
 -- What a call of `Files::get` gives, and files by name as a list of pairs (name, bytes).
-use Rattle.std.specs.Prelude.{◌≡◌, ◌≢◌, ℕ, ◌<◌, ◌≤◌, ◌↔◌, ⊤, List, length, take, drop, Option, None, Some, Result, IfOk, MatchOption}
+use Rattle.std.specs.Prelude.{◌≡◌, ◌≢◌, ℕ, ◌<◌, ◌≤◌, ◌↔◌, ⊤, List, length, take, drop, Option, None, Some, Result, IfOk, MatchOption, [], unwrap_or}
 use Rattle.std.specs.Str.{bytes_eq}
 use Rattle.std.specs.Map.{lookup}
 
@@ -16,6 +16,10 @@ GetsTold (Some told) name at result into = IfOk result (λ n. MatchOption (told 
 -- the bytes of a name, if it is there
 abbrev pub content_in : List (List ℕ × List ℕ) → List ℕ → Option (List ℕ)
 content_in files name = lookup (bytes_eq name) files
+
+-- the bytes of a name, and none where it isn't there
+abbrev pub content_or_empty : List (List ℕ × List ℕ) → List ℕ → List ℕ
+content_or_empty files name = unwrap_or (content_in files name) []
 
 -- the name has these bytes, and every other name is as before
 pub record Adds (old new : List (List ℕ × List ℕ)) (name bytes : List ℕ) : Type 0 where

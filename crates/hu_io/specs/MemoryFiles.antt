@@ -2,7 +2,7 @@
 use Rattle.std.specs.Prelude.{ℕ, ◌+◌, ◌-◌, ◌^◌, ◌||◌, ◌==◌, min, Bool, List, [], length, is_some, is_none, if◌then◌else◌}
 use Rattle.hu_io.specs.Count.{one_more}
 use Rattle.hu_io.specs.Files.{content_in}
-use Rattle.hu_io.specs.Plan.{PlanView, after_call, next_fails}
+use Rattle.hu_io.specs.Plan.{PlanView, after_call, next_fails, no_plan}
 
 -- what is seen of a `MemoryFiles`: its files, its plan, the counts of calls that failed by plan and for want of the name,
 -- and the most bytes that a call gives
@@ -15,7 +15,7 @@ pub record FilesView : Type 0 where
 
 -- no file, no plan, no fault, and no limit below a `usize`
 abbrev pub no_files : FilesView
-no_files = record { files = []; plan = record { failing = []; calls = 0 }; planned = 0; missing = 0; most = 2 ^ 64 - 1 }
+no_files = record { files = []; plan = no_plan; planned = 0; missing = 0; most = 2 ^ 64 - 1 }
 
 -- the calls that failed by plan, 0 while no call is listed
 abbrev pub planned_faults : FilesView → ℕ

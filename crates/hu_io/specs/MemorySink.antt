@@ -1,7 +1,7 @@
 -- A sink in memory with a fixed room, of which chosen calls fail.
 use Rattle.std.specs.Prelude.{ℕ, ◌-◌, ◌==◌, ◌||◌, ◌&&◌, Bool, nat_lt, List, [], ◌++◌, length, take, if◌then◌else◌}
 use Rattle.hu_io.specs.Count.{one_more}
-use Rattle.hu_io.specs.Plan.{PlanView, after_call, next_fails}
+use Rattle.hu_io.specs.Plan.{PlanView, after_call, next_fails, no_plan}
 
 -- what is seen of a `MemorySink`: its bytes, how many bytes fit in all, its plan, and the calls that failed
 pub record SinkView : Type 0 where
@@ -12,7 +12,7 @@ pub record SinkView : Type 0 where
 
 -- no byte, no plan and no fault
 abbrev pub empty_sink : ℕ → SinkView
-empty_sink room = record { bytes = []; room = room; plan = record { failing = []; calls = 0 }; failed = 0 }
+empty_sink room = record { bytes = []; room = room; plan = no_plan; failed = 0 }
 
 -- the room that is left
 abbrev pub room_left : SinkView → ℕ

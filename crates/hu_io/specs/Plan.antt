@@ -1,5 +1,5 @@
 -- A plan of failures: which calls are to fail, and how many calls there were. Calls count from 1.
-use Rattle.std.specs.Prelude.{ℕ, Bool, List, ◌==◌}
+use Rattle.std.specs.Prelude.{ℕ, Bool, List, [], ◌∷◌, ◌++◌, ◌==◌}
 use Rattle.std.specs.List.{list_any}
 use Rattle.hu_io.specs.Count.{one_more}
 
@@ -7,6 +7,14 @@ use Rattle.hu_io.specs.Count.{one_more}
 pub record PlanView : Type 0 where
   pub failing : List ℕ
   pub calls : ℕ
+
+-- no call is to fail, and none was made
+abbrev pub no_plan : PlanView
+no_plan = record { failing = []; calls = 0 }
+
+-- the plan with one more call that is to fail
+abbrev pub listing : ℕ → PlanView → PlanView
+listing call plan = record plan { failing = plan.failing ++ call ∷ [] }
 
 -- the plan after one more call
 abbrev pub after_call : PlanView → PlanView

@@ -12,6 +12,7 @@ use std::marker::Model;
 /// The bytes of each name that was added.
 #[derive(Drop)]
 pub struct Contents {
+    alloc: Global,
     by_name: BTreeMap<String, Vec<u8>>,
 }
 
@@ -30,17 +31,18 @@ impl Contents {
         ensures { result ≡ [] }
     {
         Contents {
+            alloc,
             by_name: BTreeMap::new(alloc),
         }
     }
 
     /// Gives `name` these bytes, in place of those that it had.
-    pub fn add(&mut self, alloc: Global, name: &str, bytes: &[u8]) -> Result<(), NoMemory>
+    pub fn add(&mut self, name: &str, bytes: &[u8]) -> Result<(), NoMemory>
         ensures ok { OnOk result (Adds self.old self.new name.now bytes.now) }
         ensures err { OnErr result (self.new ≡ self.old) }
     {
-        let name = String::from_str(alloc, name)?;
-        let bytes = Vec::from_slice(alloc, bytes)?;
+        let name = String::from_str(self.alloc, name)?;
+        let bytes = Vec::from_slice(self.alloc, bytes)?;
         self.by_name.insert(name, bytes)?;
         Ok(())
     }

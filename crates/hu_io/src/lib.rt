@@ -7,15 +7,23 @@
 #![tactic(auto)]
 
 mod contents;
+mod disk_files;
 mod failed;
 mod files;
 mod memory_files;
 mod memory_sink;
 mod plan;
 mod sink;
+mod stream_sink;
+mod sure_files;
+mod sure_sink;
 
+pub use disk_files::DiskFiles;
 pub use failed::Failed;
 pub use files::Files;
 pub use memory_files::MemoryFiles;
 pub use memory_sink::MemorySink;
 pub use sink::{Sink, put_all};
+pub use stream_sink::StreamSink;
+pub use sure_files::SureFiles;
+pub use sure_sink::SureSink;

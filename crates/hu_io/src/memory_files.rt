@@ -1,9 +1,10 @@
 //! Files in memory, of which chosen calls fail.
 
-ghost use Rattle.std.specs.Prelude.{◌≡◌, ℕ, ◌<◌, Some, List, [], ◌∷◌, ◌++◌, length, is_err, IfOk, IfSome, OnOk, OnErr};
+ghost use Rattle.std.specs.Prelude.{◌≡◌, ℕ, ◌<◌, Some, List, length, is_err, IfOk, IfSome, OnOk, OnErr};
 ghost use Rattle.std.specs.Io.{ReadsAtMost};
 ghost use Rattle.hu_io.specs.Count.{HasCauseAt};
 ghost use Rattle.hu_io.specs.Files.{Adds, GetsTold, content_in};
+ghost use Rattle.hu_io.specs.Plan.{listing};
 ghost use Rattle.hu_io.specs.MemoryFiles.{after_get, all_faults, bytes_given, faults_at, get_fails, no_files};
 
 use crate::contents::{Contents, copy_from};
@@ -17,7 +18,6 @@ use std::marker::Model;
 /// Files in memory. A call of `get` fails where its number was given to `fail_at`, and at a name that wasn't added.
 #[derive(Drop)]
 pub struct MemoryFiles {
-    alloc: Global,
     contents: Contents,
     plan: Plan,
     planned: u64,
@@ -42,7 +42,6 @@ impl MemoryFiles {
         ensures { result ≡ no_files }
     {
         MemoryFiles {
-            alloc,
             contents: Contents::new(alloc),
             plan: Plan::new(alloc),
             planned: 0,
@@ -57,14 +56,13 @@ impl MemoryFiles {
         ensures rest { self.new ≡ record self.old { files = self.new.files } }
         ensures err { OnErr result (self.new ≡ self.old) }
     {
-        self.contents.add(self.alloc, name, bytes)
+        self.contents.add(name, bytes)
     }
 
     /// Has the call of `get` with this number fail, where calls count from 1. No count changes.
     pub fn fail_at(&mut self, call: u64) -> Result<(), NoMemory>
-        ensures ok { OnOk result (self.new.plan.failing ≡ self.old.plan.failing ++ call ∷ []) }
+        ensures ok { OnOk result (self.new ≡ record self.old { plan = listing call self.old.plan }) }
         ensures counts { (name : List ℕ) → faults_at self.new name ≡ faults_at self.old name }
-        ensures rest { self.new ≡ record self.old { plan = record self.old.plan { failing = self.new.plan.failing } } }
         ensures err { OnErr result (self.new ≡ self.old) }
     {
         self.plan.fail_at(call)

@@ -4,6 +4,7 @@ ghost use Rattle.std.specs.Prelude.{◌≡◌, ℕ, ◌-◌, min, Some, List, []
 ghost use Rattle.std.specs.Io.KnownBytes.{WriteAppends};
 ghost use Rattle.hu_io.specs.Count.{HasCause};
 ghost use Rattle.hu_io.specs.Sink.{TakesSome};
+ghost use Rattle.hu_io.specs.Plan.{listing};
 ghost use Rattle.hu_io.specs.MemorySink.{after_put, empty_sink, put_fails, room_left, sink_faults};
 
 use crate::failed::Failed;
@@ -50,9 +51,8 @@ impl MemorySink {
 
     /// Has the call of `put` with this number fail, where calls count from 1. The count doesn't change.
     pub fn fail_at(&mut self, call: u64) -> Result<(), NoMemory>
-        ensures ok { OnOk result (self.new.plan.failing ≡ self.old.plan.failing ++ call ∷ []) }
+        ensures ok { OnOk result (self.new ≡ record self.old { plan = listing call self.old.plan }) }
         ensures count { sink_faults self.new ≡ sink_faults self.old }
-        ensures rest { self.new ≡ record self.old { plan = record self.old.plan { failing = self.new.plan.failing } } }
         ensures err { OnErr result (self.new ≡ self.old) }
     {
         self.plan.fail_at(call)

@@ -1,7 +1,7 @@
 //! The calls that are to fail.
 
-ghost use Rattle.std.specs.Prelude.{◌≡◌, [], ◌∷◌, ◌++◌, OnOk, OnErr};
-ghost use Rattle.hu_io.specs.Plan.{after_call, next_fails};
+ghost use Rattle.std.specs.Prelude.{◌≡◌, OnOk, OnErr};
+ghost use Rattle.hu_io.specs.Plan.{after_call, listing, next_fails, no_plan};
 
 use hu_kind::NoMemory;
 use std::alloc::Global;
@@ -25,7 +25,7 @@ impl Model for Plan {
 impl Plan {
     /// No call is to fail.
     pub fn new(alloc: Global) -> Plan
-        ensures { result ≡ record { failing = []; calls = 0 } }
+        ensures { result ≡ no_plan }
     {
         Plan {
             failing: Vec::new(alloc),
@@ -35,7 +35,7 @@ impl Plan {
 
     /// Lists a call as one that is to fail.
     pub fn fail_at(&mut self, call: u64) -> Result<(), NoMemory>
-        ensures ok { OnOk result (self.new ≡ record self.old { failing = self.old.failing ++ call ∷ [] }) }
+        ensures ok { OnOk result (self.new ≡ listing call self.old) }
         ensures err { OnErr result (self.new ≡ self.old) }
     {
         self.failing.push(call)?;
