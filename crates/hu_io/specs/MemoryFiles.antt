@@ -1,6 +1,6 @@
 -- Files in memory, of which chosen calls fail.
-use Rattle.std.specs.Prelude.{ℕ, ◌+◌, ◌-◌, ◌^◌, ◌||◌, ◌==◌, min, Bool, List, [], length, is_some, is_none, if◌then◌else◌}
-use Rattle.hu_io.specs.Count.{one_more}
+use Rattle.std.specs.Prelude.{◌≡◌, ℕ, ◌+◌, ◌-◌, ◌^◌, ◌||◌, ◌==◌, min, Bool, List, [], length, is_some, is_none, IsSome, if◌then◌else◌}
+use Rattle.hu_io.specs.Count.{one_more, Rose}
 use Rattle.hu_io.specs.Files.{content_in}
 use Rattle.hu_io.specs.Plan.{PlanView, after_call, next_fails, no_plan}
 
@@ -43,3 +43,10 @@ after_get m name =
     if next_fails m.plan then record m { plan = after_call m.plan; planned = one_more m.planned }
     else if is_none (content_in m.files name) then record m { plan = after_call m.plan; missing = one_more m.missing }
     else record m { plan = after_call m.plan }
+
+-- while no call is to fail, the count of a name that is there does not rise
+abbrev pub NamedFilesNeverFail : Type 0
+NamedFilesNeverFail =
+    (before now : FilesView) (name : List ℕ) → before.plan.failing ≡ [] → IsSome (content_in before.files name)
+    → now.plan.failing ≡ before.plan.failing → content_in now.files ≡ content_in before.files
+    → ¬ Rose (faults_at before name) (faults_at now name)

@@ -1,6 +1,6 @@
 -- A sink in memory with a fixed room, of which chosen calls fail.
-use Rattle.std.specs.Prelude.{ℕ, ◌-◌, ◌==◌, ◌||◌, ◌&&◌, Bool, nat_lt, List, [], ◌++◌, length, take, if◌then◌else◌}
-use Rattle.hu_io.specs.Count.{one_more}
+use Rattle.std.specs.Prelude.{◌≡◌, ℕ, ◌+◌, ◌-◌, ◌<◌, ◌≤◌, ◌∷◌, ◌==◌, ◌||◌, ◌&&◌, Bool, nat_lt, List, [], ◌++◌, length, take, if◌then◌else◌}
+use Rattle.hu_io.specs.Count.{one_more, Rose}
 use Rattle.hu_io.specs.Plan.{PlanView, after_call, next_fails, no_plan}
 
 -- what is seen of a `MemorySink`: its bytes, how many bytes fit in all, its plan, and the calls that failed
@@ -31,3 +31,10 @@ abbrev pub after_put : SinkView → List ℕ → SinkView
 after_put s piece =
     if put_fails s piece then record s { plan = after_call s.plan; failed = one_more s.failed }
     else record s { plan = after_call s.plan; bytes = s.bytes ++ take (room_left s) piece }
+
+-- while no call is to fail, the count does not rise where only a front of a text went out that has room whole
+abbrev pub RoomySinksNeverFail : Type 0
+RoomySinksNeverFail =
+    (before now : SinkView) (text : List ℕ) (k : ℕ) → before.plan.failing ≡ [] → length before.bytes + length text ≤ before.room
+    → now.room ∷ now.plan.failing ≡ before.room ∷ before.plan.failing → k < length text → now.bytes ≡ before.bytes ++ take k text
+    → ¬ Rose (sink_faults before) (sink_faults now)

@@ -10,6 +10,7 @@ mod contents;
 mod disk_files;
 mod failed;
 mod files;
+mod laws;
 mod memory_files;
 mod memory_sink;
 mod plan;
@@ -17,10 +18,13 @@ mod sink;
 mod stream_sink;
 mod sure_files;
 mod sure_sink;
+#[cfg(test)]
+mod tests;
 
 pub use disk_files::DiskFiles;
 pub use failed::Failed;
 pub use files::Files;
+pub use laws::{named_files_never_fail, roomy_sinks_never_fail};
 pub use memory_files::MemoryFiles;
 pub use memory_sink::MemorySink;
 pub use sink::{Sink, put_all};

@@ -1,6 +1,7 @@
 //! A stream of the system.
 
-ghost use Rattle.std.specs.Prelude.{◌≡◌, ℕ, [], None};
+ghost use Rattle.std.specs.Prelude.{◌≡◌, ℕ, [], None, take, IfOk};
+ghost use Rattle.std.specs.Io.KnownBytes.{Appends};
 ghost use Rattle.hu_io.specs.Sink.{TakesSome};
 
 use crate::failed::Failed;
@@ -40,7 +41,8 @@ impl<W> StreamSink<W> {
 
 /// Writes the front of `piece` to `to`, and flushes it.
 fn write_on<W: Write>(to: &mut W, piece: &[u8]) -> io::Result<usize>
-    ensures { TakesSome result piece.now }
+    ensures count { TakesSome result piece.now }
+    ensures bytes { IfOk result (λ n. Appends (W.contents to.old) (W.contents to.new) (take n piece.now)) }
 {
     let count = to.write(piece)?;
     if count == 0 && !piece.is_empty() {
