@@ -1,6 +1,6 @@
 //! Files in memory, of which chosen calls fail.
 
-ghost use Rattle.std.specs.Prelude.{◌≡◌, ℕ, ◌<◌, Some, List, length, is_err, IfOk, IfSome, OnOk, OnErr};
+ghost use Rattle.std.specs.Prelude.{◌≡◌, ℕ, ◌<◌, Some, List, length, is_err, IfOk, OnOk, OnErr};
 ghost use Rattle.std.specs.Io.{ReadsAtMost};
 ghost use Rattle.hu_io.specs.Count.{HasCauseAt};
 ghost use Rattle.hu_io.specs.Files.{Adds, GetsTold, content_in};
@@ -99,8 +99,7 @@ impl Files for MemoryFiles {
         ensures plan { self.new.plan.failing ≡ self.old.plan.failing }
         ensures cause { HasCauseAt (faults_at self.old) (faults_at self.new) name.now result }
         ensures fails { is_err result ≡ get_fails self.old name.now }
-        ensures count { IfOk result (λ n. IfSome (content_in self.old.files name.now)
-            (λ content. n ≡ bytes_given self.old content at (length into.new))) }
+        ensures count { IfOk result (λ n. n ≡ bytes_given self.old name.now at (length into.new)) }
         ensures after { self.new ≡ after_get self.old name.now }
     {
         if self.plan.next_fails() {
