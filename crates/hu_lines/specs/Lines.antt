@@ -1,5 +1,5 @@
 -- What a `Lines` is seen as, and what its calls make of it.
-use Rattle.std.specs.Prelude.{◌≡◌, ◌⊎◌, ℕ, ◌+◌, ◌<◌, ◌≤◌, Bool, true, false, Option, None, Some, List, [], ◌++◌, length, if◌then◌else◌}
+use Rattle.std.specs.Prelude.{◌≡◌, ◌⊎◌, ℕ, ◌+◌, ◌<◌, ◌≤◌, Bool, true, false, Option, None, Some, List, [], ◌++◌, length, IsSome, if◌then◌else◌}
 use Rattle.std.specs.Option.{option_or}
 use Rattle.hu_lines.specs.declared.limits.LineFault.{LineFault}
 use Rattle.hu_lines.specs.Pieces.{has_line_feed, first_piece}
@@ -19,9 +19,13 @@ pub record State : Type 0 where
 abbrev pub at_start : State
 at_start = record { bytes = []; whole = false; number = 1; before = 0; ended = false; refused = None }
 
+-- at the start of a line, after the bytes held
+abbrev pub at_line : ℕ → State → State
+at_line number s = record s { bytes = []; whole = false; number = number; before = s.before + length s.bytes }
+
 -- ready for a byte: where the line has ended, the next one has begun
 abbrev pub begun : State → State
-begun s = if s.whole then record s { bytes = []; whole = false; number = s.number + 1; before = s.before + length s.bytes } else s
+begun s = if s.whole then at_line (s.number + 1) s else s
 
 -- with more bytes of the line, up to its line feed where that is among them
 abbrev pub grown : State → List ℕ → State
@@ -33,7 +37,7 @@ at_end s = record s { ended = true }
 
 -- at the start of the next file
 abbrev pub at_next_file : State → State
-at_next_file s = record s { bytes = []; whole = false; number = 1; before = s.before + length s.bytes; ended = false }
+at_next_file s = record (at_line 1 s) { ended = false }
 
 -- the answer to more bytes of a line: the earlier refusal, else the limit that the line passes with them
 abbrev pub refusal_of : State → List ℕ → Option LineFault
@@ -49,3 +53,4 @@ pub record IsHeld (s : State) : Type 0 where
   pub whole : s.whole ≡ has_line_feed s.bytes
   pub within : refusal s.number s.before s.bytes ≡ None
   pub numbered : s.number ≤ s.before + 1
+  pub unfinished : IsSome s.refused → s.whole ≡ false

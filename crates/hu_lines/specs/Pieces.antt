@@ -42,10 +42,15 @@ lines bytes = map line_of (pieces bytes)
 abbrev pub parts : List (List ℕ) → List (List ℕ)
 parts chunks = flat_map pieces chunks
 
+-- bytes as one piece, where there are any
+abbrev pub one_piece : List ℕ → List (List ℕ)
+one_piece [] = []
+one_piece (b ∷ bs) = (b ∷ bs) ∷ []
+
 -- the pieces gathered from parts, after the bytes held of earlier ones: a part with a line feed ends its piece,
 -- any other is held; what is held at the end is the last piece, unless it is empty
 abbrev pub gathered : List ℕ → List (List ℕ) → List (List ℕ)
-gathered held [] = if length held == 0 then [] else held ∷ []
+gathered held [] = one_piece held
 gathered held (part ∷ later) = if has_line_feed part then (held ++ part) ∷ gathered [] later else gathered (held ++ part) later
 
 -- the lines gathered from chunks of bytes in turn

@@ -2,8 +2,9 @@
 
 ghost use Rattle.std.specs.Prelude.{◌≡◌, ℕ, ◌+◌, ◌-◌, ◌<◌, ◌≤◌, ◌↔◌, [], ◌∷◌, ◌++◌, length, take, true, false, IsTrue, None, Some, IfOk, IfErr, OnOk, OnErr};
 ghost use Rattle.std.specs.Result.{result_err};
-ghost use Rattle.hu_lines.specs.Pieces.{has_line_feed, first_piece, line_of, lines};
-ghost use Rattle.hu_lines.specs.Lines.{State, at_start, begun, grown, at_end, at_next_file, refusal_of, HasLine, IsHeld};
+ghost use Rattle.hu_lines.specs.Pieces.{has_line_feed, first_piece, without_last, line_of, lines};
+ghost use Rattle.hu_lines.specs.Limits.{refusal};
+ghost use Rattle.hu_lines.specs.Lines.{State, at_start, at_line, begun, grown, at_end, at_next_file, refusal_of, HasLine, IsHeld};
 
 use crate::limits::{LARGEST_INPUT, LONGEST_LINE, LineFault};
 use hu_kind::NoMemory;
@@ -48,11 +49,19 @@ impl Model for Lines {
 
 impl Lines {
     /// Ready for the first file of a run. It takes the room of one longest line; no later call takes memory.
+    #[tactic(auto, using(crate::proofs::HeldLemmas::held_empty))]
     pub fn new(alloc: Global) -> Result<Lines, NoMemory>
         ensures start { IfOk result (λ lines. lines ≡ at_start) }
         ensures held { IfOk result IsHeld }
     {
-        Err(NoMemory)
+        Ok(Lines {
+            bytes: Vec::with_capacity(alloc, LONGEST_LINE as usize + 1)?,
+            whole: false,
+            number: 1,
+            before: 0,
+            ended: false,
+            refused: None,
+        })
     }
 
     /// Takes bytes of the line up to and with its line feed, or all of the piece where it has none. A line that has
@@ -74,7 +83,79 @@ impl Lines {
         ensures some { IfOk result (λ fed. 0 < length piece.now → 0 < fed.taken) }
         ensures within { IfOk result (λ fed. fed.taken ≤ length piece.now) }
     {
-        unreachable!()
+        self.begin();
+        if let Some(fault) = self.refused {
+            return Err(fault);
+        }
+        let fed = front_of(piece);
+        let taken = &piece[..fed.taken];
+        if let Some(fault) = self.passed_limit(taken, fed.whole) {
+            self.refused = Some(fault);
+            return Err(fault);
+        }
+        self.grow(taken, fed.whole);
+        Ok(fed)
+    }
+
+    /// Begins the next line where the line has ended.
+    #[tactic(auto, using(crate::proofs::HeldLemmas::kept_number))]
+    fn begin(&mut self)
+        ensures begun { self.new ≡ begun self.old }
+        ensures held { IsHeld self.new }
+    {
+        if self.whole {
+            self.start_line(self.number + 1);
+        }
+    }
+
+    /// Begins a line of this number after the bytes held.
+    #[tactic(auto, using(crate::proofs::HeldLemmas::kept_within))]
+    fn start_line(&mut self, number: u64)
+        requires { number ≤ self.old.before + length self.old.bytes + 1 }
+        ensures line { self.new ≡ at_line number self.old }
+        ensures held { IsHeld self.new }
+    {
+        self.before += self.bytes.len() as u64;
+        self.number = number;
+        self.bytes.clear();
+        self.whole = false;
+    }
+
+    /// The limit that the line passes with more bytes, of which the last is a line feed where they are the `whole` rest.
+    #[tactic(auto, using(crate::proofs::HeldLemmas::kept_within, crate::proofs::LimitLemmas::refusal_by_length))]
+    fn passed_limit(&self, taken: &[u8], whole: bool) -> Option<LineFault>
+        requires begun { self.now.whole ≡ false }
+        requires one { first_piece taken.now ≡ taken.now }
+        requires whole { whole ≡ has_line_feed taken.now }
+        ensures { result ≡ refusal self.now.number self.now.before (self.now.bytes ++ taken.now) }
+    {
+        let number = self.number;
+        let length = self.bytes.len() as u64 + taken.len() as u64;
+        let body = length - u64::from(whole);
+        if body > LONGEST_LINE && self.before + LONGEST_LINE <= LARGEST_INPUT {
+            Some(LineFault::LineTooLong { number })
+        } else if self.before + length > LARGEST_INPUT {
+            Some(LineFault::InputTooLarge { number })
+        } else {
+            None
+        }
+    }
+
+    /// Adds bytes to the line, for which there is room where they pass no limit.
+    #[tactic(auto, using(crate::proofs::HeldLemmas::held_grown, crate::proofs::HeldLemmas::held_room))]
+    fn grow(&mut self, taken: &[u8], whole: bool)
+        requires begun { self.old.whole ≡ false }
+        requires accepted { self.old.refused ≡ None }
+        requires one { first_piece taken.now ≡ taken.now }
+        requires whole { whole ≡ has_line_feed taken.now }
+        requires within { refusal self.old.number self.old.before (self.old.bytes ++ taken.now) ≡ None }
+        ensures grown { self.new ≡ grown self.old taken.now }
+        ensures held { IsHeld self.new }
+    {
+        match self.bytes.extend_from_slice(taken) {
+            Ok(()) => self.whole = whole,
+            Err(_) => unreachable!(),
+        }
     }
 
     /// Ends the file. Answers whether bytes stand after its last line feed: they are then the line.
@@ -84,17 +165,19 @@ impl Lines {
         ensures ended { self.new ≡ at_end self.old }
         ensures held { IsHeld self.new }
     {
-        unreachable!()
+        self.ended = true;
+        !self.whole && !self.bytes.is_empty()
     }
 
     /// The line, without its line feed and without one carriage return at its end.
+    #[tactic(auto, using(crate::proofs::HeldLemmas::held_line, crate::proofs::HeldLemmas::held_short))]
     pub fn line(&self) -> &[u8]
         requires { HasLine self.now }
         ensures value { result.now ≡ line_of self.now.bytes }
         ensures only { lines self.now.bytes ≡ result.now ∷ [] }
         ensures short { length result.now ≤ LONGEST_LINE }
     {
-        unreachable!()
+        without_last(without_last(&self.bytes, b'\n'), b'\r')
     }
 
     /// The number of the line in its file, from 1. It is at most one more than the bytes of the run before the line.
@@ -111,6 +194,38 @@ impl Lines {
         ensures next { self.new ≡ at_next_file self.old }
         ensures held { IsHeld self.new }
     {
-        unreachable!()
+        self.start_line(1);
+        self.ended = false;
+    }
+}
+
+/// What a feed takes of a piece: the bytes up to and with its first line feed, all of them where it has none.
+#[tactic(auto, using(crate::proofs::PieceLemmas::first_piece_found))]
+fn front_of(piece: &[u8]) -> Fed
+    ensures taken { result.taken ≡ length (first_piece piece.now) }
+    ensures front { take result.taken piece.now ≡ first_piece piece.now }
+    ensures whole { result.whole ≡ has_line_feed (first_piece piece.now) }
+    ensures some { 0 < length piece.now → 0 < result.taken }
+    ensures within { result.taken ≤ length piece.now }
+{
+    match memchr(b'\n', piece) {
+        Some(place) => Fed {
+            taken: place + 1,
+            whole: true,
+        },
+        None => Fed {
+            taken: piece.len(),
+            whole: false,
+        },
+    }
+}
+
+/// The bytes without one such byte at their end.
+fn without_last(bytes: &[u8], byte: u8) -> &[u8]
+    ensures { result.now ≡ without_last byte bytes.now }
+{
+    match bytes {
+        [front @ .., last] if *last == byte => front,
+        _ => bytes,
     }
 }
