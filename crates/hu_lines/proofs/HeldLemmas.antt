@@ -4,7 +4,7 @@ use Rattle.std.specs.Prelude.{IsSome, map, ◌⊎◌}
 use Rattle.std.specs.Option.{is_some}
 use Rattle.std.proofs.lemmas.Bool.{false≢true}
 use Rattle.hu_lines.specs.declared.limits.TheConstants.{LONGEST_LINE, LARGEST_INPUT}
-use Rattle.hu_lines.specs.Pieces.{has_line_feed, first_piece, body, line_of, lines, pieces}
+use Rattle.hu_lines.specs.Pieces.{has_line_feed, first_piece, body_of, line_of, lines, pieces}
 use Rattle.hu_lines.specs.Limits.{refusal}
 use Rattle.hu_lines.specs.declared.lines.Lines.TheInside.{Inside}
 use Rattle.hu_lines.specs.Held.{state_of, IsKept}
@@ -27,7 +27,7 @@ kept_number a kept = omega (arith, kept_within a kept, kept.held.numbered)
 -- a piece that passes no limit has at most as many bytes as a longest line with its line feed
 pub held_room : (number before : ℕ) (held taken : List ℕ) → refusal number before (held ++ taken) ≡ None → length held + length taken ≤ LONGEST_LINE + 1
 held_room number before held taken none =
-    let within : length (body (held ++ taken)) ≤ LONGEST_LINE = (refusal-none number before (held ++ taken) none).1 in
+    let within : length (body_of (held ++ taken)) ≤ LONGEST_LINE = (refusal-none number before (held ++ taken) none).1 in
     omega (arith, length-body-le (held ++ taken), length-append held taken)
 
 -- bytes with a line feed are some
@@ -68,5 +68,5 @@ held_line s held has =
 -- it isn't too long
 pub held_short : (s : State) → IsHeld s → length (line_of s.bytes) ≤ LONGEST_LINE
 held_short s held =
-    let within : length (body s.bytes) ≤ LONGEST_LINE = (refusal-none s.number s.before s.bytes held.within).1 in
-    omega (arith, length-without_last-le 13 (body s.bytes))
+    let within : length (body_of s.bytes) ≤ LONGEST_LINE = (refusal-none s.number s.before s.bytes held.within).1 in
+    omega (arith, length-without_last-le 13 (body_of s.bytes))

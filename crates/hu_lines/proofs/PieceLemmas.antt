@@ -5,10 +5,10 @@ use Rattle.std.specs.List.{list_any, flat_map, concat}
 use Rattle.std.proofs.lemmas.Bool.{false≢true, false_from_ne_true}
 use Rattle.std.proofs.Math.Seq.{drop-append_seam}
 use Rattle.std.proofs.Math.Seq.{drop-length}
-use Rattle.std.proofs.lemmas.List.{append-nil}
+use Rattle.std.proofs.lemmas.List.{append-nil, length-take-le}
 use Rattle.std.proofs.lemmas.List.Folds.{list_any-append}
 use Rattle.memchr.specs.Find.{IsFirstByte, NoneBefore, Passes, is_byte}
-use Rattle.hu_lines.specs.Pieces.{has_line_feed, first_piece, in_front, pieces, without_last, body, line_of, lines, parts, gathered, gathered_lines}
+use Rattle.hu_lines.specs.Pieces.{has_line_feed, first_piece, in_front, pieces, without_last, body_of, line_of, lines, parts, gathered, gathered_lines}
 use Rattle.hu_lines.specs.Laws.{WholePieceComesFirst, RestIsOnePiece, FirstPieceComesFirst, LinesIgnoreCuts}
 
 -- the first piece has a line feed where the bytes have one
@@ -18,11 +18,11 @@ has_line_feed-first_piece (b ∷ bs) =
     elim (eqb b 10) as (λ t. (t || has_line_feed (cond t [] (first_piece bs))) ≡ (t || has_line_feed bs)) [ true ↦ refl | false ↦ has_line_feed-first_piece bs ]
 
 -- cutting off the first piece again changes nothing
-pub first_piece-first_piece : (bytes : List ℕ) → first_piece (first_piece bytes) ≡ first_piece bytes
-first_piece-first_piece [] = refl
-first_piece-first_piece (b ∷ bs) =
+pub first_piece_twice : (bytes : List ℕ) → first_piece (first_piece bytes) ≡ first_piece bytes
+first_piece_twice [] = refl
+first_piece_twice (b ∷ bs) =
     ap (λ r. b ∷ r)
-    (elim (eqb b 10) as (λ t. cond t [] (first_piece (cond t [] (first_piece bs))) ≡ cond t [] (first_piece bs)) [ true ↦ refl | false ↦ first_piece-first_piece bs ])
+    (elim (eqb b 10) as (λ t. cond t [] (first_piece (cond t [] (first_piece bs))) ≡ cond t [] (first_piece bs)) [ true ↦ refl | false ↦ first_piece_twice bs ])
 
 -- bytes before the first line feed belong to the first piece
 pub first_piece-append : (held bytes : List ℕ) → has_line_feed held ≡ false → first_piece (held ++ bytes) ≡ held ++ first_piece bytes
@@ -139,3 +139,13 @@ first_piece_found (b ∷ bs) (Some (suc k)) found =
     let later : NoneBefore (Passes (is_byte 10) bs) 0 (length bs) k = record { low = omega arith; high = omega (arith, found.0.high); before = λ j low high ends. found.0.before (suc j) (omega arith) (omega arith) ends } in
     let rest = first_piece_found bs (Some k) (later, found.1) in
     (rw (other, add-one) (ap (λ r. b ∷ r) (rw add-one at rest.0)), rw other rest.1)
+
+-- what a feed takes, by what the search for a line feed finds
+pub front_found : (bytes : List ℕ) (place : Option ℕ) → IsFirstByte (is_byte 10) bytes place → MatchOption place
+    ((first_piece bytes ≡ bytes) × (has_line_feed (first_piece bytes) ≡ false))
+    (λ k. (take (k + 1) bytes ≡ first_piece bytes) × (k + 1 ≡ length (first_piece bytes)) × (has_line_feed (first_piece bytes) ≡ true))
+front_found bytes None found = let open_ = first_piece_found bytes None found in (first_piece_open bytes open_, has_line_feed-first_piece bytes ∙ open_)
+front_found bytes (Some k) found =
+    let ended = first_piece_found bytes (Some k) found in
+    let within : k + 1 ≤ length bytes = omega (arith, found.0.high) in
+    (ended.0, sym (length-take-le (k + 1) bytes within) ∙ ap length ended.0, has_line_feed-first_piece bytes ∙ ended.1)

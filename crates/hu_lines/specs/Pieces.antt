@@ -27,12 +27,12 @@ abbrev pub without_last : ℕ → List ℕ → List ℕ
 without_last b bytes = if slice_index bytes (length bytes - 1) == b then take (length bytes - 1) bytes else bytes
 
 -- a piece without its line feed
-abbrev pub body : List ℕ → List ℕ
-body piece = without_last 10 piece
+abbrev pub body_of : List ℕ → List ℕ
+body_of piece = without_last 10 piece
 
 -- the line of a piece: its body, without one carriage return at its end
 abbrev pub line_of : List ℕ → List ℕ
-line_of piece = without_last 13 (body piece)
+line_of piece = without_last 13 (body_of piece)
 
 -- the lines of bytes
 abbrev pub lines : List ℕ → List (List ℕ)

@@ -1,9 +1,9 @@
 //! Lines gathered from the pieces of a file.
 
-ghost use Rattle.std.specs.Prelude.{◌≡◌, ℕ, ◌+◌, ◌-◌, ◌<◌, ◌≤◌, ◌↔◌, [], ◌∷◌, ◌++◌, length, take, true, false, IsTrue, None, Some, IfOk, IfErr, OnOk, OnErr};
+ghost use Rattle.std.specs.Prelude.{◌≡◌, ℕ, ◌+◌, ◌-◌, ◌^◌, ◌<◌, ◌≤◌, ◌↔◌, [], ◌∷◌, ◌++◌, length, take, true, false, IsTrue, None, Some, IfOk, IfErr, OnOk, OnErr};
 ghost use Rattle.std.specs.Result.{result_err};
 ghost use Rattle.hu_lines.specs.Pieces.{has_line_feed, first_piece, without_last, line_of, lines};
-ghost use Rattle.hu_lines.specs.Limits.{refusal};
+ghost use Rattle.hu_lines.specs.Limits.{limit_passed, refusal};
 ghost use Rattle.hu_lines.specs.Lines.{State, at_start, at_line, begun, grown, at_end, at_next_file, refusal_of, HasLine, IsHeld};
 
 use crate::limits::{LARGEST_INPUT, LONGEST_LINE, LineFault};
@@ -67,6 +67,7 @@ impl Lines {
     /// Takes bytes of the line up to and with its line feed, or all of the piece where it has none. A line that has
     /// ended is left before, also by an empty piece. The first byte that passes a limit is refused, and after that
     /// every byte. One pass over what is taken, which is copied once.
+    #[tactic(auto, using(crate::proofs::PieceLemmas::first_piece_twice))]
     pub fn feed(&mut self, piece: &[u8]) -> Result<Fed, LineFault>
         requires { self.old.ended ≡ false }
 
@@ -129,16 +130,8 @@ impl Lines {
         requires whole { whole ≡ has_line_feed taken.now }
         ensures { result ≡ refusal self.now.number self.now.before (self.now.bytes ++ taken.now) }
     {
-        let number = self.number;
         let length = self.bytes.len() as u64 + taken.len() as u64;
-        let body = length - u64::from(whole);
-        if body > LONGEST_LINE && self.before + LONGEST_LINE <= LARGEST_INPUT {
-            Some(LineFault::LineTooLong { number })
-        } else if self.before + length > LARGEST_INPUT {
-            Some(LineFault::InputTooLarge { number })
-        } else {
-            None
-        }
+        limit_passed(self.number, self.before, length - u64::from(whole), length)
     }
 
     /// Adds bytes to the line, for which there is room where they pass no limit.
@@ -199,8 +192,24 @@ impl Lines {
     }
 }
 
+/// The limit that a line passes, by the number of its bytes without and with its line feed.
+#[tactic(auto, using(std::proofs::lemmas::Bool::Decides::nat_tests))]
+fn limit_passed(number: u64, before: u64, body: u64, all: u64) -> Option<LineFault>
+    requires within { before ≤ LARGEST_INPUT }
+    requires fits { before + all < 2 ^ 64 }
+    ensures { result ≡ limit_passed LONGEST_LINE LARGEST_INPUT number before body all }
+{
+    if body > LONGEST_LINE && before + LONGEST_LINE <= LARGEST_INPUT {
+        Some(LineFault::LineTooLong { number })
+    } else if before + all > LARGEST_INPUT {
+        Some(LineFault::InputTooLarge { number })
+    } else {
+        None
+    }
+}
+
 /// What a feed takes of a piece: the bytes up to and with its first line feed, all of them where it has none.
-#[tactic(auto, using(crate::proofs::PieceLemmas::first_piece_found))]
+#[tactic(auto, using(crate::proofs::PieceLemmas::front_found))]
 fn front_of(piece: &[u8]) -> Fed
     ensures taken { result.taken ≡ length (first_piece piece.now) }
     ensures front { take result.taken piece.now ≡ first_piece piece.now }
