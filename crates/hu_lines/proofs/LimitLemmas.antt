@@ -9,8 +9,8 @@ use Rattle.hu_lines.specs.declared.limits.LineFault.TheVariants.{LineTooLong, In
 use Rattle.hu_lines.specs.declared.limits.TheConstants.{LONGEST_LINE, LARGEST_INPUT}
 use Rattle.hu_lines.specs.Pieces.{has_line_feed, first_piece, body_of, without_last}
 use Rattle.hu_lines.specs.Limits.{refusal, limit_passed}
-use Rattle.hu_lines.specs.Laws.{RefusalStands}
-use Rattle.hu_lines.proofs.PieceLemmas.{has_line_feed-append, first_piece-append, first_piece_open}
+use Rattle.hu_lines.specs.Laws.{RefusalStands, FirstRefusalStands}
+use Rattle.hu_lines.proofs.PieceLemmas.{has_line_feed-append, first_piece-append, first_piece-append_after, first_piece_open}
 
 -- what passes no limit is within both
 passed-none : (longest largest number before inner whole : ℕ) → inner ≤ whole → limit_passed longest largest number before inner whole ≡ None → (before + whole ≤ largest) × (inner ≤ longest)
@@ -82,6 +82,16 @@ refusal_more number before begun (x ∷ xs) fault open_ is =
     let P = λ (inner : ℕ). limit_passed LONGEST_LINE LARGEST_INPUT number before inner (length begun) ≡ Some fault in
     let plain : P (length begun) = subst P (length-body_open begun open_) is in
     passed-more LONGEST_LINE LARGEST_INPUT number before (length begun) (length bytes) (length (body_of bytes)) fault within (omega arith) plain
+
+-- so it is of the first piece of bytes, whatever bytes come after them
+pub refusal_first : FirstRefusalStands
+refusal_first number before bytes more fault is = first_by (has_line_feed bytes) refl
+  where
+    first_by : (t : Bool) → has_line_feed bytes ≡ t → refusal number before (first_piece (bytes ++ more)) ≡ Some fault
+    first_by true ended = rw (first_piece-append_after bytes more ended) is
+    first_by false open_ =
+        let P = λ (piece : List ℕ). refusal number before piece ≡ Some fault in
+        rw (first_piece-append bytes more open_) (refusal_more number before bytes (first_piece more) fault open_ (subst P (first_piece_open bytes open_) is))
 
 -- the limit that a piece passes, as a test of its length tells it
 pub refusal_by_length : (number before body all : ℕ) (held taken : List ℕ) → has_line_feed held ≡ false → first_piece taken ≡ taken

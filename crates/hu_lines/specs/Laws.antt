@@ -22,6 +22,11 @@ abbrev pub RefusalStands : Type 0
 RefusalStands = (number before : ℕ) (begun more : List ℕ) (fault : LineFault) → has_line_feed begun ≡ false
     → refusal number before begun ≡ Some fault → refusal number before (begun ++ more) ≡ Some fault
 
+-- so it is of the first piece of bytes, whatever bytes come after them
+abbrev pub FirstRefusalStands : Type 0
+FirstRefusalStands = (number before : ℕ) (bytes more : List ℕ) (fault : LineFault)
+    → refusal number before (first_piece bytes) ≡ Some fault → refusal number before (first_piece (bytes ++ more)) ≡ Some fault
+
 -- however bytes are cut into chunks, the lines gathered from the chunks are the lines of the bytes
 abbrev pub LinesIgnoreCuts : Type 0
 LinesIgnoreCuts = (chunks : List (List ℕ)) → gathered_lines chunks ≡ lines (concat chunks)

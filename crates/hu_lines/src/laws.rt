@@ -1,6 +1,6 @@
 //! What holds of lines and refusals, whatever the bytes. These calls do nothing: their contracts are the laws.
 
-ghost use Rattle.hu_lines.specs.Laws.{WholePieceComesFirst, RestIsOnePiece, FirstPieceComesFirst, RefusalStands, LinesIgnoreCuts};
+ghost use Rattle.hu_lines.specs.Laws.{WholePieceComesFirst, RestIsOnePiece, FirstPieceComesFirst, RefusalStands, FirstRefusalStands, LinesIgnoreCuts};
 
 /// Bytes that end with their only line feed are the first piece, and the pieces of what follows come after it.
 #[tactic(auto, using(crate::proofs::PieceLemmas::whole_piece_first))]
@@ -27,6 +27,13 @@ pub fn first_piece_comes_first()
 #[tactic(auto, using(crate::proofs::LimitLemmas::refusal_more))]
 pub fn refusal_stands()
     ensures { RefusalStands }
+{
+}
+
+/// What is refused of the first piece of bytes stays refused, whatever bytes come after them.
+#[tactic(auto, using(crate::proofs::LimitLemmas::refusal_first))]
+pub fn first_refusal_stands()
+    ensures { FirstRefusalStands }
 {
 }
 

@@ -1,6 +1,6 @@
 //! Lines gathered from the pieces of a file.
 
-ghost use Rattle.std.specs.Prelude.{◌≡◌, ℕ, ◌+◌, ◌-◌, ◌^◌, ◌<◌, ◌≤◌, ◌↔◌, [], ◌∷◌, ◌++◌, length, take, true, false, IsTrue, None, Some, IfOk, IfErr, OnOk, OnErr};
+ghost use Rattle.std.specs.Prelude.{◌≡◌, ℕ, ◌+◌, ◌-◌, ◌^◌, ◌<◌, ◌≤◌, ◌↔◌, [], ◌∷◌, ◌++◌, length, take, true, false, IsTrue, None, Some, IfSome, IfOk, IfErr, OnOk, OnErr};
 ghost use Rattle.std.specs.Result.{result_err};
 ghost use Rattle.hu_lines.specs.Pieces.{has_line_feed, first_piece, without_last, line_of, lines};
 ghost use Rattle.hu_lines.specs.Limits.{limit_passed, refusal};
@@ -75,6 +75,11 @@ impl Lines {
         ensures refusal { result_err result ≡ refusal_of (begun self.old) (first_piece piece.now) }
         ensures ok { OnOk result (self.new ≡ grown (begun self.old) (first_piece piece.now)) }
         ensures err { IfErr result (λ fault. self.new ≡ record (begun self.old) { refused = Some fault }) }
+        ensures stays { IfSome self.old.refused (λ fault. (result ≡ Err fault) × (self.new ≡ self.old)) }
+
+        // The file goes on, and so may the line.
+        ensures open { self.new.ended ≡ false }
+        ensures accepted { OnOk result (self.new.refused ≡ None) }
         ensures held { IsHeld self.new }
 
         // What is taken: a front of the piece, of at least one byte where it has any.
@@ -102,6 +107,7 @@ impl Lines {
     #[tactic(auto, using(crate::proofs::HeldLemmas::kept_number))]
     fn begin(&mut self)
         ensures begun { self.new ≡ begun self.old }
+        ensures stays { IfSome self.old.refused (λ _. self.new ≡ self.old) }
         ensures held { IsHeld self.new }
     {
         if self.whole {
