@@ -103,7 +103,7 @@ floor_by-start (Some k) start xs =
     ]
 
 -- with as many entries as the limit the floor is the greater of the start and the last utility
-floor_by-full : (k : ℕ) (start : ℤ) (xs : List Entry) → k ≤ length xs → floor_by (Some k) start xs ≡ int_max start (last_utility start xs)
+pub floor_by-full : (k : ℕ) (start : ℤ) (xs : List Entry) → k ≤ length xs → floor_by (Some k) start xs ≡ int_max start (last_utility start xs)
 floor_by-full k start xs h = rw (le-ltb (length xs) k h) refl
 
 -- with fewer it is the start

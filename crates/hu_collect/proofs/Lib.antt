@@ -3,3 +3,4 @@ pub mod Cutting
 pub mod Entries
 pub mod Floor
 pub mod Made
+mod Bodies

@@ -94,7 +94,7 @@ and-right false b h = cc
 pub start-passes : (rule : Rule) (entry : Entry) → passes rule entry ≡ true → rule.start ≤ℤ entry.utility
 start-passes rule entry h = record { le = T_from_true _ (and-right (rule.wants entry.key) (int_le rule.start entry.utility) h) }
 
-by_passing : {P : Type 0} (rule : Rule) (entry : Entry) → (passes rule entry ≡ true → P) → (passes rule entry ≡ false → P) → P
+pub by_passing : {P : Type 0} (rule : Rule) (entry : Entry) → (passes rule entry ≡ true → P) → (passes rule entry ≡ false → P) → P
 by_passing {P} rule entry f g = elim (passes rule entry) as (λ b. passes rule entry ≡ b → P) [ true ↦ f | false ↦ g ] refl
 
 -- an entry below the floor leaves the content
