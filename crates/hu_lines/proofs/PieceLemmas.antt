@@ -100,11 +100,11 @@ gathered-pieces later rest so held (b ∷ bs) open_ =
     let onward : (held ++ b ∷ []) ++ (bs ++ rest) ≡ held ++ (b ∷ (bs ++ rest)) = append_assoc held (b ∷ []) (bs ++ rest) in
     let marks : has_line_feed (held ++ b ∷ []) ≡ eqb b 10 = has_line_feed-after held b open_ in
     elim (eqb b 10) as
-    (λ t. eqb b 10 ≡ t → gathered held (cond t ((b ∷ []) ∷ pieces bs) (in_front b (pieces bs)) ++ later) ≡ pieces (held ++ (b ∷ (bs ++ rest))))
-    [ true ↦ (λ ends. rw ends
-      (ap (λ r. (held ++ b ∷ []) ∷ r) (gathered-pieces later rest so [] bs refl)
-        ∙ (sym (whole_piece_first (held ++ b ∷ []) (bs ++ rest) (first_piece-append held (b ∷ []) open_ ∙ ap (λ r. held ++ r) (first_piece_single b)) (marks ∙ ends)) ∙ ap pieces onward)))
-    | false ↦ (λ other. gathered-in_front held b (pieces bs) later other ∙ (gathered-pieces later rest so (held ++ b ∷ []) bs (marks ∙ other) ∙ ap pieces onward))
+    (λ t. eqb b 10 ≡ t → gathered held (cond t ((b ∷ []) ∷ pieces bs) (in_front b (pieces bs)) ++ later) ≡ pieces (held ++ (b ∷ (bs ++ rest)))) [
+      | true ↦ (λ ends. rw ends
+          (ap (λ r. (held ++ b ∷ []) ∷ r) (gathered-pieces later rest so [] bs refl)
+          ∙ (sym (whole_piece_first (held ++ b ∷ []) (bs ++ rest) (first_piece-append held (b ∷ []) open_ ∙ ap (λ r. held ++ r) (first_piece_single b)) (marks ∙ ends)) ∙ ap pieces onward)))
+      | false ↦ (λ other. gathered-in_front held b (pieces bs) later other ∙ (gathered-pieces later rest so (held ++ b ∷ []) bs (marks ∙ other) ∙ ap pieces onward))
     ]
     refl
 
