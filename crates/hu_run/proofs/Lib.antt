@@ -1,0 +1,4 @@
+mod InputLemmas
+mod IntakeLemmas
+mod FrontLemmas
+mod FileLemmas

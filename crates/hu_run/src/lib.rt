@@ -1,0 +1,9 @@
+//! The top call.
+#![tactic(auto)]
+
+mod intake;
+mod reason;
+mod words;
+
+pub use reason::Reason;
+pub use words::{Engine, Job, WordFault, read_words};
