@@ -26,7 +26,7 @@ fn read_named(files: &mut MemoryFiles, name: &str, into: &mut [u8]) -> usize
     read(files, name, 0, into).unwrap()
 }
 
-// What a caller of generic code can show: a read of any file succeeds.
+// The same for a file of any name.
 fn read_sure(files: &mut SureFiles, name: &str, into: &mut [u8]) -> usize {
     read(files, name, 0, into).unwrap()
 }
@@ -39,7 +39,7 @@ fn put_fitting(sink: &mut MemorySink, text: &[u8])
     put_all(sink, text).unwrap()
 }
 
-// What a caller of generic code can show: any text goes out.
+// The same for any text.
 fn put_sure(sink: &mut SureSink, text: &[u8]) {
     put_all(sink, text).unwrap()
 }
@@ -102,16 +102,33 @@ fn small_files(rt: HostRuntime) -> Result<(), Fail> {
 }
 
 #[test]
-fn sure_ones(rt: HostRuntime) -> Result<(), Fail> {
+fn sure_reads(rt: HostRuntime) -> Result<(), Fail> {
+    let mut files = MemoryFiles::new(rt.alloc());
+    files.add("f", b"abc")?;
+    assert_eq!(rt; read_named(&mut files, "f", &mut [0; 4]), 3);
+    let mut files = SureFiles::new(rt.alloc());
+    assert_eq!(rt; read_sure(&mut files, "g", &mut [0; 4]), 0);
+    Ok(())
+}
+
+#[test]
+fn sure_writes(rt: HostRuntime) -> Result<(), Fail> {
+    let mut sink = MemorySink::new(rt.alloc(), 4)?;
+    put_fitting(&mut sink, b"abcd");
+    assert_eq!(rt; sink.bytes(), b"abcd".as_slice());
+    let mut sink = SureSink::new();
+    put_sure(&mut sink, b"abcd");
+    assert_eq!(rt; sink.count(), 4);
+    Ok(())
+}
+
+#[test]
+fn sure_files(rt: HostRuntime) -> Result<(), Fail> {
     let mut files = SureFiles::new(rt.alloc());
     files.add("f", b"abc")?;
     expect_read(&rt, &mut files, "f", 1, Some(b"bc"));
     expect_read(&rt, &mut files, "f", 3, Some(b""));
     expect_read(&rt, &mut files, "g", 0, Some(b""));
-
-    let mut sink = SureSink::new();
-    put_sure(&mut sink, b"abcd");
-    assert_eq!(rt; sink.count(), 4);
     Ok(())
 }
 
