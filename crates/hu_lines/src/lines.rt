@@ -78,7 +78,7 @@ impl Lines {
         ensures stays { IfSome self.old.refused (λ fault. (result ≡ Err fault) × (self.new ≡ self.old)) }
 
         // The file goes on, and so may the line.
-        ensures open { self.new.ended ≡ false }
+        ensures going { self.new.ended ≡ false }
         ensures accepted { OnOk result (self.new.refused ≡ None) }
         ensures held { IsHeld self.new }
 
