@@ -88,5 +88,5 @@ fed_first old now piece rest is held =
     let bytes : now.bytes ≡ (begun old).bytes ++ front = ap (λ s. s.bytes) is in
     let split : piece ++ rest ≡ front ++ (left ++ rest) = sym (ap (λ r. r ++ rest) (first_piece_split piece)) ∙ append_assoc front left rest in
     let all : (begun old).bytes ++ (piece ++ rest) ≡ now.bytes ++ (left ++ rest) =
-        ap (λ r. (begun old).bytes ++ r) split ∙ (sym (append_assoc (begun old).bytes front (left ++ rest)) ∙ ap (λ r. r ++ (left ++ rest)) (sym bytes)) in
+    ap (λ r. (begun old).bytes ++ r) split ∙ (sym (append_assoc (begun old).bytes front (left ++ rest)) ∙ ap (λ r. r ++ (left ++ rest)) (sym bytes)) in
     ap pieces all ∙ held_first now (left ++ rest) held

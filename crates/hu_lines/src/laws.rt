@@ -36,16 +36,14 @@ pub fn first_refusal_stands()
 #[tactic(auto, using(crate::proofs::HeldLemmas::held_first))]
 pub fn held_comes_first()
     ensures { HeldComesFirst }
-{
-}
+{}
 
 /// Feeding loses no byte: what was held, the piece that is fed and the bytes after it have the pieces of what is then
 /// held, what wasn't taken and the bytes after it, after the piece that ended, where one did.
 #[tactic(auto, using(crate::proofs::HeldLemmas::fed_first))]
 pub fn fed_comes_first()
     ensures { FedComesFirst }
-{
-}
+{}
 
 /// The lines of bytes don't depend on how the bytes are cut into chunks.
 #[tactic(auto, using(crate::proofs::PieceLemmas::gathered_as_cut))]

@@ -13,8 +13,10 @@ mod skipped;
 #[cfg(test)]
 mod tests;
 
-pub use laws::{fed_comes_first, first_piece_comes_first, first_refusal_stands, held_comes_first, lines_ignore_cuts};
-pub use laws::{refusal_stands, rest_is_one_piece, whole_piece_comes_first};
+pub use laws::{
+    fed_comes_first, first_piece_comes_first, first_refusal_stands, held_comes_first,
+    lines_ignore_cuts, refusal_stands, rest_is_one_piece, whole_piece_comes_first,
+};
 pub use limits::{LARGEST_INPUT, LONGEST_LINE, LineFault};
 pub use lines::{Fed, Lines};
 pub use skipped::is_skipped;

@@ -25,7 +25,7 @@ pub struct Fed {
 ///
 /// Feed it a file's bytes in turn, each time what it didn't take before, and read the line where it is whole; at the
 /// file's end call `end`, which tells of a last line without a line feed, and then `next_file`.
-#[derive(Drop)]
+#[derive(Debug, Drop)]
 pub struct Lines {
     bytes: Vec<u8>,
     whole: bool,
