@@ -1,6 +1,6 @@
 -- A database is a list of records. What a set of items earns in it and how many records hold it:
 -- HUI-Miner (Liu and Qu, 2012); the transaction-weighted utility: Two-Phase (Liu, Liao and Choudhary, 2005).
-use Rattle.std.specs.Prelude.{ℕ, ℤ, pos, ◌+ℤ◌, Bool, List, [], ◌∷◌, if◌then◌else◌}
+use Rattle.std.specs.Prelude.{ℕ, ℤ, pos, ◌+ℤ◌, List, [], ◌∷◌, if◌then◌else◌}
 use Rattle.std.specs.List.{count_by, flat_map}
 use Rattle.std.specs.Ordering.{nat_cmp}
 use Rattle.hu_kind.specs.Record.{items_in, holds, utility_in, gain}

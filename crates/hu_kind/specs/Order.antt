@@ -1,6 +1,6 @@
 -- The one order of entries: greater utility first, then the smaller key, then the smaller support.
 -- Keys are compared place by place, a proper prefix first.
-use Rattle.std.specs.Prelude.{◌≡◌, ℕ, ℤ, Option, None, Some, List, [], ◌∷◌, take}
+use Rattle.std.specs.Prelude.{◌≡◌, ℕ, Option, None, Some, List, [], ◌∷◌, take}
 use Rattle.std.specs.declared.cmp.Ordering.{Ordering}
 use Rattle.std.specs.declared.cmp.Ordering.TheVariants.{Less}
 use Rattle.std.specs.Ordering.{nat_cmp, int_cmp, on, then_cmp, flip_args}

@@ -1,6 +1,6 @@
 -- A record as a list of pairs (item, value) with the items ascending, and what a set of items earns in it.
 -- After HUI-Miner (Liu and Qu, 2012).
-use Rattle.std.specs.Prelude.{◌≡◌, ℕ, ◌+◌, ◌-◌, ◌^◌, ◌<◌, ◌≤◌, ◌==◌, ℤ, pos, negsuc, ◌+ℤ◌, unsigned_abs, Bool, List, [], ◌∷◌, map, length, if◌then◌else◌}
+use Rattle.std.specs.Prelude.{ℕ, ◌^◌, ◌<◌, ◌≤◌, ◌==◌, ℤ, pos, negsuc, ◌+ℤ◌, unsigned_abs, int_lt, Bool, List, [], ◌∷◌, map, length, if◌then◌else◌}
 use Rattle.std.specs.List.{All, AllAdjacentBelow, list_all, list_any, sum_by}
 
 -- the items of a record
@@ -48,10 +48,18 @@ total (cell ∷ cells) = cell.1 +ℤ total cells
 abbrev pub absolute_of : List (ℕ × ℤ) → ℕ
 absolute_of cells = sum_by (λ cell. unsigned_abs cell.1) cells
 
--- the rules of a record and of an itemset of a sequence
-pub record IsRecord (cells : List (ℕ × ℤ)) : Type 0 where
+-- whether some value is below 0
+abbrev pub any_negative : List (ℕ × ℤ) → Bool
+any_negative cells = list_any (λ cell. int_lt cell.1 (pos 0)) cells
+
+-- the rules of a set of cells: there is one, the items ascend strictly, and each is in its range
+pub record IsItemset (cells : List (ℕ × ℤ)) : Type 0 where
   pub some : 0 < length cells
-  pub few : length cells ≤ 4096
   pub ascending : AllAdjacentBelow (λ a b. a.0 < b.0) cells (length cells)
   pub in_range : All (λ cell. cell.0 ≤ 2147483647) cells
+
+-- the rules of a record: an itemset of at most 4,096 cells whose absolute values sum to at most 2 ^ 127 - 1
+pub record IsRecord (cells : List (ℕ × ℤ)) : Type 0 where
+  pub itemset : IsItemset cells
+  pub few : length cells ≤ 4096
   pub sum_fits : absolute_of cells < 2 ^ 127

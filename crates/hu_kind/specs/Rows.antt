@@ -1,5 +1,5 @@
 -- Worked rows: small databases with their answers, by computation.
-use Rattle.std.specs.Prelude.{◌≡◌, ℕ, ℤ, pos, negsuc, Option, None, Some, List, [], ◌∷◌, map, refl}
+use Rattle.std.specs.Prelude.{◌≡◌, ℕ, ℤ, pos, negsuc, None, Some, List, [], ◌∷◌, map, refl}
 use Rattle.hu_kind.specs.declared.entry.Entry.{Entry}
 use Rattle.hu_kind.specs.Order.{entry_cmp}
 use Rattle.hu_kind.specs.Sequence.{best_utility, sequence_key}

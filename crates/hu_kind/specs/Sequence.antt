@@ -1,11 +1,11 @@
 -- A sequence record is a list of elements, each a list of pairs (item, value) with the items ascending; a sequence
 -- is a list of itemsets. Its utility in a record is the greatest over all its occurrences. After USpan (Yin, Zheng and Cao, 2012).
-use Rattle.std.specs.Prelude.{◌≡◌, ℕ, ◌+◌, ◌^◌, ◌<◌, ◌≤◌, ℤ, pos, negsuc, ◌+ℤ◌, ◌≤ℤ◌, Option, None, Some, is_some, nat_lt, List, [], ◌∷◌, ◌++◌, map, length, if◌then◌else◌}
+use Rattle.std.specs.Prelude.{◌≡◌, ℕ, ◌^◌, ◌<◌, ◌≤◌, ℤ, pos, negsuc, ◌+ℤ◌, false, Option, None, Some, is_some, nat_lt, List, [], ◌∷◌, ◌++◌, map, length, if◌then◌else◌}
 use Rattle.std.specs.Int.{int_max}
 use Rattle.std.specs.Option.{option_map, unwrap_or}
-use Rattle.std.specs.List.{All, AllByRecursion, filter, flat_map, count_by, sum_by}
+use Rattle.std.specs.List.{filter, flat_map, count_by, list_any, sum_by}
 use Rattle.hu_kind.specs.declared.entry.Entry.{Entry}
-use Rattle.hu_kind.specs.Record.{items_in, holds, values_of, absolute_of, IsRecord}
+use Rattle.hu_kind.specs.Record.{items_in, holds, values_of, any_negative, absolute_of}
 use Rattle.hu_kind.specs.Itemsets.{sublists}
 
 -- the greater of two utilities; none is less than every number
@@ -53,3 +53,11 @@ sequence_entry records pattern = record { key = sequence_key pattern; utility = 
 -- the entries of all non-empty sequences that occur
 abbrev pub sequence_patterns : List (List (List (ℕ × ℤ))) → List Entry
 sequence_patterns records = flat_map (λ r. map (sequence_entry records) (filter (λ p. nat_lt 0 (length p)) (subsequences r))) records
+
+-- the rules of a sequence record beside those of its elements: there is one, the cells are at most 4,096 together,
+-- no value is below 0, and the values sum to at most 2 ^ 127 - 1
+pub record IsSequence (elements : List (List (ℕ × ℤ))) : Type 0 where
+  pub some : 0 < length elements
+  pub few : sum_by length elements ≤ 4096
+  pub none_below : list_any any_negative elements ≡ false
+  pub sum_fits : sum_by absolute_of elements < 2 ^ 127

@@ -6,11 +6,17 @@ mod item;
 mod key;
 mod memory;
 mod number;
+mod record;
+mod sequence;
 mod task;
+mod token;
 
 pub use entry::Entry;
 pub use item::{Cell, Item};
 pub use key::Key;
 pub use memory::NoMemory;
-pub use number::NumberFault;
+pub use number::{NumberFault, read_number, read_signed};
+pub use record::{Absolute, Record};
+pub use sequence::{Element, SeqRecord};
 pub use task::Task;
+pub use token::Tokens;
