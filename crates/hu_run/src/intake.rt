@@ -1,6 +1,7 @@
 //! The taking in of files: bytes to lines, lines to records, records to a base.
 
 ghost use Rattle.std.specs.Prelude.{◌≡◌, ℕ, ◌+◌, ◌<◌, ◌≤◌, List, [], ◌∷◌, ◌++◌, length, true, false, None, OnOk, IfOk, IfErr, IfSome, Result};
+ghost use Rattle.hu_base.specs.Base.{carried_of};
 ghost use Rattle.hu_io.specs.Count.{Rose};
 ghost use Rattle.hu_lines.specs.Pieces.{line_of};
 ghost use Rattle.hu_lines.specs.Lines.{HasLine, at_end};
@@ -63,6 +64,7 @@ impl<T: Format> Intake<T> {
         ensures later { (other : List ℕ) → F.faults files.old other ≤ F.faults files.new other }
         ensures contents { F.contents files.new ≡ F.contents files.old }
         ensures plan { F.plan files.new ≡ F.plan files.old }
+        ensures carried { carried_of self.new.base ≡ carried_of self.old.base }
     {
         let mut at = 0;
         loop {
@@ -86,6 +88,7 @@ impl<T: Format> Intake<T> {
         ensures later { (other : List ℕ) → F.faults files.old other ≤ F.faults files.new other }
         ensures contents { F.contents files.new ≡ F.contents files.old }
         ensures plan { F.plan files.new ≡ F.plan files.old }
+        ensures carried { carried_of self.new.base ≡ carried_of self.old.base }
     {
         let count = files.get(name, at, buffer)?;
         self.take(&buffer[..count])?;
@@ -98,6 +101,7 @@ impl<T: Format> Intake<T> {
         ensures finished { Finishes T.reading T.Record.absolute self.old.lines self.old.base self.new.base result }
         ensures next { OnOk result (IsAtStart self.new.lines) }
         ensures count { OnOk result (self.new.lines.before ≡ bytes_in self.old.lines) }
+        ensures carried { carried_of self.new.base ≡ carried_of self.old.base }
     {
         self.judge_last()?;
         self.lines.next_file();
@@ -109,6 +113,7 @@ impl<T: Format> Intake<T> {
         requires { IsOpen self.old.lines }
         ensures finished { Finishes T.reading T.Record.absolute self.old.lines self.old.base self.new.base result }
         ensures lines { self.new.lines ≡ at_end self.old.lines }
+        ensures carried { carried_of self.new.base ≡ carried_of self.old.base }
     {
         if self.lines.end() { self.judge() } else { Ok(()) }
     }
@@ -119,6 +124,7 @@ impl<T: Format> Intake<T> {
         ensures taken { TakesIn T.reading T.Record.absolute self.old.lines self.old.base self.new.lines self.new.base piece.now result }
         ensures open { OnOk result (IsOpen self.new.lines) }
         ensures count { OnOk result (bytes_in self.new.lines ≡ bytes_in self.old.lines + length piece.now) }
+        ensures carried { carried_of self.new.base ≡ carried_of self.old.base }
     {
         let mut rest = piece;
         while !rest.is_empty() {
@@ -136,6 +142,7 @@ impl<T: Format> Intake<T> {
         ensures open { OnOk result (IsOpen self.new.lines) }
         ensures count { IfOk result (λ taken. bytes_in self.new.lines ≡ bytes_in self.old.lines + taken) }
         ensures within { IfOk result (λ taken. (0 < taken) × (taken ≤ length piece.now)) }
+        ensures carried { carried_of self.new.base ≡ carried_of self.old.base }
     {
         let fed = self.lines.feed(piece)?;
         if fed.whole {
@@ -149,6 +156,7 @@ impl<T: Format> Intake<T> {
         requires { HasLine self.old.lines }
         ensures judged { Judges T.reading T.Record.absolute self.old.lines self.old.base self.new.base result }
         ensures lines { self.new.lines ≡ self.old.lines }
+        ensures carried { carried_of self.new.base ≡ carried_of self.old.base }
     {
         let line = self.lines.line();
         if is_skipped(line) {

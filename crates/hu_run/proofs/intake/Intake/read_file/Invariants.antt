@@ -1,6 +1,7 @@
 use Rattle.std.proofs.Common.{◌≡◌, ℕ, ◌+◌, ◌-◌, ◌<◌, ◌≤◌, List, length, drop}
 use Rattle.std.specs.Prelude.{IfSome}
 use Rattle.hu_lines.specs.declared.limits.TheConstants.{LARGEST_INPUT}
+use Rattle.hu_base.specs.Base.{carried_of}
 use Rattle.hu_run.specs.Intake.{IsOpen, outcome, bytes_in}
 use Rattle.hu_run.proofs.intake.Intake.read_file.Given as goal
 
@@ -8,6 +9,7 @@ use Rattle.hu_run.proofs.intake.Intake.read_file.Given as goal
 abbrev pub invariant-loop-count : goal.invariant-loop-count
 invariant-loop-count g l =
     IsOpen l.self.lines
+    × (carried_of l.self.base ≡ carried_of l.initial.self.base)
     × (length l.buffer ≡ length l.initial.buffer)
     × (bytes_in l.self.lines ≡ bytes_in l.initial.self.lines + l.at)
     × (g.F.Files.contents l.files ≡ g.F.Files.contents l.initial.files)
