@@ -15,7 +15,7 @@ use Rattle.hu_run.specs.Input.{Refusal, with_front, limit_reason, line_record, p
 use Rattle.hu_run.specs.Intake.{outcome_at}
 
 -- fronts one after the other
-with_front-append : {R E : Type 0} (front more : List R) (rest : Result (List R) E) → with_front (front ++ more) rest ≡ with_front front (with_front more rest)
+pub with_front-append : {R E : Type 0} (front more : List R) (rest : Result (List R) E) → with_front (front ++ more) rest ≡ with_front front (with_front more rest)
 with_front-append front more (Ok records) = ap Ok (append_assoc front more records)
 with_front-append front more (Err e) = refl
 

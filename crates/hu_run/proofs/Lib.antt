@@ -2,3 +2,4 @@ mod InputLemmas
 mod IntakeLemmas
 mod FrontLemmas
 mod FileLemmas
+pub mod NamesLemmas

@@ -2,3 +2,4 @@ pub mod Words
 pub mod Jobs
 pub mod Input
 pub mod Intake
+pub mod Reading

@@ -53,9 +53,29 @@ pub(crate) struct Intake<T: Format> {
 }
 
 impl<T: Format> Intake<T> {
+    /// Nothing was taken in.
+    pub(crate) fn new(alloc: Global) -> Result<Intake<T>, NoMemory>
+        ensures start { IfOk result (λ intake. IsAtStart intake.lines) }
+        ensures first { IfOk result (λ intake. intake.lines.before ≡ 0) }
+        ensures none { IfOk result (λ intake. intake.base ≡ (0, [])) }
+    {
+        Ok(Intake {
+            alloc,
+            lines: Lines::new(alloc)?,
+            base: Base::after(alloc, 0),
+        })
+    }
+
+    /// The records.
+    pub(crate) fn into_base(self) -> Base<T::Record>
+        ensures { result ≡ self.base }
+    {
+        self.base
+    }
+
     /// Reads a file to its end, in pieces of the buffer's size, and takes in its lines. A refused line is answered
     /// before any further read.
-    fn read_file<F: Files>(&mut self, files: &mut F, name: &str, buffer: &mut [u8]) -> Result<(), FileStop>
+    pub(crate) fn read_file<F: Files>(&mut self, files: &mut F, name: &str, buffer: &mut [u8]) -> Result<(), FileStop>
         requires start { IsAtStart self.old.lines }
         requires some { 0 < length buffer.old }
         ensures read { IfSome (F.contents files.old) (λ told. ReadsFile T.reading T.Record.absolute self.old.lines self.old.base self.new.lines self.new.base (told name.now) result) }
