@@ -6,7 +6,6 @@ use Rattle.std.proofs.lemmas.List.{take-append-drop, take-append-le}
 use Rattle.std.specs.Prelude.{Option, IsErr}
 use Rattle.std.specs.Io.KnownBytes.{Appends}
 use Rattle.std.proofs.KnownBytes.{Appends-trans}
-use Rattle.hu_io.specs.Count.{HasCause}
 use Rattle.hu_io.specs.Sink.{PutsAll}
 use Rattle.hu_report.specs.Page.{Forwards, Passes}
 
@@ -29,11 +28,6 @@ PutsAll-longer a b e first second put =
       omega (arith, length-append first second, put.1),
       subst (Appends a b) (sym (take-append-le k first second within)) put.2,
     )
-
--- of calls one after the other, the cause of the last is that of all
-pub HasCause-trans : {E : Type 0} (a b c : ℕ) (result : Result (Unit {0}) E) → a ≤ b → HasCause b c result → HasCause a c result
-HasCause-trans a b c (Ok _) rose next = record { later = omega arith; failed = next.failed }
-HasCause-trans a b c (Err _) rose next = record { later = omega arith; failed = omega arith }
 
 -- what went out and waits, with more bytes
 whole-append : {a b : Option (List ℕ)} {waited waits text : List ℕ} (first : Forwards a b waited waits text) (more : List ℕ) → first.front ++ (waits ++ more) ≡ waited ++ (text ++ more)

@@ -5,6 +5,8 @@
 #![tactic(auto)]
 
 mod page;
+#[cfg(test)]
+mod tests;
 mod text;
 
 pub use text::write_entries;
