@@ -22,12 +22,13 @@ pub struct Page {
 
 impl Model for Page {
     ghost use Rattle.std.specs.Prelude.{List, ℕ, ◌≤◌, take};
+    ghost use Rattle.hu_report.specs.declared.page.TheConstants.{PAGE_LEN};
 
     ghost Value = { List ℕ };
 
     ghost view = { λ p. take p.len p.bytes };
 
-    ghost invariant = { λ p. p.len ≤ 4096 };
+    ghost invariant = { λ p. p.len ≤ PAGE_LEN };
 }
 
 impl Page {
@@ -66,7 +67,8 @@ impl Page {
     /// Has the bytes wait. Where they have no room, what waits is put before.
     pub fn push<S: Sink>(&mut self, bytes: &[u8], sink: &mut S) -> Result<(), Failed>
         requires { length bytes.now ≤ PAGE_LEN }
-        ensures bytes { Passes (S.bytes sink.old) (S.bytes sink.new) result self.old self.new bytes.now }
+        ensures bytes { Passes (S.bytes sink.old) (S.bytes sink.new) result
+            self.old self.new bytes.now }
         ensures plan { S.plan sink.new ≡ S.plan sink.old }
         ensures cause { HasCause (S.faults sink.old) (S.faults sink.new) result }
     {
@@ -79,7 +81,8 @@ impl Page {
 
     /// Has the decimal of a number wait.
     pub fn push_number<S: Sink>(&mut self, n: i128, sink: &mut S) -> Result<(), Failed>
-        ensures bytes { Passes (S.bytes sink.old) (S.bytes sink.new) result self.old self.new (signed_decimal n) }
+        ensures bytes { Passes (S.bytes sink.old) (S.bytes sink.new) result
+            self.old self.new (signed_decimal n) }
         ensures plan { S.plan sink.new ≡ S.plan sink.old }
         ensures cause { HasCause (S.faults sink.old) (S.faults sink.new) result }
     {
@@ -89,7 +92,8 @@ impl Page {
     /// Has a label wait, and after it the decimal of a number.
     pub fn push_field<S: Sink>(&mut self, label: &[u8], n: i128, sink: &mut S) -> Result<(), Failed>
         requires { length label.now ≤ PAGE_LEN }
-        ensures bytes { Passes (S.bytes sink.old) (S.bytes sink.new) result self.old self.new (label.now ++ signed_decimal n) }
+        ensures bytes { Passes (S.bytes sink.old) (S.bytes sink.new) result
+            self.old self.new (label.now ++ signed_decimal n) }
         ensures plan { S.plan sink.new ≡ S.plan sink.old }
         ensures cause { HasCause (S.faults sink.old) (S.faults sink.new) result }
     {

@@ -35,7 +35,8 @@ fn push_line<S: Sink>(
     page: &mut Page,
     sink: &mut S,
 ) -> Result<(), Failed>
-    ensures bytes { Passes (S.bytes sink.old) (S.bytes sink.new) result page.old page.new (line_of task entry.now) }
+    ensures bytes { Passes (S.bytes sink.old) (S.bytes sink.new) result
+        page.old page.new (line_of task entry.now) }
     ensures plan { S.plan sink.new ≡ S.plan sink.old }
     ensures cause { HasCause (S.faults sink.old) (S.faults sink.new) result }
 {
@@ -46,7 +47,8 @@ fn push_line<S: Sink>(
 }
 
 fn push_item_line<S: Sink>(entry: &Entry, page: &mut Page, sink: &mut S) -> Result<(), Failed>
-    ensures bytes { Passes (S.bytes sink.old) (S.bytes sink.new) result page.old page.new (item_line entry.now) }
+    ensures bytes { Passes (S.bytes sink.old) (S.bytes sink.new) result
+        page.old page.new (item_line entry.now) }
     ensures plan { S.plan sink.new ≡ S.plan sink.old }
     ensures cause { HasCause (S.faults sink.old) (S.faults sink.new) result }
 {
@@ -55,7 +57,8 @@ fn push_item_line<S: Sink>(entry: &Entry, page: &mut Page, sink: &mut S) -> Resu
 }
 
 fn push_closed_line<S: Sink>(entry: &Entry, page: &mut Page, sink: &mut S) -> Result<(), Failed>
-    ensures bytes { Passes (S.bytes sink.old) (S.bytes sink.new) result page.old page.new (closed_line entry.now) }
+    ensures bytes { Passes (S.bytes sink.old) (S.bytes sink.new) result
+        page.old page.new (closed_line entry.now) }
     ensures plan { S.plan sink.new ≡ S.plan sink.old }
     ensures cause { HasCause (S.faults sink.old) (S.faults sink.new) result }
 {
@@ -65,7 +68,8 @@ fn push_closed_line<S: Sink>(entry: &Entry, page: &mut Page, sink: &mut S) -> Re
 }
 
 fn push_utility<S: Sink>(utility: i128, page: &mut Page, sink: &mut S) -> Result<(), Failed>
-    ensures bytes { Passes (S.bytes sink.old) (S.bytes sink.new) result page.old page.new (utility_text utility) }
+    ensures bytes { Passes (S.bytes sink.old) (S.bytes sink.new) result
+        page.old page.new (utility_text utility) }
     ensures plan { S.plan sink.new ≡ S.plan sink.old }
     ensures cause { HasCause (S.faults sink.old) (S.faults sink.new) result }
 {
@@ -74,7 +78,8 @@ fn push_utility<S: Sink>(utility: i128, page: &mut Page, sink: &mut S) -> Result
 }
 
 fn push_key<S: Sink>(numbers: &[i64], page: &mut Page, sink: &mut S) -> Result<(), Failed>
-    ensures bytes { Passes (S.bytes sink.old) (S.bytes sink.new) result page.old page.new (key_text numbers.now) }
+    ensures bytes { Passes (S.bytes sink.old) (S.bytes sink.new) result
+        page.old page.new (key_text numbers.now) }
     ensures plan { S.plan sink.new ≡ S.plan sink.old }
     ensures cause { HasCause (S.faults sink.old) (S.faults sink.new) result }
 {
@@ -87,8 +92,8 @@ fn push_key<S: Sink>(numbers: &[i64], page: &mut Page, sink: &mut S) -> Result<(
 
 // The numbers, with a space before each.
 fn push_spaced<S: Sink>(numbers: &[i64], page: &mut Page, sink: &mut S) -> Result<(), Failed>
-    ensures bytes { Passes (S.bytes sink.old) (S.bytes sink.new) result page.old page.new
-        (flat_map (λ n. codes " " ++ signed_decimal n) numbers.now) }
+    ensures bytes { Passes (S.bytes sink.old) (S.bytes sink.new) result
+        page.old page.new (flat_map (λ n. codes " " ++ signed_decimal n) numbers.now) }
     ensures plan { S.plan sink.new ≡ S.plan sink.old }
     ensures cause { HasCause (S.faults sink.old) (S.faults sink.new) result }
 {
