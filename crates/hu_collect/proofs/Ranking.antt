@@ -1,0 +1,90 @@
+-- Ranking by an order in which equal elements are the same.
+use Rattle.std.proofs.Common.{◌≡◌, ℕ, List, [], ◌∷◌, ◌++◌, take, refl, sym, ap, ◌∙◌, arith}
+use Rattle.std.specs.declared.cmp.Ordering.{Ordering}
+use Rattle.std.specs.declared.cmp.Ordering.TheVariants.{Less, Equal, Greater}
+use Rattle.std.specs.Ordering.{ordering_reverse, match_ordering}
+use Rattle.std.specs.Cmp.{IsTotalOrder}
+use Rattle.std.specs.BTreeSet.{insert_key}
+use Rattle.std.proofs.lemmas.Cmp.{tied_itself}
+use Rattle.std.proofs.lemmas.Map.Lookups.{CmpEqualImpliesEq}
+use Rattle.hu_kind.specs.Order.{ranking, cut}
+
+-- a total order in which equal elements are the same
+pub record IsExactOrder {A : Type 0} (cmp : A → A → Ordering) : Type 0 where
+  pub total : IsTotalOrder cmp
+  pub exact : CmpEqualImpliesEq cmp
+
+-- the three ways in which two elements compare
+pub data Compared {A : Type 0} (cmp : A → A → Ordering) (x y : A) : Type 0 where
+  before : cmp x y ≡ Less → cmp y x ≡ Greater → Compared cmp x y
+  same : x ≡ y → cmp x y ≡ Equal → cmp y x ≡ Equal → Compared cmp x y
+  after : cmp x y ≡ Greater → cmp y x ≡ Less → Compared cmp x y
+
+compared-by : {A : Type 0} (cmp : A → A → Ordering) → IsExactOrder cmp → (x y : A) (o : Ordering) → cmp x y ≡ o → Compared cmp x y
+compared-by cmp e x y Less h = before h (rw (e.total.antisymm y x, h) refl)
+compared-by cmp e x y Equal h = same (e.exact x y h) h (rw (e.total.antisymm y x, h) refl)
+compared-by cmp e x y Greater h = after h (rw (e.total.antisymm y x, h) refl)
+
+pub compared : {A : Type 0} (cmp : A → A → Ordering) → IsExactOrder cmp → (x y : A) → Compared cmp x y
+compared cmp e x y = compared-by cmp e x y (cmp x y) refl
+
+-- insertions commute, whatever the list
+pub insert_comm-nil : {A : Type 0} (cmp : A → A → Ordering) (x y : A) → Compared cmp x y → insert_key cmp (x ∷ []) y ≡ insert_key cmp (y ∷ []) x
+insert_comm-nil cmp x y (before h b) = simp (h, b)
+insert_comm-nil cmp x y (same e h b) = simp (h, b) (ap (λ z. z ∷ []) e)
+insert_comm-nil cmp x y (after h b) = simp (h, b)
+
+-- both before the head: as with an empty list
+insert_comm-cons : {A : Type 0} (cmp : A → A → Ordering) → IsExactOrder cmp → (z : A) (zs : List A) (x y : A)
+    → insert_key cmp (insert_key cmp zs x) y ≡ insert_key cmp (insert_key cmp zs y) x
+    → Compared cmp x z → Compared cmp y z → Compared cmp x y
+    → insert_key cmp (insert_key cmp (z ∷ zs) x) y ≡ insert_key cmp (insert_key cmp (z ∷ zs) y) x
+insert_comm-cons cmp e z zs x y ih (before a a') (before b b') (before c c') = simp (a, b, c, c')
+insert_comm-cons cmp e z zs x y ih (before a a') (before b b') (same c d d') = simp (a, b, d, d') (ap (λ w. w ∷ z ∷ zs) c)
+insert_comm-cons cmp e z zs x y ih (before a a') (before b b') (after c c') = simp (a, b, c, c')
+insert_comm-cons cmp e z zs x y ih (before a a') (same b d d') c = let k : cmp y x ≡ Greater = rw b a' in simp (a, d, k)
+insert_comm-cons cmp e z zs x y ih (before a a') (after b b') c = let t : cmp x y ≡ Less = e.total.trans x z y a b' in let k : cmp y x ≡ Greater = rw (e.total.antisymm y x, t) refl in simp (a, b, k)
+insert_comm-cons cmp e z zs x y ih (same a d d') (before b b') c = let k : cmp x y ≡ Greater = rw a b' in simp (d, b, k)
+insert_comm-cons cmp e z zs x y ih (same a d d') (same b f f') c = simp (d, f)
+insert_comm-cons cmp e z zs x y ih (same a d d') (after b b') c = simp (d, b)
+insert_comm-cons cmp e z zs x y ih (after a a') (before b b') c = let t : cmp y x ≡ Less = e.total.trans y z x b a' in let k : cmp x y ≡ Greater = rw (e.total.antisymm x y, t) refl in simp (a, b, k)
+insert_comm-cons cmp e z zs x y ih (after a a') (same b f f') c = simp (a, f)
+insert_comm-cons cmp e z zs x y ih (after a a') (after b b') c = simp (a, b) (ap (λ w. z ∷ w) ih)
+
+pub insert_comm : {A : Type 0} (cmp : A → A → Ordering) → IsExactOrder cmp → (xs : List A) (x y : A)
+    → insert_key cmp (insert_key cmp xs x) y ≡ insert_key cmp (insert_key cmp xs y) x
+insert_comm cmp e [] x y = insert_comm-nil cmp x y (compared cmp e x y)
+insert_comm cmp e (z ∷ zs) x y =
+    insert_comm-cons cmp e z zs x y (insert_comm cmp e zs x y) (compared cmp e x z) (compared cmp e y z) (compared cmp e x y)
+
+-- an element is put in once
+insert_twice-cons : {A : Type 0} (cmp : A → A → Ordering) → IsExactOrder cmp → (z : A) (zs : List A) (x : A)
+    → insert_key cmp (insert_key cmp zs x) x ≡ insert_key cmp zs x → Compared cmp x z → Compared cmp x x
+    → insert_key cmp (insert_key cmp (z ∷ zs) x) x ≡ insert_key cmp (z ∷ zs) x
+insert_twice-cons cmp e z zs x ih (before a a') c = simp (a, tied_itself e.total x)
+insert_twice-cons cmp e z zs x ih (same a d d') c = simp (d)
+insert_twice-cons cmp e z zs x ih (after a a') c = simp (a) (ap (λ w. z ∷ w) ih)
+
+pub insert_twice : {A : Type 0} (cmp : A → A → Ordering) → IsExactOrder cmp → (xs : List A) (x : A)
+    → insert_key cmp (insert_key cmp xs x) x ≡ insert_key cmp xs x
+insert_twice cmp e [] x = rw (tied_itself e.total x) refl
+insert_twice cmp e (z ∷ zs) x = insert_twice-cons cmp e z zs x (insert_twice cmp e zs x) (compared cmp e x z) (compared cmp e x x)
+
+-- ranking a list with one more element put in
+ranking-insert-cons : {A : Type 0} (cmp : A → A → Ordering) → IsExactOrder cmp → (z : A) (zs : List A) (x : A)
+    → ranking cmp (insert_key cmp zs x) ≡ insert_key cmp (ranking cmp zs) x → Compared cmp x z
+    → ranking cmp (insert_key cmp (z ∷ zs) x) ≡ insert_key cmp (ranking cmp (z ∷ zs)) x
+ranking-insert-cons cmp e z zs x ih (before a a') = rw a refl
+ranking-insert-cons cmp e z zs x ih (same a d d') = rw (d, a) (sym (insert_twice cmp e (ranking cmp zs) z))
+ranking-insert-cons cmp e z zs x ih (after a a') = simp (a, ih) (insert_comm cmp e (ranking cmp zs) x z)
+
+pub ranking-insert : {A : Type 0} (cmp : A → A → Ordering) → IsExactOrder cmp → (xs : List A) (x : A)
+    → ranking cmp (insert_key cmp xs x) ≡ insert_key cmp (ranking cmp xs) x
+ranking-insert cmp e [] x = refl
+ranking-insert cmp e (z ∷ zs) x = ranking-insert-cons cmp e z zs x (ranking-insert cmp e zs x) (compared cmp e x z)
+
+-- a ranking is in order
+pub ranking-ranking : {A : Type 0} (cmp : A → A → Ordering) → IsExactOrder cmp → (xs : List A)
+    → ranking cmp (ranking cmp xs) ≡ ranking cmp xs
+ranking-ranking cmp e [] = refl
+ranking-ranking cmp e (x ∷ xs) = ranking-insert cmp e (ranking cmp xs) x ∙ ap (λ s. insert_key cmp s x) (ranking-ranking cmp e xs)

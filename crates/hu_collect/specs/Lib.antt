@@ -1,0 +1,4 @@
+pub mod Rule
+pub mod Ranks
+pub mod Laws
+pub mod Top

@@ -1,0 +1,72 @@
+//! The collector that keeps all entries.
+
+ghost use Rattle.std.specs.Prelude.{◌≡◌, ◌∷◌, [], pos, ◌≤ℤ◌, true, None, IfOk, OnOk, OnErr};
+ghost use Rattle.hu_collect.specs.Rule.{rule_of, made};
+
+use crate::collect::Collect;
+use hu_kind::{Entry, Key, NoMemory};
+use std::alloc::Global;
+use std::marker::Model;
+
+/// Keeps every entry of at least a start. It is seen as its start and its entries in the one order.
+#[derive(Debug, Drop)]
+pub struct All {
+    start: i128,
+    offered: Vec<Entry>,
+}
+
+impl Model for All {
+    ghost use Rattle.std.specs.Prelude.{List, ℤ, pos, ◌≤ℤ◌};
+    ghost use Rattle.hu_kind.specs.declared.entry.Entry.{Entry};
+    ghost use Rattle.hu_kind.specs.Order.{entry_cmp, ranking};
+
+    ghost Value = { ℤ × List Entry };
+
+    ghost view = { λ a. (a.start, ranking entry_cmp a.offered.items) };
+
+    ghost invariant = { λ a. pos 1 ≤ℤ a.start };
+}
+
+impl All {
+    /// An empty collector without a limit. It takes no memory.
+    pub fn new(alloc: Global, start: i128) -> All
+        requires { pos 1 ≤ℤ start }
+        ensures rule { ⟦<All as Collect>⟧.rule result ≡ rule_of start None }
+        ensures content { ⟦<All as Collect>⟧.content result ≡ [] }
+    {
+        All {
+            start,
+            offered: Vec::new(alloc),
+        }
+    }
+
+    /// The entries in the one order. Want of memory drops them.
+    pub fn into_entries(self) -> Result<Vec<Entry>, NoMemory>
+        ensures { IfOk result (λ entries. entries.items ≡ ⟦<All as Collect>⟧.content self) }
+    {
+        Err(NoMemory)
+    }
+}
+
+impl Collect for All {
+    ghost use Rattle.std.specs.Prelude.{None};
+    ghost use Rattle.hu_collect.specs.Rule.{rule_of};
+
+    ghost rule = { λ a. rule_of a.0 None };
+
+    ghost content = { λ a. a.1 };
+
+    fn floor(&self) -> i128 {
+        self.start
+    }
+
+    fn opens(&self, _key: &Key, _last: u32) -> bool
+        ensures { result ≡ true }
+    {
+        true
+    }
+
+    fn offer(&mut self, _entry: Entry) -> Result<(), NoMemory> {
+        Err(NoMemory)
+    }
+}

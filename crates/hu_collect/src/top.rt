@@ -1,0 +1,79 @@
+//! The collector that keeps the first k entries.
+
+ghost use Rattle.std.specs.Prelude.{◌≡◌, ◌≤◌, ◌∷◌, [], pos, ◌≤ℤ◌, true, Some, IfOk, OnOk, OnErr};
+ghost use Rattle.hu_collect.specs.Rule.{rule_of, made};
+
+use crate::collect::Collect;
+use hu_kind::{Entry, Key, NoMemory};
+use std::alloc::Global;
+use std::collections::BTreeSet;
+use std::marker::Model;
+
+/// Keeps the first k of the entries of at least a start. It is seen as k, its start and its entries in the one order.
+#[derive(Drop)]
+pub struct Top {
+    limit: u32,
+    start: i128,
+    floor: i128,
+    entries: BTreeSet<Entry>,
+}
+
+impl Model for Top {
+    ghost use Rattle.std.specs.Prelude.{List, ℕ, ℤ, Some};
+    ghost use Rattle.hu_kind.specs.declared.entry.Entry.{Entry};
+    ghost use Rattle.hu_collect.specs.Rule.{rule_of};
+    ghost use Rattle.hu_collect.specs.Top.{IsTop};
+
+    ghost Value = { ℕ × ℤ × List Entry };
+
+    ghost view = { λ t. (t.limit, t.start, t.entries.keys) };
+
+    ghost invariant = { λ t. IsTop (rule_of t.start (Some t.limit)) t.floor t.entries.keys };
+}
+
+impl Top {
+    /// An empty collector that keeps at most k entries. It takes no memory.
+    pub fn new(alloc: Global, k: u32, start: i128) -> Top
+        requires some { 1 ≤ k }
+        requires least { pos 1 ≤ℤ start }
+        ensures rule { ⟦<Top as Collect>⟧.rule result ≡ rule_of start (Some k) }
+        ensures content { ⟦<Top as Collect>⟧.content result ≡ [] }
+    {
+        Top {
+            limit: k,
+            start,
+            floor: start,
+            entries: BTreeSet::new(alloc),
+        }
+    }
+
+    /// The entries in the one order. Want of memory drops them.
+    pub fn into_entries(self) -> Result<Vec<Entry>, NoMemory>
+        ensures { IfOk result (λ entries. entries.items ≡ ⟦<Top as Collect>⟧.content self) }
+    {
+        Err(NoMemory)
+    }
+}
+
+impl Collect for Top {
+    ghost use Rattle.std.specs.Prelude.{Some};
+    ghost use Rattle.hu_collect.specs.Rule.{rule_of};
+
+    ghost rule = { λ t. rule_of t.1 (Some t.0) };
+
+    ghost content = { λ t. t.2 };
+
+    fn floor(&self) -> i128 {
+        self.floor
+    }
+
+    fn opens(&self, _key: &Key, _last: u32) -> bool
+        ensures { result ≡ true }
+    {
+        true
+    }
+
+    fn offer(&mut self, _entry: Entry) -> Result<(), NoMemory> {
+        Err(NoMemory)
+    }
+}
