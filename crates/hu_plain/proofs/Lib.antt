@@ -1,0 +1,4 @@
+pub mod Members
+pub mod Occurring
+pub mod Growth
+pub mod Patterns

@@ -1,0 +1,5 @@
+//! The plain engines.
+#![tactic(auto)]
+
+/// Nothing yet.
+pub fn nothing() {}
