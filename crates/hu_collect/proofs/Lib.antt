@@ -1,2 +1,6 @@
 pub mod Ranking
+pub mod Cutting
 pub mod Entries
+pub mod Floor
+pub mod Made
+mod Bodies

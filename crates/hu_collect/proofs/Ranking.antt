@@ -1,5 +1,8 @@
 -- Ranking by an order in which equal elements are the same.
-use Rattle.std.proofs.Common.{◌≡◌, ℕ, List, [], ◌∷◌, ◌++◌, take, refl, sym, ap, ◌∙◌, arith}
+use Rattle.std.proofs.Common.{◌≡◌, ℕ, List, [], ◌∷◌, ◌++◌, take, refl, sym, ap, ◌∙◌, ◌⊎◌, inl, inr, append-nil, arith}
+use Rattle.std.specs.List.{Contains}
+use Rattle.std.proofs.lemmas.List.Elements.{Contains-push, Contains-push_cases, Contains-append_left, Contains-append_right, Contains-append_cases}
+use Rattle.hu_collect.specs.Laws.{SameMembers}
 use Rattle.std.specs.declared.cmp.Ordering.{Ordering}
 use Rattle.std.specs.declared.cmp.Ordering.TheVariants.{Less, Equal, Greater}
 use Rattle.std.specs.Ordering.{ordering_reverse, match_ordering}
@@ -88,3 +91,59 @@ pub ranking-ranking : {A : Type 0} (cmp : A → A → Ordering) → IsExactOrder
     → ranking cmp (ranking cmp xs) ≡ ranking cmp xs
 ranking-ranking cmp e [] = refl
 ranking-ranking cmp e (x ∷ xs) = ranking-insert cmp e (ranking cmp xs) x ∙ ap (λ s. insert_key cmp s x) (ranking-ranking cmp e xs)
+
+-- where an element stands in the list doesn't matter
+ranking-middle : {A : Type 0} (cmp : A → A → Ordering) → IsExactOrder cmp → (xs : List A) (y : A) (ys : List A)
+    → ranking cmp (xs ++ y ∷ ys) ≡ insert_key cmp (ranking cmp (xs ++ ys)) y
+ranking-middle cmp e [] y ys = refl
+ranking-middle cmp e (x ∷ xs) y ys =
+    ap (λ s. insert_key cmp s x) (ranking-middle cmp e xs y ys) ∙ insert_comm cmp e (ranking cmp (xs ++ ys)) y x
+
+-- nor does which of two lists comes first
+pub ranking-append_comm : {A : Type 0} (cmp : A → A → Ordering) → IsExactOrder cmp → (xs ys : List A)
+    → ranking cmp (xs ++ ys) ≡ ranking cmp (ys ++ xs)
+ranking-append_comm cmp e xs [] = rw append-nil refl
+ranking-append_comm cmp e xs (y ∷ ys) =
+    ranking-middle cmp e xs y ys ∙ ap (λ s. insert_key cmp s y) (ranking-append_comm cmp e xs ys)
+
+-- an element of a list is its first one or a later one
+empty_or_later : {A : Type 0} (y : A) (ys : List A) (x : A) → Contains [] x ⊎ (y ≡ x) → (y ≡ x) ⊎ Contains ys x
+empty_or_later y ys x (inl none) = absurd (omega (arith, none.1))
+empty_or_later y ys x (inr at_head) = inl at_head
+
+pub first_or_later : {A : Type 0} (y : A) (ys : List A) (x : A) → Contains (y ∷ ys) x → (y ≡ x) ⊎ Contains ys x
+first_or_later y ys x h =
+    elim (Contains-append_cases (y ∷ []) ys x h) [
+      | inl first ↦ empty_or_later y ys x (Contains-push_cases [] y x first)
+      | inr later ↦ inr later
+    ]
+
+-- a member is there already
+ranking-member-cons : {A : Type 0} (cmp : A → A → Ordering) → IsExactOrder cmp → (y : A) (ys : List A) (x : A)
+    → (Contains ys x → insert_key cmp (ranking cmp ys) x ≡ ranking cmp ys) → (y ≡ x) ⊎ Contains ys x
+    → insert_key cmp (ranking cmp (y ∷ ys)) x ≡ ranking cmp (y ∷ ys)
+ranking-member-cons cmp e y ys x ih (inl at_head) = rw at_head (insert_twice cmp e (ranking cmp ys) x)
+ranking-member-cons cmp e y ys x ih (inr later) =
+    insert_comm cmp e (ranking cmp ys) y x ∙ ap (λ s. insert_key cmp s y) (ih later)
+
+pub ranking-member : {A : Type 0} (cmp : A → A → Ordering) → IsExactOrder cmp → (xs : List A) (x : A) → Contains xs x
+    → insert_key cmp (ranking cmp xs) x ≡ ranking cmp xs
+ranking-member cmp e [] x h = absurd (omega (arith, h.1))
+ranking-member cmp e (y ∷ ys) x h =
+    ranking-member-cons cmp e y ys x (ranking-member cmp e ys x) (first_or_later y ys x h)
+
+-- a list whose elements are members of another adds nothing to it
+ranking-append_members : {A : Type 0} (cmp : A → A → Ordering) → IsExactOrder cmp → (xs ys : List A)
+    → ((x : A) → Contains xs x → Contains ys x) → ranking cmp (xs ++ ys) ≡ ranking cmp ys
+ranking-append_members cmp e [] ys h = refl
+ranking-append_members cmp e (x ∷ xs) ys h =
+    ap (λ s. insert_key cmp s x) (ranking-append_members cmp e xs ys (λ z k. h z (Contains-append_right (x ∷ []) xs z k)))
+    ∙ ranking-member cmp e ys x (h x (Contains-append_left (x ∷ []) xs x (Contains-push [] x)))
+
+-- lists with the same members have the same ranking
+pub ranking-same_members : {A : Type 0} (cmp : A → A → Ordering) → IsExactOrder cmp → (xs ys : List A) → SameMembers xs ys
+    → ranking cmp xs ≡ ranking cmp ys
+ranking-same_members cmp e xs ys h =
+    sym (ranking-append_members cmp e ys xs (λ x. (h x).1))
+    ∙ ranking-append_comm cmp e ys xs
+    ∙ ranking-append_members cmp e xs ys (λ x. (h x).0)

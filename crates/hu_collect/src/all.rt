@@ -1,6 +1,7 @@
 //! The collector that keeps all entries.
 
 ghost use Rattle.std.specs.Prelude.{◌≡◌, ◌∷◌, [], pos, ◌≤ℤ◌, true, None, IfOk, OnOk, OnErr};
+ghost use Rattle.hu_kind.specs.Order.{entry_cmp, ranking};
 ghost use Rattle.hu_collect.specs.Rule.{rule_of, made};
 
 use crate::collect::Collect;
@@ -40,11 +41,16 @@ impl All {
         }
     }
 
-    /// The entries in the one order. Want of memory drops them.
+    /// The entries in the one order, by one sort in place. Want of memory drops them.
     pub fn into_entries(self) -> Result<Vec<Entry>, NoMemory>
         ensures { IfOk result (λ entries. entries.items ≡ ⟦<All as Collect>⟧.content self) }
     {
-        Err(NoMemory)
+        let All {
+            offered: mut entries,
+            ..
+        } = self;
+        rank(&mut entries);
+        Ok(entries)
     }
 }
 
@@ -66,7 +72,18 @@ impl Collect for All {
         true
     }
 
-    fn offer(&mut self, _entry: Entry) -> Result<(), NoMemory> {
-        Err(NoMemory)
+    fn offer(&mut self, entry: Entry) -> Result<(), NoMemory> {
+        if entry.utility >= self.start {
+            self.offered.push(entry)?;
+        }
+        Ok(())
     }
+}
+
+/// Puts entries in the one order, each once.
+fn rank(entries: &mut Vec<Entry>)
+    ensures { entries.new.items ≡ ranking entry_cmp entries.old.items }
+{
+    entries.sort_unstable();
+    entries.dedup();
 }

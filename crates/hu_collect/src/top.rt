@@ -1,7 +1,8 @@
 //! The collector that keeps the first k entries.
 
-ghost use Rattle.std.specs.Prelude.{◌≡◌, ◌≤◌, ◌∷◌, [], pos, ◌≤ℤ◌, true, Some, IfOk, OnOk, OnErr};
-ghost use Rattle.hu_collect.specs.Rule.{rule_of, made};
+ghost use Rattle.std.specs.Prelude.{◌≡◌, ◌+◌, ◌≤◌, take, ◌∷◌, [], pos, ◌≤ℤ◌, true, Some, IfOk, OnOk, OnErr};
+ghost use Rattle.std.specs.BTreeSet.{btree_set_len};
+ghost use Rattle.hu_collect.specs.Rule.{rule_of, made, floor_by};
 
 use crate::collect::Collect;
 use hu_kind::{Entry, Key, NoMemory};
@@ -10,12 +11,13 @@ use std::collections::BTreeSet;
 use std::marker::Model;
 
 /// Keeps the first k of the entries of at least a start. It is seen as k, its start and its entries in the one order.
-#[derive(Drop)]
+#[derive(Debug, Drop)]
 pub struct Top {
     limit: u32,
     start: i128,
     floor: i128,
     entries: BTreeSet<Entry>,
+    alloc: Global,
 }
 
 impl Model for Top {
@@ -44,6 +46,7 @@ impl Top {
             start,
             floor: start,
             entries: BTreeSet::new(alloc),
+            alloc,
         }
     }
 
@@ -51,7 +54,8 @@ impl Top {
     pub fn into_entries(self) -> Result<Vec<Entry>, NoMemory>
         ensures { IfOk result (λ entries. entries.items ≡ ⟦<Top as Collect>⟧.content self) }
     {
-        Err(NoMemory)
+        let Top { entries, alloc, .. } = self;
+        Ok(entries.into_iter().collect(alloc)?)
     }
 }
 
@@ -73,7 +77,33 @@ impl Collect for Top {
         true
     }
 
-    fn offer(&mut self, _entry: Entry) -> Result<(), NoMemory> {
-        Err(NoMemory)
+    fn offer(&mut self, entry: Entry) -> Result<(), NoMemory> {
+        if entry.utility < self.floor {
+            return Ok(());
+        }
+        self.entries.insert(entry)?;
+        trim(&mut self.entries, self.limit);
+        self.floor = floor_over(&self.entries, self.limit, self.start);
+        Ok(())
+    }
+}
+
+/// Takes the last entry out where there is one more than the limit.
+fn trim(entries: &mut BTreeSet<Entry>, limit: u32)
+    requires { btree_set_len entries.old ≤ limit + 1 }
+    ensures { entries.new.keys ≡ take limit entries.old.keys }
+{
+    if entries.len() > limit as usize {
+        entries.pop_last();
+    }
+}
+
+/// The floor over these entries.
+fn floor_over(entries: &BTreeSet<Entry>, limit: u32, start: i128) -> i128
+    ensures { result ≡ floor_by (Some limit) start entries.now.keys }
+{
+    match entries.last() {
+        Some(last) if entries.len() >= limit as usize => start.max(last.utility),
+        _ => start,
     }
 }
