@@ -1,0 +1,6 @@
+pub mod Count
+pub mod Files
+pub mod Plan
+pub mod Sink
+pub mod MemoryFiles
+pub mod MemorySink
