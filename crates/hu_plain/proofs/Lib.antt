@@ -2,3 +2,5 @@ pub mod Members
 pub mod Occurring
 pub mod Growth
 pub mod Patterns
+pub mod CellLemmas
+pub mod RowLemmas

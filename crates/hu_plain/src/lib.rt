@@ -1,5 +1,11 @@
-//! The plain engines.
+//! The plain engines: they offer a collector every pattern that occurs, and cut nothing. Their answers are what every
+//! other engine has to give.
+//!
+//! [`mine_items`] goes over itemsets. A search extends a prefix over the records that hold it, which it keeps as rows;
+//! what rows and prefixes earn stands in `specs/Row.antt`.
 #![tactic(auto)]
 
-/// Nothing yet.
-pub fn nothing() {}
+mod items;
+mod row;
+
+pub use items::mine_items;
