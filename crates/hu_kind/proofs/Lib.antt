@@ -1,2 +1,3 @@
 mod RecordLemmas
 mod NumberLemmas
+pub mod TokenLemmas

@@ -7,3 +7,4 @@ pub mod Sequence
 pub mod Answer
 pub mod Number
 pub mod Rows
+pub mod Token

@@ -9,6 +9,7 @@ mod number;
 mod record;
 mod sequence;
 mod task;
+mod token;
 
 pub use entry::Entry;
 pub use item::{Cell, Item};
@@ -18,3 +19,4 @@ pub use number::{NumberFault, read_number, read_signed};
 pub use record::{Absolute, Record};
 pub use sequence::{Element, SeqRecord};
 pub use task::Task;
+pub use token::Tokens;

@@ -1,0 +1,72 @@
+-- What the bytes that a `Lines` holds keep, from call to call.
+use Rattle.std.proofs.Common.{◌≡◌, ℕ, ◌+◌, ◌<◌, ◌≤◌, Bool, true, false, cond, inl, inr, length-append, List, [], ◌∷◌, ◌++◌, length, refl, sym, ap, subst, ◌∙◌, arith, rules, Option, None, Some}
+use Rattle.std.specs.Prelude.{IsSome, map, ◌⊎◌}
+use Rattle.std.specs.Option.{is_some}
+use Rattle.std.proofs.lemmas.Bool.{false≢true}
+use Rattle.hu_lines.specs.declared.limits.TheConstants.{LONGEST_LINE, LARGEST_INPUT}
+use Rattle.hu_lines.specs.Pieces.{has_line_feed, first_piece, body_of, line_of, lines, pieces}
+use Rattle.hu_lines.specs.Limits.{refusal}
+use Rattle.hu_lines.specs.declared.lines.Lines.TheInside.{Inside}
+use Rattle.hu_lines.specs.Held.{state_of, IsKept}
+use Rattle.hu_lines.specs.Lines.{State, IsHeld, HasLine}
+use Rattle.hu_lines.proofs.PieceLemmas.{has_line_feed-append, first_piece-append, one_piece_of}
+use Rattle.hu_lines.proofs.LimitLemmas.{refusal-none, refusal-empty, length-body-le, length-without_last-le}
+
+-- the bytes held and those before them are within the run's limit
+pub held_within : (s : State) → IsHeld s → s.before + length s.bytes ≤ LARGEST_INPUT
+held_within s held = (refusal-none s.number s.before s.bytes held.within).0
+
+-- so it is of the fields
+pub kept_within : (a : Inside) → IsKept a → a.before + length a.bytes.items ≤ LARGEST_INPUT
+kept_within a kept = held_within (state_of a) kept.held
+
+-- and the number of the line is small
+pub kept_number : (a : Inside) → IsKept a → a.number ≤ LARGEST_INPUT + 1
+kept_number a kept = omega (arith, kept_within a kept, kept.held.numbered)
+
+-- a piece that passes no limit has at most as many bytes as a longest line with its line feed
+pub held_room : (number before : ℕ) (held taken : List ℕ) → refusal number before (held ++ taken) ≡ None → length held + length taken ≤ LONGEST_LINE + 1
+held_room number before held taken none =
+    let within : length (body_of (held ++ taken)) ≤ LONGEST_LINE = (refusal-none number before (held ++ taken) none).1 in
+    omega (arith, length-body-le (held ++ taken), length-append held taken)
+
+-- bytes with a line feed are some
+some_with_line_feed : (bytes : List ℕ) → has_line_feed bytes ≡ true → 0 < length bytes
+some_with_line_feed [] ended = absurd (false≢true ended)
+some_with_line_feed (b ∷ bs) ended = omega arith
+
+-- a line that has ended has a byte
+pub held_some : (s : State) → IsHeld s → s.whole ≡ true → 0 < length s.bytes
+held_some s held ended = some_with_line_feed s.bytes (sym held.whole ∙ ended)
+
+-- no bytes are held, within the run's limit
+pub held_empty : (s : State) → s.bytes ≡ [] → s.whole ≡ false → s.before ≤ LARGEST_INPUT → s.number ≤ s.before + 1 → IsHeld s
+held_empty s none open_ within numbered = record {
+  one = rw none refl;
+  whole = rw none open_;
+  within = rw none (refusal-empty s.number s.before within);
+  numbered = numbered;
+  unfinished = λ _. open_;
+}
+
+-- more bytes of the line are held
+pub held_grown : (s : State) (held taken : List ℕ) → s.bytes ≡ held ++ taken → has_line_feed held ≡ false → first_piece taken ≡ taken
+    → s.whole ≡ has_line_feed taken → refusal s.number s.before (held ++ taken) ≡ None → s.number ≤ s.before + 1 → s.refused ≡ None → IsHeld s
+held_grown s held taken is open_ one ends none numbered accepted = record {
+  one = rw is (first_piece-append held taken open_ ∙ ap (λ r. held ++ r) one);
+  whole = rw is (ends ∙ sym (has_line_feed-append held taken open_));
+  within = rw is none;
+  numbered = numbered;
+  unfinished = λ some. absurd (false≢true (ap is_some (sym accepted) ∙ some));
+}
+
+-- a line that can be read is the one line of the bytes held
+pub held_line : (s : State) → IsHeld s → HasLine s → lines s.bytes ≡ line_of s.bytes ∷ []
+held_line s held has =
+    elim has [ inl ended ↦ ap (map line_of) (one_piece_of s.bytes held.one (held_some s held ended)) | inr rest ↦ ap (map line_of) (one_piece_of s.bytes held.one rest.1) ]
+
+-- it isn't too long
+pub held_short : (s : State) → IsHeld s → length (line_of s.bytes) ≤ LONGEST_LINE
+held_short s held =
+    let within : length (body_of s.bytes) ≤ LONGEST_LINE = (refusal-none s.number s.before s.bytes held.within).1 in
+    omega (arith, length-without_last-le 13 (body_of s.bytes))

@@ -1,0 +1,151 @@
+-- Pieces of bytes: how they are cut, and how they are gathered again.
+use Rattle.std.proofs.Common.{◌≡◌, ℕ, add-one, zero, suc, ◌+◌, ◌-◌, ◌<◌, ◌≤◌, ◌||◌, Bool, true, false, cond, eqb, List, [], ◌∷◌, ◌++◌, length, take, drop, get_or, map, refl, sym, ap, subst, ◌∙◌, append_assoc, arith, rules, Option, None, Some}
+use Rattle.std.specs.Prelude.{MatchOption}
+use Rattle.std.specs.List.{list_any, flat_map, concat}
+use Rattle.std.proofs.lemmas.Bool.{false≢true, false_from_ne_true}
+use Rattle.std.proofs.Math.Seq.{drop-append_seam}
+use Rattle.std.proofs.Math.Seq.{drop-length}
+use Rattle.std.proofs.lemmas.List.{append-nil, length-take-le}
+use Rattle.std.proofs.lemmas.List.Folds.{list_any-append}
+use Rattle.memchr.specs.Find.{IsFirstByte, NoneBefore, Passes, is_byte}
+use Rattle.hu_lines.specs.Pieces.{has_line_feed, first_piece, in_front, pieces, without_last, body_of, line_of, lines, parts, gathered, gathered_lines}
+use Rattle.hu_lines.specs.Laws.{WholePieceComesFirst, RestIsOnePiece, FirstPieceComesFirst, LinesIgnoreCuts}
+
+-- the first piece has a line feed where the bytes have one
+pub has_line_feed-first_piece : (bytes : List ℕ) → has_line_feed (first_piece bytes) ≡ has_line_feed bytes
+has_line_feed-first_piece [] = refl
+has_line_feed-first_piece (b ∷ bs) =
+    elim (eqb b 10) as (λ t. (t || has_line_feed (cond t [] (first_piece bs))) ≡ (t || has_line_feed bs)) [ true ↦ refl | false ↦ has_line_feed-first_piece bs ]
+
+-- cutting off the first piece again changes nothing
+pub first_piece_twice : (bytes : List ℕ) → first_piece (first_piece bytes) ≡ first_piece bytes
+first_piece_twice [] = refl
+first_piece_twice (b ∷ bs) =
+    ap (λ r. b ∷ r)
+    (elim (eqb b 10) as (λ t. cond t [] (first_piece (cond t [] (first_piece bs))) ≡ cond t [] (first_piece bs)) [ true ↦ refl | false ↦ first_piece_twice bs ])
+
+-- bytes before the first line feed belong to the first piece
+pub first_piece-append : (held bytes : List ℕ) → has_line_feed held ≡ false → first_piece (held ++ bytes) ≡ held ++ first_piece bytes
+first_piece-append [] bytes open_ = refl
+first_piece-append (b ∷ bs) bytes open_ =
+    ap (λ r. b ∷ r)
+    (elim (eqb b 10) as (λ t. (t || has_line_feed bs) ≡ false → cond t [] (first_piece (bs ++ bytes)) ≡ bs ++ first_piece bytes) [ true ↦ (λ no. absurd (false≢true (sym no))) | false ↦ first_piece-append bs bytes ] open_)
+
+-- bytes after a line feed change nothing of the first piece
+pub first_piece-append_after : (bytes more : List ℕ) → has_line_feed bytes ≡ true → first_piece (bytes ++ more) ≡ first_piece bytes
+first_piece-append_after [] more ended = absurd (false≢true ended)
+first_piece-append_after (b ∷ bs) more ended =
+    ap (λ r. b ∷ r)
+    (elim (eqb b 10) as (λ t. (t || has_line_feed bs) ≡ true → cond t [] (first_piece (bs ++ more)) ≡ cond t [] (first_piece bs)) [ true ↦ (λ _. refl) | false ↦ first_piece-append_after bs more ] ended)
+
+-- bytes without a line feed are a first piece
+pub first_piece_open : (bytes : List ℕ) → has_line_feed bytes ≡ false → first_piece bytes ≡ bytes
+first_piece_open [] open_ = refl
+first_piece_open (b ∷ bs) open_ =
+    ap (λ r. b ∷ r)
+    (elim (eqb b 10) as (λ t. (t || has_line_feed bs) ≡ false → cond t [] (first_piece bs) ≡ bs) [ true ↦ (λ no. absurd (false≢true (sym no))) | false ↦ first_piece_open bs ] open_)
+
+-- the first piece of bytes comes first, and then the pieces of what is left
+pub first_piece_first : FirstPieceComesFirst
+first_piece_first [] some = absurd (omega arith)
+first_piece_first (b ∷ []) some =
+    let none : List ℕ = [] in
+    elim (eqb b 10) as (λ t. cond t ((b ∷ []) ∷ []) ((b ∷ []) ∷ []) ≡ (b ∷ cond t none none) ∷ pieces (drop (length (cond t none none)) none)) [ true ↦ refl | false ↦ refl ]
+first_piece_first (b ∷ c ∷ cs) some =
+    let rest = c ∷ cs in
+    elim (eqb b 10) as
+    (λ t. cond t ((b ∷ []) ∷ pieces rest) (in_front b (pieces rest)) ≡ (b ∷ cond t [] (first_piece rest)) ∷ pieces (drop (length (cond t [] (first_piece rest))) rest))
+    [ true ↦ refl | false ↦ ap (in_front b) (first_piece_first (c ∷ cs) (omega arith)) ]
+
+-- bytes that end with their only line feed are a piece, and what follows them has its own
+pub whole_piece_first : WholePieceComesFirst
+whole_piece_first [] rest one ended = absurd (false≢true ended)
+whole_piece_first (b ∷ bs) rest one ended =
+    let some : 0 < length ((b ∷ bs) ++ rest) = omega arith in
+    let first : first_piece ((b ∷ bs) ++ rest) ≡ b ∷ bs = first_piece-append_after (b ∷ bs) rest ended ∙ one in
+    let P = λ (first : List ℕ). pieces ((b ∷ bs) ++ rest) ≡ first ∷ pieces (drop (length first) ((b ∷ bs) ++ rest)) in
+    let split : P (b ∷ bs) = subst P first (first_piece_first ((b ∷ bs) ++ rest) some) in
+    split ∙ ap (λ r. (b ∷ bs) ∷ pieces r) (drop-append_seam (b ∷ bs) rest)
+
+-- bytes without a line feed are one piece, where there are any
+pub rest_one_piece : RestIsOnePiece
+rest_one_piece rest open_ some =
+    let P = λ (first : List ℕ). pieces rest ≡ first ∷ pieces (drop (length first) rest) in
+    let split : P rest = subst P (first_piece_open rest open_) (first_piece_first rest some) in
+    split ∙ ap (λ r. rest ∷ pieces r) (drop-length rest)
+
+-- one byte is a first piece
+first_piece_single : (b : ℕ) → first_piece (b ∷ []) ≡ b ∷ []
+first_piece_single b = let none : List ℕ = [] in elim (eqb b 10) as (λ t. (b ∷ cond t none none) ≡ b ∷ none) [ true ↦ refl | false ↦ refl ]
+
+-- after bytes without a line feed only what follows tells
+pub has_line_feed-append : (held bytes : List ℕ) → has_line_feed held ≡ false → has_line_feed (held ++ bytes) ≡ has_line_feed bytes
+has_line_feed-append held bytes open_ = list_any-append (λ b. eqb b 10) held bytes ∙ ap (λ t. t || has_line_feed bytes) open_
+
+has_line_feed-after : (held : List ℕ) (b : ℕ) → has_line_feed held ≡ false → has_line_feed (held ++ b ∷ []) ≡ eqb b 10
+has_line_feed-after held b open_ = has_line_feed-append held (b ∷ []) open_ ∙ elim (eqb b 10) as (λ t. (t || false) ≡ t) [ true ↦ refl | false ↦ refl ]
+
+-- pieces with a byte in front of the first are gathered as if that byte were held
+gathered-in_front : (held : List ℕ) (b : ℕ) (ps later : List (List ℕ)) → eqb b 10 ≡ false
+    → gathered held (in_front b ps ++ later) ≡ gathered (held ++ b ∷ []) (ps ++ later)
+gathered-in_front held b [] later other = rw other refl
+gathered-in_front held b (p ∷ ps) later other = rw (other, append_assoc) refl
+
+-- the pieces of one more chunk are gathered as they are cut, where that is so of the later chunks
+gathered-pieces : (later : List (List ℕ)) (rest : List ℕ)
+    → ((held : List ℕ) → has_line_feed held ≡ false → gathered held later ≡ pieces (held ++ rest))
+    → (held chunk : List ℕ) → has_line_feed held ≡ false → gathered held (pieces chunk ++ later) ≡ pieces (held ++ (chunk ++ rest))
+gathered-pieces later rest so held [] open_ = so held open_
+gathered-pieces later rest so held (b ∷ bs) open_ =
+    let onward : (held ++ b ∷ []) ++ (bs ++ rest) ≡ held ++ (b ∷ (bs ++ rest)) = append_assoc held (b ∷ []) (bs ++ rest) in
+    let marks : has_line_feed (held ++ b ∷ []) ≡ eqb b 10 = has_line_feed-after held b open_ in
+    elim (eqb b 10) as
+    (λ t. eqb b 10 ≡ t → gathered held (cond t ((b ∷ []) ∷ pieces bs) (in_front b (pieces bs)) ++ later) ≡ pieces (held ++ (b ∷ (bs ++ rest))))
+    [ true ↦ (λ ends. rw ends
+      (ap (λ r. (held ++ b ∷ []) ∷ r) (gathered-pieces later rest so [] bs refl)
+        ∙ (sym (whole_piece_first (held ++ b ∷ []) (bs ++ rest) (first_piece-append held (b ∷ []) open_ ∙ ap (λ r. held ++ r) (first_piece_single b)) (marks ∙ ends)) ∙ ap pieces onward)))
+    | false ↦ (λ other. gathered-in_front held b (pieces bs) later other ∙ (gathered-pieces later rest so (held ++ b ∷ []) bs (marks ∙ other) ∙ ap pieces onward))
+    ]
+    refl
+
+-- parts of chunks are gathered as the pieces of their bytes
+gathered-parts : (chunks : List (List ℕ)) (held : List ℕ) → has_line_feed held ≡ false → gathered held (parts chunks) ≡ pieces (held ++ concat chunks)
+gathered-parts [] [] open_ = refl
+gathered-parts [] (b ∷ bs) open_ = sym (ap pieces (append-nil (b ∷ bs)) ∙ rest_one_piece (b ∷ bs) open_ (omega arith))
+gathered-parts (chunk ∷ chunks) held open_ = gathered-pieces (parts chunks) (concat chunks) (gathered-parts chunks) held chunk open_
+
+-- however bytes are cut into chunks, the lines gathered from the chunks are the lines of the bytes
+pub gathered_as_cut : LinesIgnoreCuts
+gathered_as_cut chunks = ap (map line_of) (gathered-parts chunks [] refl)
+
+-- a first piece that has a byte is one piece
+pub one_piece_of : (bytes : List ℕ) → first_piece bytes ≡ bytes → 0 < length bytes → pieces bytes ≡ bytes ∷ []
+one_piece_of bytes one some =
+    let P = λ (first : List ℕ). pieces bytes ≡ first ∷ pieces (drop (length first) bytes) in
+    let split : P bytes = subst P one (first_piece_first bytes some) in
+    split ∙ ap (λ r. bytes ∷ pieces r) (drop-length bytes)
+
+-- what the search for a line feed finds is the end of the first piece
+pub first_piece_found : (bytes : List ℕ) (place : Option ℕ) → IsFirstByte (is_byte 10) bytes place
+    → MatchOption place (has_line_feed bytes ≡ false) (λ k. (take (k + 1) bytes ≡ first_piece bytes) × (has_line_feed bytes ≡ true))
+first_piece_found [] None found = refl
+first_piece_found [] (Some k) found = absurd (omega (arith, found.0.high))
+first_piece_found (b ∷ bs) None found =
+    let other : eqb b 10 ≡ false = false_from_ne_true (eqb b 10) (found 0 (omega arith) (omega arith)) in
+    rw other (first_piece_found bs None (λ k low high ends. found (suc k) (omega arith) (omega arith) ends))
+first_piece_found (b ∷ bs) (Some zero) found = let ends : eqb b 10 ≡ true = found.1 in (rw ends refl, rw ends refl)
+first_piece_found (b ∷ bs) (Some (suc k)) found =
+    let other : eqb b 10 ≡ false = false_from_ne_true (eqb b 10) (found.0.before 0 (omega arith) (omega arith)) in
+    let later : NoneBefore (Passes (is_byte 10) bs) 0 (length bs) k = record { low = omega arith; high = omega (arith, found.0.high); before = λ j low high ends. found.0.before (suc j) (omega arith) (omega arith) ends } in
+    let rest = first_piece_found bs (Some k) (later, found.1) in
+    (rw (other, add-one) (ap (λ r. b ∷ r) (rw add-one at rest.0)), rw other rest.1)
+
+-- what a feed takes, by what the search for a line feed finds
+pub front_found : (bytes : List ℕ) (place : Option ℕ) → IsFirstByte (is_byte 10) bytes place → MatchOption place
+    ((first_piece bytes ≡ bytes) × (has_line_feed (first_piece bytes) ≡ false))
+    (λ k. (take (k + 1) bytes ≡ first_piece bytes) × (k + 1 ≡ length (first_piece bytes)) × (has_line_feed (first_piece bytes) ≡ true))
+front_found bytes None found = let open_ = first_piece_found bytes None found in (first_piece_open bytes open_, has_line_feed-first_piece bytes ∙ open_)
+front_found bytes (Some k) found =
+    let ended = first_piece_found bytes (Some k) found in
+    let within : k + 1 ≤ length bytes = omega (arith, found.0.high) in
+    (ended.0, sym (length-take-le (k + 1) bytes within) ∙ ap length ended.0, has_line_feed-first_piece bytes ∙ ended.1)

@@ -1,0 +1,32 @@
+-- What holds of pieces, of lines and of refusals, whatever the bytes.
+use Rattle.std.specs.Prelude.{◌≡◌, ℕ, ◌<◌, true, false, Some, List, [], ◌∷◌, ◌++◌, length, drop}
+use Rattle.std.specs.List.{concat}
+use Rattle.hu_lines.specs.declared.limits.LineFault.{LineFault}
+use Rattle.hu_lines.specs.Pieces.{has_line_feed, first_piece, pieces, lines, gathered_lines}
+use Rattle.hu_lines.specs.Limits.{refusal}
+
+-- bytes that end with their only line feed are a piece, and what follows them has its own
+abbrev pub WholePieceComesFirst : Type 0
+WholePieceComesFirst = (piece rest : List ℕ) → first_piece piece ≡ piece → has_line_feed piece ≡ true → pieces (piece ++ rest) ≡ piece ∷ pieces rest
+
+-- bytes without a line feed are one piece, where there are any
+abbrev pub RestIsOnePiece : Type 0
+RestIsOnePiece = (rest : List ℕ) → has_line_feed rest ≡ false → 0 < length rest → pieces rest ≡ rest ∷ []
+
+-- bytes have their first piece, and then the pieces of what is left
+abbrev pub FirstPieceComesFirst : Type 0
+FirstPieceComesFirst = (bytes : List ℕ) → 0 < length bytes → pieces bytes ≡ first_piece bytes ∷ pieces (drop (length (first_piece bytes)) bytes)
+
+-- what is refused before its line ends stays refused, however the line goes on
+abbrev pub RefusalStands : Type 0
+RefusalStands = (number before : ℕ) (begun more : List ℕ) (fault : LineFault) → has_line_feed begun ≡ false
+    → refusal number before begun ≡ Some fault → refusal number before (begun ++ more) ≡ Some fault
+
+-- so it is of the first piece of bytes, whatever bytes come after them
+abbrev pub FirstRefusalStands : Type 0
+FirstRefusalStands = (number before : ℕ) (bytes more : List ℕ) (fault : LineFault)
+    → refusal number before (first_piece bytes) ≡ Some fault → refusal number before (first_piece (bytes ++ more)) ≡ Some fault
+
+-- however bytes are cut into chunks, the lines gathered from the chunks are the lines of the bytes
+abbrev pub LinesIgnoreCuts : Type 0
+LinesIgnoreCuts = (chunks : List (List ℕ)) → gathered_lines chunks ≡ lines (concat chunks)

@@ -1,0 +1,7 @@
+pub mod Pieces
+pub mod Limits
+pub mod Skipped
+pub mod Lines
+pub mod Held
+pub mod Laws
+pub mod Rows
