@@ -1,6 +1,6 @@
 -- A prefix grows by one item after another: the sets that begin with an item are the item alone and the sets that grow
 -- the prefix with it.
-use Rattle.std.proofs.Common.{◌≡◌, ℕ, suc, ◌<◌, ◌≤◌, ◌+◌, Bool, true, false, cond, eqb, ◌&&◌, ◌||◌, ℤ, pos, ◌+ℤ◌, List, [], ◌∷◌, ◌++◌, map, length, refl, sym, ap, ◌∙◌, subst, ◌⊎◌, inl, inr, arith, flat_map, count_by, append_assoc, append-nil}
+use Rattle.std.proofs.Common.{◌≡◌, ℕ, suc, ◌<◌, ◌≤◌, ◌+◌, Bool, true, false, cond, eqb, ◌&&◌, ◌||◌, ℤ, pos, ◌+ℤ◌, List, [], ◌∷◌, ◌++◌, map, length, refl, sym, ap, ◌∙◌, subst, ◌⊎◌, inl, inr, arith, flat_map, count_by, sum_by, unsigned_abs}
 use Rattle.std.specs.List.{AllByRecursion}
 use Rattle.std.proofs.lemmas.Int.{ints}
 use Rattle.std.proofs.lemmas.Bool.{eq-eqb, ne_eqb, cases_order, cases_eq}
@@ -9,8 +9,8 @@ use Rattle.hu_kind.specs.declared.entry.Entry.{Entry}
 use Rattle.hu_kind.specs.Record.{has, holds, value_of, values_of, items_in}
 use Rattle.hu_kind.specs.Database.{support}
 use Rattle.hu_kind.specs.Itemsets.{occurring_sets}
-use Rattle.hu_plain.specs.Row.{earned_in, earned, tails, grown_entry, grown_patterns, grown_row, grown_rows, Ascend}
-use Rattle.hu_plain.proofs.Members.{Member}
+use Rattle.hu_plain.specs.Row.{earned_in, earned, tails, grown_entry, grown_patterns, grown_row, grown_rows, weight_of, Ascend, AreRows}
+use Rattle.hu_plain.proofs.Members.{Member, Member-append_cases}
 
 -- a cell before all items of a set changes nothing
 holds-skip : (cell : ℕ × ℤ) (cells : List (ℕ × ℤ)) (items : List ℕ) → AllByRecursion (λ item. cell.0 < item) items → holds items (cell ∷ cells) ≡ holds items cells
@@ -151,3 +151,63 @@ pub Ascend-grown_rows : (item : ℕ) (rows : List (ℤ × List (ℕ × ℤ))) �
 Ascend-grown_rows item [] up = tt
 Ascend-grown_rows item (row ∷ rows) up = each-append (λ r. Ascend (items_in r.1)) (grown_row item row.0 row.1) (grown_rows item rows)
     (Ascend-grown_row item row.0 row.1 up.0) (Ascend-grown_rows item rows up.1)
+
+-- grown rows weigh no more
+weights-grown_row : (item : ℕ) (sum : ℤ) (cells : List (ℕ × ℤ)) → sum_by weight_of (grown_row item sum cells) ≤ weight_of (sum, cells)
+weights-grown_row item sum [] = omega arith
+weights-grown_row item sum (cell ∷ cells) =
+    let whole = sum_by-cons (λ (c : ℕ × ℤ). unsigned_abs c.1) cell cells in
+    elim (cases_eq item cell.0) [
+    inl e ↦ let yes : eqb item cell.0 ≡ true = eq-eqb item cell.0 e in rw yes (omega (arith, ints, whole))
+    | inr differs ↦ let no : eqb item cell.0 ≡ false = ne_eqb item cell.0 differs in rw no (omega (arith, whole, weights-grown_row item sum cells))
+    ]
+
+pub weights-grown_rows : (item : ℕ) (rows : List (ℤ × List (ℕ × ℤ))) → sum_by weight_of (grown_rows item rows) ≤ sum_by weight_of rows
+weights-grown_rows item [] = omega arith
+weights-grown_rows item (row ∷ rows) = omega (
+  arith,
+  sum_by-append weight_of (grown_row item row.0 row.1) (grown_rows item rows),
+  sum_by-cons weight_of row rows,
+  weights-grown_row item row.0 row.1,
+  weights-grown_rows item rows,
+)
+
+-- so a prefix grows from rows to rows
+pub AreRows-grown_rows : (item : ℕ) (rows : List (ℤ × List (ℕ × ℤ))) → AreRows rows → AreRows (grown_rows item rows)
+AreRows-grown_rows item rows are = record { ascending = Ascend-grown_rows item rows are.ascending; sum_fits = omega (arith, weights-grown_rows item rows, are.sum_fits) }
+
+-- how many cells stand after the prefix
+abbrev pub cells_in : List (ℤ × List (ℕ × ℤ)) → ℕ
+cells_in rows = sum_by (λ (row : ℤ × List (ℕ × ℤ)). length row.1) rows
+
+cells_in-grown_row : (item : ℕ) (sum : ℤ) (cells : List (ℕ × ℤ)) → (cells_in (grown_row item sum cells) ≤ length cells) × (Member item (items_in cells) → cells_in (grown_row item sum cells) < length cells)
+cells_in-grown_row item sum [] = (omega arith, λ m. absurd m)
+cells_in-grown_row item sum (cell ∷ cells) = elim (cases_eq item cell.0) [
+  inl e ↦ let yes : eqb item cell.0 ≡ true = eq-eqb item cell.0 e in rw yes (omega arith, λ m. omega arith)
+  | inr differs ↦
+    let no : eqb item cell.0 ≡ false = ne_eqb item cell.0 differs in
+    let ih = cells_in-grown_row item sum cells in
+    rw no (omega (arith, ih.0), λ m. omega (arith, ih.0))
+  ]
+
+cells_in-upto : (item : ℕ) (rows : List (ℤ × List (ℕ × ℤ))) → cells_in (grown_rows item rows) ≤ cells_in rows
+cells_in-upto item [] = omega arith
+cells_in-upto item (row ∷ rows) = omega (
+  arith,
+  sum_by-append (λ (r : ℤ × List (ℕ × ℤ)). length r.1) (grown_row item row.0 row.1) (grown_rows item rows),
+  sum_by-cons (λ (r : ℤ × List (ℕ × ℤ)). length r.1) row rows,
+  (cells_in-grown_row item row.0 row.1).0,
+  cells_in-upto item rows,
+)
+
+-- fewer after an item that occurs
+pub cells_in-grown_rows : (item : ℕ) (rows : List (ℤ × List (ℕ × ℤ))) → Member item (flat_map items_in (tails rows)) → cells_in (grown_rows item rows) < cells_in rows
+cells_in-grown_rows item [] m = absurd m
+cells_in-grown_rows item (row ∷ rows) m =
+    let apart = sum_by-append (λ (r : ℤ × List (ℕ × ℤ)). length r.1) (grown_row item row.0 row.1) (grown_rows item rows) in
+    let whole = sum_by-cons (λ (r : ℤ × List (ℕ × ℤ)). length r.1) row rows in
+    let one = cells_in-grown_row item row.0 row.1 in
+    elim (Member-append_cases item (items_in row.1) (flat_map items_in (tails rows)) m) [
+    inl here ↦ omega (arith, apart, whole, one.1 here, cells_in-upto item rows)
+    | inr there ↦ omega (arith, apart, whole, one.0, cells_in-grown_rows item rows there)
+    ]

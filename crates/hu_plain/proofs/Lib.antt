@@ -4,3 +4,4 @@ pub mod Growth
 pub mod Patterns
 pub mod CellLemmas
 pub mod RowLemmas
+pub mod SearchLemmas
