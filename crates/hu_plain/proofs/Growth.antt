@@ -11,6 +11,7 @@ use Rattle.hu_kind.specs.Database.{support}
 use Rattle.hu_kind.specs.Itemsets.{occurring_sets}
 use Rattle.hu_plain.specs.Row.{earned_in, earned, tails, grown_entry, grown_patterns, grown_row, grown_rows, weight_of, Ascend, AreRows}
 use Rattle.hu_plain.proofs.Members.{Member, Member-append_cases}
+use Rattle.hu_plain.proofs.Occurring.{above_all}
 
 -- a cell before all items of a set changes nothing
 holds-skip : (cell : ℕ × ℤ) (cells : List (ℕ × ℤ)) (items : List ℕ) → AllByRecursion (λ item. cell.0 < item) items → holds items (cell ∷ cells) ≡ holds items cells
@@ -32,10 +33,6 @@ has-before item (cell ∷ cells) above =
     let no : eqb item cell.0 ≡ false = ne_eqb item cell.0 (λ e. absurd (omega arith)) in
     simp (no, has-before item cells above.1)
 
-above-all : (x y : ℕ) (s : List ℕ) → x < y → AllByRecursion (λ z. y < z) s → AllByRecursion (λ z. x < z) s
-above-all x y [] h all = tt
-above-all x y (z ∷ s) h all = (omega arith, above-all x y s h all.1)
-
 -- the cell of the item itself
 earned-grown_row-here : (sum v : ℤ) (item : ℕ) (cells : List (ℕ × ℤ)) (items : List ℕ) (b : Bool) (w : ℤ) → cond b ((sum +ℤ v) +ℤ w) (pos 0) +ℤ pos 0 ≡ cond b (sum +ℤ (v +ℤ w)) (pos 0)
 earned-grown_row-here sum v item cells items true w = omega (arith, ints)
@@ -52,12 +49,12 @@ earned-grown_row item items sum (cell ∷ cells) up above = elim (cases_order it
     simp (yes, holds-skip cell cells items after, values_of-skip cell cells items after) (earned-grown_row-here sum cell.1 item cells items (holds items cells) (values_of items cells))
   | inr (inl before) ↦
     let no : eqb item cell.0 ≡ false = ne_eqb item cell.0 (λ e. absurd (omega arith)) in
-    let out : has item cells ≡ false = has-before item cells (above-all item cell.0 (items_in cells) before up.0) in
+    let out : has item cells ≡ false = has-before item cells (above_all item cell.0 (items_in cells) before up.0) in
     let ih = earned-grown_row item items sum cells up.1 above in
     simp (no, out) (ih ∙ simp out)
   | inr (inr past) ↦
     let no : eqb item cell.0 ≡ false = ne_eqb item cell.0 (λ e. absurd (omega arith)) in
-    let after : AllByRecursion (λ other. cell.0 < other) items = above-all cell.0 item items past above in
+    let after : AllByRecursion (λ other. cell.0 < other) items = above_all cell.0 item items past above in
     let ih = earned-grown_row item items sum cells up.1 above in
     simp (no, holds-skip cell cells items after, values_of-skip cell cells items after) ih
   ]
@@ -77,12 +74,12 @@ support-grown_row item items sum (cell ∷ cells) up above = elim (cases_order i
     simp (yes, holds-skip cell cells items after) (support-grown_row-here (holds items cells))
   | inr (inl before) ↦
     let no : eqb item cell.0 ≡ false = ne_eqb item cell.0 (λ e. absurd (omega arith)) in
-    let out : has item cells ≡ false = has-before item cells (above-all item cell.0 (items_in cells) before up.0) in
+    let out : has item cells ≡ false = has-before item cells (above_all item cell.0 (items_in cells) before up.0) in
     let ih = support-grown_row item items sum cells up.1 above in
     simp (no, out) (ih ∙ simp out)
   | inr (inr past) ↦
     let no : eqb item cell.0 ≡ false = ne_eqb item cell.0 (λ e. absurd (omega arith)) in
-    let after : AllByRecursion (λ other. cell.0 < other) items = above-all cell.0 item items past above in
+    let after : AllByRecursion (λ other. cell.0 < other) items = above_all cell.0 item items past above in
     let ih = support-grown_row item items sum cells up.1 above in
     simp (no, holds-skip cell cells items after) ih
   ]

@@ -96,9 +96,9 @@ tail_members x xs [] up all = tt
 tail_members x xs (y ∷ ys) up (inl e, rest) = absurd (omega arith)
 tail_members x xs (y ∷ ys) up (inr m, rest) = (m, tail_members x xs ys up.1 rest)
 
-above-all : (x y : ℕ) (s : List ℕ) → x < y → AllByRecursion (λ z. y < z) s → AllByRecursion (λ z. x < z) s
-above-all x y [] h all = tt
-above-all x y (z ∷ s) h all = (omega arith, above-all x y s h all.1)
+pub above_all : (x y : ℕ) (s : List ℕ) → x < y → AllByRecursion (λ z. y < z) s → AllByRecursion (λ z. x < z) s
+above_all x y [] h all = tt
+above_all x y (z ∷ s) h all = (omega arith, above_all x y s h all.1)
 
 pub Member-sublists : (xs s : List ℕ) → Ascend xs → Ascend s → AllByRecursion (λ y. Member y xs) s → Member s (sublists xs)
 Member-sublists [] [] up rise all = inl refl
@@ -110,7 +110,7 @@ Member-sublists (x ∷ xs) (y ∷ ys) up rise (inl e, rest) =
     Member-append_right (y ∷ ys) (sublists xs) (map (λ r. x ∷ r) (sublists xs)) (subst (λ w. Member (w ∷ ys) (map (λ r. x ∷ r) (sublists xs))) e (Member-map (λ r. x ∷ r) ys (sublists xs) m))
 Member-sublists (x ∷ xs) (y ∷ ys) up rise (inr m, rest) =
     let low : x < y = at_member (λ w. x < w) y xs up.0 m in
-    let above : AllByRecursion (λ z. x < z) (y ∷ ys) = (low, above-all x y ys low rise.0) in
+    let above : AllByRecursion (λ z. x < z) (y ∷ ys) = (low, above_all x y ys low rise.0) in
     Member-append_left (y ∷ ys) (sublists xs) (map (λ r. x ∷ r) (sublists xs)) (Member-sublists xs (y ∷ ys) up.1 rise (tail_members x xs (y ∷ ys) above (inr m, rest)))
 
 -- a count above 0 has a member that passes

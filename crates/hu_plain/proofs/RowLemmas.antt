@@ -1,6 +1,6 @@
 -- Rows, by their places.
 use Rattle.std.proofs.Common.{◌≡◌, ℕ, zero, suc, ◌<◌, ◌≤◌, ◌+◌, ◌^◌, Bool, true, ℤ, pos, ◌+ℤ◌, unsigned_abs, List, [], ◌∷◌, ◌++◌, map, length, get_or, take, refl, sym, ap, ◌∙◌, subst, arith, sum_by, flat_map, nat_eq, Contains, ◌↔◌, IsPermutation}
-use Rattle.std.specs.List.{AllByRecursion, dedup}
+use Rattle.std.specs.List.{AllByRecursion, AllAdjacentBelow, dedup}
 use Rattle.std.specs.List.Retain.{IsFiltered, DiffersFromLast}
 use Rattle.std.specs.Ordering.{on}
 use Rattle.std.proofs.lemmas.Int.{ints}
@@ -14,10 +14,11 @@ use Rattle.std.proofs.lemmas.List.Sorted.{Contains-permutation, IsPermutation-sy
 use Rattle.hu_kind.specs.declared.item.Item.{Item}
 use Rattle.hu_kind.specs.declared.item.Cell.{Cell}
 use Rattle.hu_kind.specs.Cell.{pairs_of}
-use Rattle.hu_kind.specs.Record.{items_in}
+use Rattle.hu_kind.specs.Record.{items_in, absolute_of, IsRecord}
 use Rattle.hu_plain.specs.declared.row.Row.{Row}
-use Rattle.hu_plain.specs.Row.{earned, tails, weight_of}
-use Rattle.hu_plain.specs.Kept.{row_of, rows_of, item_of, numbers_of, AreLaterItems}
+use Rattle.hu_plain.specs.Row.{earned, tails, weight_of, Ascend, AreRows}
+use Rattle.hu_plain.specs.Kept.{row_of, rows_of, first_row, item_of, numbers_of, AreLaterItems}
+use Rattle.hu_plain.proofs.Occurring.{above_all}
 use Rattle.hu_plain.proofs.Members.{Member, Member-map, Member-from_map, Contains-from_member, Member-from_contains}
 
 -- what holds of each row holds of the row at a place
@@ -95,3 +96,32 @@ AreLaterItems-from rows items sorted kept is moved filtered number = (to, from)
         let in_kept = Contains-dedup (on_equiv (λ (item : Item). item.0) nat_eq_equiv) exact_item sorted found.0 in_sorted in
         let m' = Member-map (λ (item : Item). item.0) found.0 kept (Member-from_contains found.0 kept (subst (λ xs. Contains xs found.0) (sym kept_is) in_kept)) in
         Contains-from_member number (numbers_of kept) (subst (λ n. Member n (numbers_of kept)) found.2 m')
+
+-- the cells of a record ascend
+Ascend-from : (first : ℕ × ℤ) (cells : List (ℕ × ℤ)) → AllAdjacentBelow (λ a b. a.0 < b.0) (first ∷ cells) (length (first ∷ cells)) → Ascend (items_in (first ∷ cells))
+Ascend-from first [] up = (tt, tt)
+Ascend-from first (next ∷ cells) up =
+    let up' : AllAdjacentBelow (λ (a b : ℕ × ℤ). a.0 < b.0) (next ∷ cells) (length (next ∷ cells)) =
+        λ k d within. let e : suc k + 1 ≡ suc (k + 1) = omega arith in subst (λ j. (get_or (next ∷ cells) k d).0 < (get_or (first ∷ next ∷ cells) j d).0) e (up (suc k) d (omega arith)) in
+    let rest = Ascend-from next cells up' in
+    let before : first.0 < next.0 = up 0 first (omega arith) in
+    ((before, above_all first.0 next.0 (items_in cells) before rest.0), rest)
+
+pub Ascend-record : (cells : List (ℕ × ℤ)) → IsRecord cells → Ascend (items_in cells)
+Ascend-record [] is = tt
+Ascend-record (first ∷ cells) is = Ascend-from first cells is.itemset.ascending
+
+-- one more row whose cells ascend
+pub ascending_push : (rows : List Row) (row : Row) (cells : List (ℕ × ℤ)) → AllByRecursion (λ r. Ascend (items_in r.1)) (rows_of rows) → IsRecord cells → pairs_of row.tail.now ≡ cells
+    → AllByRecursion (λ r. Ascend (items_in r.1)) (rows_of (rows ++ row ∷ []))
+ascending_push [] row cells all is same = (subst (λ cs. Ascend (items_in cs)) (sym same) (Ascend-record cells is), tt)
+ascending_push (r ∷ rows) row cells all is same = (all.0, ascending_push rows row cells all.1 is same)
+
+-- the rows of the empty prefix weigh as much as the records
+weights-first : (records : List (List (ℕ × ℤ))) → sum_by weight_of (map first_row records) ≡ sum_by absolute_of records
+weights-first [] = refl
+weights-first (r ∷ records) = omega (arith, sum_by-cons weight_of (first_row r) (map first_row records), sum_by-cons absolute_of r records, weights-first records)
+
+pub AreRows-first : (rows : List Row) (records : List (List (ℕ × ℤ))) → rows_of rows ≡ map first_row records → AllByRecursion (λ r. Ascend (items_in r.1)) (rows_of rows)
+    → sum_by absolute_of records < 2 ^ 127 → AreRows (rows_of rows)
+AreRows-first rows records is up fits = record { ascending = up; sum_fits = omega (arith, ap (sum_by weight_of) is, weights-first records, fits) }

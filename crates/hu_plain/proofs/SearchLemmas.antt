@@ -8,15 +8,16 @@ use Rattle.std.proofs.lemmas.List.Sums.{sum_by-cons}
 use Rattle.hu_kind.specs.declared.entry.Entry.{Entry}
 use Rattle.hu_kind.specs.Record.{holds, items_in}
 use Rattle.hu_kind.specs.Database.{support}
+use Rattle.hu_kind.specs.Itemsets.{item_patterns}
 use Rattle.hu_collect.specs.Rule.{Rule, made, IsKept}
 use Rattle.hu_collect.specs.Laws.{MakesInTurn, MakesByMembers, SameMembers}
 use Rattle.hu_plain.specs.declared.row.Row.{Row}
 use Rattle.hu_plain.specs.Row.{earned, tails, grown_entry, grown_patterns, grown_rows, Ascend, AreRows}
 use Rattle.hu_kind.specs.declared.item.Item.{Item}
-use Rattle.hu_plain.specs.Kept.{rows_of, row_of, numbers_of, AreLaterItems}
+use Rattle.hu_plain.specs.Kept.{rows_of, row_of, first_row, numbers_of, AreLaterItems}
 use Rattle.hu_plain.specs.Makes.{MakesSome}
 use Rattle.hu_plain.proofs.Members.{Member, Member-append_cases, Member-flat_map, Member-from_flat_map, Member-from_contains, Contains-from_member}
-use Rattle.hu_plain.proofs.Patterns.{patterns_from, patterns_from-grown, grown-patterns_from}
+use Rattle.hu_plain.proofs.Patterns.{patterns_from, patterns_from-grown, grown-patterns_from, item_patterns-grown}
 
 -- all rows hold the prefix
 support-all : (rows : List Row) → support (tails (rows_of rows)) [] ≡ length rows
@@ -186,3 +187,11 @@ popped (Some m) old new p n e empty last = (same_from_push new p m n (sym last �
 
 pub rows_from : (found grown : List Row) (rows : List (ℤ × List (ℕ × ℤ))) → found ≡ grown → rows_of grown ≡ rows → rows_of found ≡ rows
 rows_from found grown rows e r = ap rows_of e ∙ r
+
+-- the patterns that grow the empty prefix in all records are those of the records
+pub patterns-first : (prefix : List ℤ) (found rows : List Row) (records given : List (List (ℕ × ℤ))) → prefix ≡ [] → found ≡ rows → rows_of rows ≡ map first_row given → given ≡ records
+    → grown_patterns prefix (rows_of found) ≡ item_patterns records
+patterns-first prefix found rows records given p f r g =
+    ap (λ q. grown_patterns q (rows_of found)) p
+    ∙ ap (λ rs. grown_patterns [] rs) (ap rows_of f ∙ r ∙ ap (λ ds. map first_row ds) g)
+    ∙ item_patterns-grown records

@@ -1,9 +1,10 @@
 //! Rows: the records that hold a prefix.
 
 ghost use Rattle.std.specs.Prelude.{◌≡◌, ◌<◌, ◌≤◌, ◌^◌, [], ◌++◌, map, length, IfOk, OnOk, option_map, option_to_list};
+ghost use Rattle.std.specs.List.{sum_by};
 ghost use Rattle.std.specs.List.Sorted.{IsPartitionPoint};
 ghost use Rattle.hu_kind.specs.Cell.{pairs_of};
-ghost use Rattle.hu_kind.specs.Record.{items_in};
+ghost use Rattle.hu_kind.specs.Record.{items_in, absolute_of};
 ghost use Rattle.hu_plain.specs.Row.{earned, grown_row, grown_rows, weight_of, Ascend, AreRows};
 ghost use Rattle.hu_plain.specs.Kept.{row_of, rows_of, first_row, item_of, AreLaterItems};
 
@@ -47,7 +48,9 @@ fn place_of(cells: &[Cell], item: Item) -> usize
 
 /// The rows of the empty prefix: each record with all its cells.
 pub(crate) fn first_rows(alloc: Global, records: &[Record]) -> Result<Vec<Row<'_>>, NoMemory>
-    ensures { IfOk result (λ rows. rows_of rows.items ≡ map first_row records.now) }
+    requires { sum_by absolute_of records.now < 2 ^ 127 }
+    ensures value { IfOk result (λ rows. rows_of rows.items ≡ map first_row records.now) }
+    ensures rules { IfOk result (λ rows. AreRows (rows_of rows.items)) }
 {
     let mut rows = Vec::new(alloc);
     for record in records {
