@@ -1,10 +1,10 @@
 -- What the bytes that a `Lines` holds keep, from call to call.
-use Rattle.std.proofs.Common.{◌≡◌, ℕ, ◌+◌, ◌<◌, ◌≤◌, Bool, true, false, cond, inl, inr, length-append, List, [], ◌∷◌, ◌++◌, length, refl, sym, ap, subst, ◌∙◌, arith, rules, Option, None, Some}
-use Rattle.std.specs.Prelude.{IsSome, map, ◌⊎◌}
+use Rattle.std.proofs.Common.{◌≡◌, ℕ, ◌+◌, ◌<◌, ◌≤◌, true, false, inl, inr, length-append, List, [], ◌∷◌, ◌++◌, length, refl, sym, ap, ◌∙◌, arith, None}
+use Rattle.std.specs.Prelude.{map}
 use Rattle.std.specs.Option.{is_some}
 use Rattle.std.proofs.lemmas.Bool.{false≢true}
 use Rattle.hu_lines.specs.declared.limits.TheConstants.{LONGEST_LINE, LARGEST_INPUT}
-use Rattle.hu_lines.specs.Pieces.{has_line_feed, first_piece, body_of, line_of, lines, pieces}
+use Rattle.hu_lines.specs.Pieces.{has_line_feed, first_piece, body_of, line_of, lines}
 use Rattle.hu_lines.specs.Limits.{refusal}
 use Rattle.hu_lines.specs.declared.lines.Lines.TheInside.{Inside}
 use Rattle.hu_lines.specs.Held.{state_of, IsKept}

@@ -1,7 +1,7 @@
 -- Worked rows: small texts with their pieces, lines and refusals, by computation.
-use Rattle.std.specs.Prelude.{◌≡◌, ℕ, true, false, None, Some, List, [], ◌∷◌, codes, refl}
+use Rattle.std.specs.Prelude.{◌≡◌, true, false, None, Some, [], ◌∷◌, refl}
 use Rattle.hu_lines.specs.declared.limits.LineFault.TheVariants.{LineTooLong, InputTooLarge}
-use Rattle.hu_lines.specs.Pieces.{first_piece, pieces, line_of, lines, parts, gathered_lines}
+use Rattle.hu_lines.specs.Pieces.{pieces, lines, gathered_lines}
 use Rattle.hu_lines.specs.Limits.{refusal_under}
 use Rattle.hu_lines.specs.Skipped.{is_skipped_line}
 

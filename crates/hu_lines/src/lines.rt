@@ -128,8 +128,8 @@ impl Lines {
         self.whole = false;
     }
 
-    /// The limit that the line passes with more bytes, of which the last is a line feed where they are the `whole` rest.
-    #[tactic(auto, using(crate::proofs::HeldLemmas::kept_within, crate::proofs::LimitLemmas::refusal_by_length))]
+    /// The limit that the line passes with these bytes, of which the last is a line feed where they make it `whole`.
+    #[tactic(auto, using(crate::proofs::HeldLemmas::kept_within))]
     fn passed_limit(&self, taken: &[u8], whole: bool) -> Option<LineFault>
         requires begun { self.now.whole ≡ false }
         requires one { first_piece taken.now ≡ taken.now }
@@ -141,7 +141,7 @@ impl Lines {
     }
 
     /// Adds bytes to the line, for which there is room where they pass no limit.
-    #[tactic(auto, using(crate::proofs::HeldLemmas::held_grown, crate::proofs::HeldLemmas::held_room))]
+    #[tactic(auto, using(crate::proofs::HeldLemmas::held_room))]
     fn grow(&mut self, taken: &[u8], whole: bool)
         requires begun { self.old.whole ≡ false }
         requires accepted { self.old.refused ≡ None }
@@ -169,7 +169,7 @@ impl Lines {
     }
 
     /// The line, without its line feed and without one carriage return at its end.
-    #[tactic(auto, using(crate::proofs::HeldLemmas::held_line, crate::proofs::HeldLemmas::held_short))]
+    #[tactic(auto, using(crate::proofs::HeldLemmas::held_line))]
     pub fn line(&self) -> &[u8]
         requires { HasLine self.now }
         ensures value { result.now ≡ line_of self.now.bytes }
@@ -215,7 +215,6 @@ fn limit_passed(number: u64, before: u64, body: u64, all: u64) -> Option<LineFau
 }
 
 /// What a feed takes of a piece: the bytes up to and with its first line feed, all of them where it has none.
-#[tactic(auto, using(crate::proofs::PieceLemmas::front_found))]
 fn front_of(piece: &[u8]) -> Fed
     ensures taken { result.taken ≡ length (first_piece piece.now) }
     ensures front { take result.taken piece.now ≡ first_piece piece.now }
