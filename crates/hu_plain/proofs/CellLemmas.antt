@@ -1,12 +1,12 @@
 -- The cells of a row, by their places.
-use Rattle.std.proofs.Common.{◌≡◌, ℕ, zero, suc, ◌<◌, ◌≤◌, ◌+◌, ◌^◌, Bool, true, false, cond, eqb, ltb, ℤ, pos, ◌+ℤ◌, unsigned_abs, List, [], ◌∷◌, map, length, get_or, drop, take, refl, sym, ap, ◌∙◌, subst, inl, inr, arith, sum_by, add-one, ◌-◌, length-drop}
+use Rattle.std.proofs.Common.{◌≡◌, ℕ, zero, suc, ◌<◌, ◌≤◌, ◌+◌, true, false, eqb, ℤ, ◌+ℤ◌, unsigned_abs, List, [], ◌∷◌, length, get_or, drop, take, refl, sym, ap, ◌∙◌, inl, inr, arith, add-one, ◌-◌, length-drop}
 use Rattle.std.proofs.lemmas.List.{take_all}
 use Rattle.std.specs.List.{AllByRecursion}
 use Rattle.std.specs.List.Sorted.{IsPartitionPoint, IsNonDecreasingBy}
 use Rattle.std.proofs.lemmas.Bool.{eq-eqb, ne_eqb, cases_lt, cases_order}
 use Rattle.std.proofs.lemmas.List.Sums.{sum_by-cons}
 use Rattle.hu_kind.specs.declared.item.Cell.{Cell}
-use Rattle.hu_kind.specs.Cell.{pairs_of, pair_of, absolute_value}
+use Rattle.hu_kind.specs.Cell.{pairs_of, pair_of}
 use Rattle.hu_kind.specs.Record.{items_in, absolute_of}
 use Rattle.hu_plain.specs.Row.{grown_row, Ascend}
 
@@ -25,9 +25,9 @@ rises (cell ∷ cells) (suc i) (suc j) d up before within = rises cells i j d up
 -- they don't fall
 pub IsNonDecreasingBy-ascend : (cells : List Cell) → Ascend (items_in (pairs_of cells)) → IsNonDecreasingBy (λ cell. cell.item.0) cells
 IsNonDecreasingBy-ascend cells up i j d upto within = elim (cases_lt i j) [
-  inl before ↦ let rise = rises cells i j d up before within in omega arith
+  | inl before ↦ let rise = rises cells i j d up before within in omega arith
   | inr after ↦ let same : i ≡ j = omega arith in rw same (omega arith)
-  ]
+]
 
 -- the row grown by the item at a place
 pub grown_row-at : (item : ℕ) (sum : ℤ) (cells : List Cell) (k : ℕ) (d : Cell) → Ascend (items_in (pairs_of cells)) → k < length cells → (get_or cells k d).item.0 ≡ item
@@ -57,13 +57,13 @@ grown_row-past item sum cells place up split other = grown_row-none item sum cel
   where
     absent : (k : ℕ) (d : Cell) → k < length cells → (get_or cells k d).item.0 ≡ item → ⊥
     absent k d within e = elim (cases_order k place) [
-      inl here ↦ other d (omega arith) (ap (λ i. (get_or cells i d).item.0) (sym here) ∙ e)
+      | inl here ↦ other d (omega arith) (ap (λ i. (get_or cells i d).item.0) (sym here) ∙ e)
       | inr (inl before) ↦ let low = split.0 k d (omega arith) before in omega arith
       | inr (inr after) ↦
-        let low = split.1 place d (omega arith) (omega arith) in
-        let rise = rises cells place k d up after within in
-        omega arith
-      ]
+          let low = split.1 place d (omega arith) (omega arith) in
+          let rise = rises cells place k d up after within in
+          omega arith
+    ]
 
 -- a cell's value is within the sum
 pub absolute_of-at : (cells : List Cell) (k : ℕ) (d : Cell) → k < length cells → unsigned_abs (get_or cells k d).value + absolute_of (pairs_of (drop (suc k) cells)) ≤ absolute_of (pairs_of cells)

@@ -1,15 +1,13 @@
 -- A prefix grows by one item after another: the sets that begin with an item are the item alone and the sets that grow
 -- the prefix with it.
-use Rattle.std.proofs.Common.{◌≡◌, ℕ, suc, ◌<◌, ◌≤◌, ◌+◌, Bool, true, false, cond, eqb, ◌&&◌, ◌||◌, ℤ, pos, ◌+ℤ◌, List, [], ◌∷◌, ◌++◌, map, length, refl, sym, ap, ◌∙◌, subst, ◌⊎◌, inl, inr, arith, flat_map, count_by, sum_by, unsigned_abs}
+use Rattle.std.proofs.Common.{◌≡◌, ℕ, ◌<◌, ◌≤◌, ◌+◌, Bool, true, false, cond, eqb, ℤ, pos, ◌+ℤ◌, List, [], ◌∷◌, ◌++◌, length, refl, sym, ap, ◌∙◌, subst, inl, inr, arith, flat_map, sum_by, unsigned_abs}
 use Rattle.std.specs.List.{AllByRecursion}
 use Rattle.std.proofs.lemmas.Int.{ints}
 use Rattle.std.proofs.lemmas.Bool.{eq-eqb, ne_eqb, cases_order, cases_eq}
 use Rattle.std.proofs.lemmas.List.Sums.{sum_by-cons, sum_by-append}
-use Rattle.hu_kind.specs.declared.entry.Entry.{Entry}
-use Rattle.hu_kind.specs.Record.{has, holds, value_of, values_of, items_in}
+use Rattle.hu_kind.specs.Record.{has, holds, values_of, items_in}
 use Rattle.hu_kind.specs.Database.{support}
-use Rattle.hu_kind.specs.Itemsets.{occurring_sets}
-use Rattle.hu_plain.specs.Row.{earned_in, earned, tails, grown_entry, grown_patterns, grown_row, grown_rows, weight_of, Ascend, AreRows}
+use Rattle.hu_plain.specs.Row.{earned_in, earned, tails, grown_row, grown_rows, weight_of, Ascend, AreRows}
 use Rattle.hu_plain.proofs.Members.{Member, Member-append_cases}
 use Rattle.hu_plain.proofs.Occurring.{above_all}
 
@@ -43,21 +41,21 @@ pub earned-grown_row : (item : ℕ) (items : List ℕ) (sum : ℤ) (cells : List
     → earned (grown_row item sum cells) items ≡ earned_in (item ∷ items) (sum, cells)
 earned-grown_row item items sum [] up above = refl
 earned-grown_row item items sum (cell ∷ cells) up above = elim (cases_order item cell.0) [
-  inl e ↦
-    let yes : eqb item cell.0 ≡ true = eq-eqb item cell.0 e in
-    let after : AllByRecursion (λ other. cell.0 < other) items = subst (λ x. AllByRecursion (λ other. x < other) items) e above in
-    simp (yes, holds-skip cell cells items after, values_of-skip cell cells items after) (earned-grown_row-here sum cell.1 item cells items (holds items cells) (values_of items cells))
+  | inl e ↦
+      let yes : eqb item cell.0 ≡ true = eq-eqb item cell.0 e in
+      let after : AllByRecursion (λ other. cell.0 < other) items = subst (λ x. AllByRecursion (λ other. x < other) items) e above in
+      simp (yes, holds-skip cell cells items after, values_of-skip cell cells items after) (earned-grown_row-here sum cell.1 item cells items (holds items cells) (values_of items cells))
   | inr (inl before) ↦
-    let no : eqb item cell.0 ≡ false = ne_eqb item cell.0 (λ e. absurd (omega arith)) in
-    let out : has item cells ≡ false = has-before item cells (above_all item cell.0 (items_in cells) before up.0) in
-    let ih = earned-grown_row item items sum cells up.1 above in
-    simp (no, out) (ih ∙ simp out)
+      let no : eqb item cell.0 ≡ false = ne_eqb item cell.0 (λ e. absurd (omega arith)) in
+      let out : has item cells ≡ false = has-before item cells (above_all item cell.0 (items_in cells) before up.0) in
+      let ih = earned-grown_row item items sum cells up.1 above in
+      simp (no, out) (ih ∙ simp out)
   | inr (inr past) ↦
-    let no : eqb item cell.0 ≡ false = ne_eqb item cell.0 (λ e. absurd (omega arith)) in
-    let after : AllByRecursion (λ other. cell.0 < other) items = above_all cell.0 item items past above in
-    let ih = earned-grown_row item items sum cells up.1 above in
-    simp (no, holds-skip cell cells items after, values_of-skip cell cells items after) ih
-  ]
+      let no : eqb item cell.0 ≡ false = ne_eqb item cell.0 (λ e. absurd (omega arith)) in
+      let after : AllByRecursion (λ other. cell.0 < other) items = above_all cell.0 item items past above in
+      let ih = earned-grown_row item items sum cells up.1 above in
+      simp (no, holds-skip cell cells items after, values_of-skip cell cells items after) ih
+]
 
 -- as many grown rows hold the rest as rows hold the set
 support-grown_row-here : (b : Bool) → 0 + cond b 1 0 ≡ cond b 1 0
@@ -68,21 +66,21 @@ pub support-grown_row : (item : ℕ) (items : List ℕ) (sum : ℤ) (cells : Lis
     → support (tails (grown_row item sum cells)) items ≡ cond (holds (item ∷ items) cells) 1 0
 support-grown_row item items sum [] up above = refl
 support-grown_row item items sum (cell ∷ cells) up above = elim (cases_order item cell.0) [
-  inl e ↦
-    let yes : eqb item cell.0 ≡ true = eq-eqb item cell.0 e in
-    let after : AllByRecursion (λ other. cell.0 < other) items = subst (λ x. AllByRecursion (λ other. x < other) items) e above in
-    simp (yes, holds-skip cell cells items after) (support-grown_row-here (holds items cells))
+  | inl e ↦
+      let yes : eqb item cell.0 ≡ true = eq-eqb item cell.0 e in
+      let after : AllByRecursion (λ other. cell.0 < other) items = subst (λ x. AllByRecursion (λ other. x < other) items) e above in
+      simp (yes, holds-skip cell cells items after) (support-grown_row-here (holds items cells))
   | inr (inl before) ↦
-    let no : eqb item cell.0 ≡ false = ne_eqb item cell.0 (λ e. absurd (omega arith)) in
-    let out : has item cells ≡ false = has-before item cells (above_all item cell.0 (items_in cells) before up.0) in
-    let ih = support-grown_row item items sum cells up.1 above in
-    simp (no, out) (ih ∙ simp out)
+      let no : eqb item cell.0 ≡ false = ne_eqb item cell.0 (λ e. absurd (omega arith)) in
+      let out : has item cells ≡ false = has-before item cells (above_all item cell.0 (items_in cells) before up.0) in
+      let ih = support-grown_row item items sum cells up.1 above in
+      simp (no, out) (ih ∙ simp out)
   | inr (inr past) ↦
-    let no : eqb item cell.0 ≡ false = ne_eqb item cell.0 (λ e. absurd (omega arith)) in
-    let after : AllByRecursion (λ other. cell.0 < other) items = above_all cell.0 item items past above in
-    let ih = support-grown_row item items sum cells up.1 above in
-    simp (no, holds-skip cell cells items after) ih
-  ]
+      let no : eqb item cell.0 ≡ false = ne_eqb item cell.0 (λ e. absurd (omega arith)) in
+      let after : AllByRecursion (λ other. cell.0 < other) items = above_all cell.0 item items past above in
+      let ih = support-grown_row item items sum cells up.1 above in
+      simp (no, holds-skip cell cells items after) ih
+]
 
 -- the same over all rows
 earned-append : (xs ys : List (ℤ × List (ℕ × ℤ))) (items : List ℕ) → earned (xs ++ ys) items ≡ earned xs items +ℤ earned ys items
@@ -122,14 +120,14 @@ above-grown_row : (item : ℕ) (sum : ℤ) (cells : List (ℕ × ℤ)) → Ascen
     → AllByRecursion (λ row. AllByRecursion (λ other. item < other) (items_in row.1)) (grown_row item sum cells)
 above-grown_row item sum [] up = tt
 above-grown_row item sum (cell ∷ cells) up = elim (cases_eq item cell.0) [
-  inl e ↦
-    let yes : eqb item cell.0 ≡ true = eq-eqb item cell.0 e in
-    let after : AllByRecursion (λ other. item < other) (items_in cells) = subst (λ x. AllByRecursion (λ other. x < other) (items_in cells)) (sym e) up.0 in
-    rw yes (after, tt)
+  | inl e ↦
+      let yes : eqb item cell.0 ≡ true = eq-eqb item cell.0 e in
+      let after : AllByRecursion (λ other. item < other) (items_in cells) = subst (λ x. AllByRecursion (λ other. x < other) (items_in cells)) (sym e) up.0 in
+      rw yes (after, tt)
   | inr differs ↦
-    let no : eqb item cell.0 ≡ false = ne_eqb item cell.0 differs in
-    rw no (above-grown_row item sum cells up.1)
-  ]
+      let no : eqb item cell.0 ≡ false = ne_eqb item cell.0 differs in
+      rw no (above-grown_row item sum cells up.1)
+]
 
 pub above-grown_rows : (item : ℕ) (rows : List (ℤ × List (ℕ × ℤ))) → AllByRecursion (λ row. Ascend (items_in row.1)) rows
     → AllByRecursion (λ row. AllByRecursion (λ other. item < other) (items_in row.1)) (grown_rows item rows)
@@ -140,9 +138,9 @@ above-grown_rows item (row ∷ rows) up = each-append (λ r. AllByRecursion (λ 
 Ascend-grown_row : (item : ℕ) (sum : ℤ) (cells : List (ℕ × ℤ)) → Ascend (items_in cells) → AllByRecursion (λ row. Ascend (items_in row.1)) (grown_row item sum cells)
 Ascend-grown_row item sum [] up = tt
 Ascend-grown_row item sum (cell ∷ cells) up = elim (cases_eq item cell.0) [
-  inl e ↦ let yes : eqb item cell.0 ≡ true = eq-eqb item cell.0 e in rw yes (up.1, tt)
+  | inl e ↦ let yes : eqb item cell.0 ≡ true = eq-eqb item cell.0 e in rw yes (up.1, tt)
   | inr differs ↦ let no : eqb item cell.0 ≡ false = ne_eqb item cell.0 differs in rw no (Ascend-grown_row item sum cells up.1)
-  ]
+]
 
 pub Ascend-grown_rows : (item : ℕ) (rows : List (ℤ × List (ℕ × ℤ))) → AllByRecursion (λ row. Ascend (items_in row.1)) rows → AllByRecursion (λ row. Ascend (items_in row.1)) (grown_rows item rows)
 Ascend-grown_rows item [] up = tt
@@ -155,8 +153,8 @@ weights-grown_row item sum [] = omega arith
 weights-grown_row item sum (cell ∷ cells) =
     let whole = sum_by-cons (λ (c : ℕ × ℤ). unsigned_abs c.1) cell cells in
     elim (cases_eq item cell.0) [
-    inl e ↦ let yes : eqb item cell.0 ≡ true = eq-eqb item cell.0 e in rw yes (omega (arith, ints, whole))
-    | inr differs ↦ let no : eqb item cell.0 ≡ false = ne_eqb item cell.0 differs in rw no (omega (arith, whole, weights-grown_row item sum cells))
+      | inl e ↦ let yes : eqb item cell.0 ≡ true = eq-eqb item cell.0 e in rw yes (omega (arith, ints, whole))
+      | inr differs ↦ let no : eqb item cell.0 ≡ false = ne_eqb item cell.0 differs in rw no (omega (arith, whole, weights-grown_row item sum cells))
     ]
 
 pub weights-grown_rows : (item : ℕ) (rows : List (ℤ × List (ℕ × ℤ))) → sum_by weight_of (grown_rows item rows) ≤ sum_by weight_of rows
@@ -180,12 +178,12 @@ cells_in rows = sum_by (λ (row : ℤ × List (ℕ × ℤ)). length row.1) rows
 cells_in-grown_row : (item : ℕ) (sum : ℤ) (cells : List (ℕ × ℤ)) → (cells_in (grown_row item sum cells) ≤ length cells) × (Member item (items_in cells) → cells_in (grown_row item sum cells) < length cells)
 cells_in-grown_row item sum [] = (omega arith, λ m. absurd m)
 cells_in-grown_row item sum (cell ∷ cells) = elim (cases_eq item cell.0) [
-  inl e ↦ let yes : eqb item cell.0 ≡ true = eq-eqb item cell.0 e in rw yes (omega arith, λ m. omega arith)
+  | inl e ↦ let yes : eqb item cell.0 ≡ true = eq-eqb item cell.0 e in rw yes (omega arith, λ m. omega arith)
   | inr differs ↦
-    let no : eqb item cell.0 ≡ false = ne_eqb item cell.0 differs in
-    let ih = cells_in-grown_row item sum cells in
-    rw no (omega (arith, ih.0), λ m. omega (arith, ih.0))
-  ]
+      let no : eqb item cell.0 ≡ false = ne_eqb item cell.0 differs in
+      let ih = cells_in-grown_row item sum cells in
+      rw no (omega (arith, ih.0), λ m. omega (arith, ih.0))
+]
 
 cells_in-upto : (item : ℕ) (rows : List (ℤ × List (ℕ × ℤ))) → cells_in (grown_rows item rows) ≤ cells_in rows
 cells_in-upto item [] = omega arith
@@ -205,6 +203,6 @@ cells_in-grown_rows item (row ∷ rows) m =
     let whole = sum_by-cons (λ (r : ℤ × List (ℕ × ℤ)). length r.1) row rows in
     let one = cells_in-grown_row item row.0 row.1 in
     elim (Member-append_cases item (items_in row.1) (flat_map items_in (tails rows)) m) [
-    inl here ↦ omega (arith, apart, whole, one.1 here, cells_in-upto item rows)
-    | inr there ↦ omega (arith, apart, whole, one.0, cells_in-grown_rows item rows there)
+      | inl here ↦ omega (arith, apart, whole, one.1 here, cells_in-upto item rows)
+      | inr there ↦ omega (arith, apart, whole, one.0, cells_in-grown_rows item rows there)
     ]

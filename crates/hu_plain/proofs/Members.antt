@@ -1,5 +1,5 @@
 -- Members of lists, by recursion.
-use Rattle.std.proofs.Common.{◌≡◌, ℕ, zero, suc, ◌<◌, ◌+◌, Bool, true, false, cond, List, [], ◌∷◌, ◌++◌, map, length, get_or, take, refl, sym, ap, ◌∙◌, subst, ◌⊎◌, inl, inr, ◌↔◌, arith, filter, flat_map, Contains, All}
+use Rattle.std.proofs.Common.{◌≡◌, ℕ, zero, suc, ◌<◌, Bool, true, false, cond, List, [], ◌∷◌, ◌++◌, map, length, get_or, refl, sym, ap, ◌∙◌, subst, ◌⊎◌, inl, inr, arith, filter, flat_map, Contains}
 
 -- x is an element of a list
 abbrev pub Member : {A : Type 0} → A → List A → Type 0
@@ -51,9 +51,9 @@ Member-flat_map f x y (z ∷ zs) (inr m) n = Member-append_right y (f z) (flat_m
 pub Member-from_flat_map : {A B : Type 0} (f : A → List B) (y : B) (xs : List A) → Member y (flat_map f xs) → (x : A) × Member x xs × Member y (f x)
 Member-from_flat_map f y [] m = absurd m
 Member-from_flat_map f y (x ∷ xs) m = elim (Member-append_cases y (f x) (flat_map f xs) m) [
-  inl a ↦ (x, inl refl, a)
+  | inl a ↦ (x, inl refl, a)
   | inr b ↦ let r = Member-from_flat_map f y xs b in (r.0, inr r.1, r.2)
-  ]
+]
 
 Member-filter-cons : {A : Type 0} (p : A → Bool) (x y : A) (ys : List A) → (Member x ys → Member x (filter p ys)) → (b : Bool) → p y ≡ b → Member x (y ∷ ys) → p x ≡ true → Member x (cond b (y ∷ filter p ys) (filter p ys))
 Member-filter-cons p x y ys ih true e (inl s) h = inl s

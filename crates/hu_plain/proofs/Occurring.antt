@@ -1,9 +1,9 @@
 -- The sets that occur in a database are the ascending lists of items that some record holds.
-use Rattle.std.proofs.Common.{◌≡◌, ℕ, suc, ◌<◌, ◌≤◌, ◌+◌, Bool, true, false, cond, ltb, eqb, nat_lt, ◌&&◌, ◌||◌, ℤ, List, [], ◌∷◌, ◌++◌, map, length, refl, sym, ap, ◌∙◌, subst, ◌⊎◌, inl, inr, arith, filter, flat_map, count_by, Ordering, Less, Equal, Greater, nat_cmp}
-use Rattle.std.specs.List.{AllByRecursion, list_all, list_any}
+use Rattle.std.proofs.Common.{◌≡◌, ℕ, ◌<◌, ◌+◌, Bool, true, false, cond, eqb, nat_lt, ◌&&◌, ℤ, List, [], ◌∷◌, map, length, refl, sym, ap, ◌∙◌, subst, inl, inr, arith, flat_map, count_by, Ordering, Less, Equal, Greater, nat_cmp}
+use Rattle.std.specs.List.{AllByRecursion}
 use Rattle.std.specs.Ordering.{match_ordering, MatchOrdering}
 use Rattle.std.specs.BTreeSet.{insert_key}
-use Rattle.std.proofs.lemmas.Bool.{and_parts, and_from, or_cases, lt-ltb, ltb-true, eqb-true, cases_order}
+use Rattle.std.proofs.lemmas.Bool.{and_parts, and_from, or_cases, lt-ltb, ltb-true, eqb-true}
 use Rattle.std.proofs.lemmas.Cmp.{ranked}
 use Rattle.std.proofs.lemmas.List.Sums.{sum_by-cons}
 use Rattle.hu_kind.specs.Record.{has, holds, items_in}
@@ -78,17 +78,17 @@ each-sublist : (P : ℕ → Type 0) (xs s : List ℕ) → AllByRecursion P xs �
 each-sublist P [] s all (inl e) = subst (AllByRecursion P) e tt
 each-sublist P [] s all (inr m) = absurd m
 each-sublist P (x ∷ xs) s all m = elim (Member-append_cases s (sublists xs) (map (λ r. x ∷ r) (sublists xs)) m) [
-  inl a ↦ each-sublist P xs s all.1 a
+  | inl a ↦ each-sublist P xs s all.1 a
   | inr b ↦ let from = Member-from_map (λ (r : List ℕ). x ∷ r) s (sublists xs) b in subst (AllByRecursion P) from.2 (all.0, each-sublist P xs from.0 all.1 from.1)
-  ]
+]
 
 Ascend-sublist : (xs s : List ℕ) → Ascend xs → Member s (sublists xs) → Ascend s
 Ascend-sublist [] s up (inl e) = subst Ascend e tt
 Ascend-sublist [] s up (inr m) = absurd m
 Ascend-sublist (x ∷ xs) s up m = elim (Member-append_cases s (sublists xs) (map (λ r. x ∷ r) (sublists xs)) m) [
-  inl a ↦ Ascend-sublist xs s up.1 a
+  | inl a ↦ Ascend-sublist xs s up.1 a
   | inr b ↦ let from = Member-from_map (λ (r : List ℕ). x ∷ r) s (sublists xs) b in subst Ascend from.2 (each-sublist (λ y. x < y) xs from.0 up.0 from.1, Ascend-sublist xs from.0 up.1 from.1)
-  ]
+]
 
 -- a list whose members are above x, each a member of x and xs, has its members in xs
 tail_members : (x : ℕ) (xs s : List ℕ) → AllByRecursion (λ y. x < y) s → AllByRecursion (λ y. Member y (x ∷ xs)) s → AllByRecursion (λ y. Member y xs) s
@@ -135,9 +135,9 @@ count-member p x (y ∷ ys) (inr m) h = omega (arith, sum_by-cons (λ z. cond (p
 pub has-member : (item : ℕ) (cells : List (ℕ × ℤ)) → has item cells ≡ true → Member item (items_in cells)
 has-member item [] h = cc
 has-member item (cell ∷ cells) h = elim (or_cases (eqb item cell.0) (has item cells) h) [
-  inl e ↦ inl (sym (eqb-true item cell.0 e))
+  | inl e ↦ inl (sym (eqb-true item cell.0 e))
   | inr r ↦ inr (has-member item cells r)
-  ]
+]
 
 pub holds-members : (items : List ℕ) (cells : List (ℕ × ℤ)) → holds items cells ≡ true → AllByRecursion (λ item. Member item (items_in cells)) items
 holds-members [] cells h = tt
@@ -160,8 +160,8 @@ pub held-members : (records : List (List (ℕ × ℤ))) (items : List ℕ) → 0
 held-members records items h =
     let found = counted (holds items) records h in
     each-weaker (λ item. Member item (items_in found.0)) (λ item. Member item (flat_map items_in records)) items
-        (λ item m. Member-flat_map items_in found.0 item records found.1 m)
-        (holds-members items found.0 found.2)
+    (λ item m. Member-flat_map items_in found.0 item records found.1 m)
+    (holds-members items found.0 found.2)
 
 pub Occurs-from_member : (records : List (List (ℕ × ℤ))) (items : List ℕ) → Member items (occurring_sets records) → Occurs records items
 Occurs-from_member records items m =
@@ -176,8 +176,8 @@ Occurs-from_member records items m =
 pub Member-from_occurs : (records : List (List (ℕ × ℤ))) (items : List ℕ) → Occurs records items → Member items (occurring_sets records)
 Member-from_occurs records items o =
     let all = each-weaker (λ item. Member item (flat_map items_in records)) (λ item. Member item (items_of records)) items
-        (λ item m. Member-ranking item (flat_map items_in records) m)
-        (held-members records items o.held) in
+    (λ item m. Member-ranking item (flat_map items_in records) m)
+    (held-members records items o.held) in
     Member-filter (λ s. nat_lt 0 (length s) && nat_lt 0 (support records s)) items (sublists (items_of records))
-        (Member-sublists (items_of records) items (Ascend-ranking (flat_map items_in records)) o.ascending all)
-        (and_from (nat_lt 0 (length items)) (nat_lt 0 (support records items)) (lt-ltb 0 (length items) o.some) (lt-ltb 0 (support records items) o.held))
+    (Member-sublists (items_of records) items (Ascend-ranking (flat_map items_in records)) o.ascending all)
+    (and_from (nat_lt 0 (length items)) (nat_lt 0 (support records items)) (lt-ltb 0 (length items) o.some) (lt-ltb 0 (support records items) o.held))

@@ -1,13 +1,13 @@
 -- The patterns that grow a prefix are, for each item that occurs after it, the item's own and those that grow it.
-use Rattle.std.proofs.Common.{◌≡◌, ℕ, ◌<◌, ◌+◌, Bool, true, false, cond, eqb, ◌&&◌, ◌||◌, ℤ, pos, ◌+ℤ◌, List, [], ◌∷◌, ◌++◌, map, length, refl, sym, ap, ◌∙◌, subst, ◌⊎◌, inl, inr, arith, flat_map, append_assoc, append-nil, map-id}
+use Rattle.std.proofs.Common.{◌≡◌, ℕ, ◌<◌, Bool, true, false, cond, eqb, ℤ, pos, ◌+ℤ◌, List, [], ◌∷◌, ◌++◌, map, refl, sym, ap, ◌∙◌, subst, inl, inr, arith, flat_map, append_assoc}
 use Rattle.std.specs.List.{AllByRecursion}
 use Rattle.std.proofs.lemmas.Int.{ints}
 use Rattle.std.proofs.lemmas.Bool.{eq-eqb, or_left, or_right, and_from}
 use Rattle.hu_kind.specs.declared.entry.Entry.{Entry}
-use Rattle.hu_kind.specs.Record.{has, holds, items_in, utility_in, values_of}
+use Rattle.hu_kind.specs.Record.{has, holds, items_in, values_of}
 use Rattle.hu_kind.specs.Database.{support, utility}
 use Rattle.hu_kind.specs.Itemsets.{occurring_sets, item_entry, item_patterns}
-use Rattle.hu_plain.specs.Row.{earned_in, earned, tails, grown_entry, grown_patterns, grown_rows, Ascend}
+use Rattle.hu_plain.specs.Row.{earned, tails, grown_entry, grown_patterns, grown_rows, Ascend}
 use Rattle.hu_plain.proofs.Members.{Member, Member-map, Member-from_map, Member-from_flat_map}
 use Rattle.hu_plain.proofs.Occurring.{Occurs, Occurs-from_member, Member-from_occurs, counted, count-member, held-members, holds-members, at_member}
 use Rattle.hu_plain.proofs.Growth.{earned-grown_rows, support-grown_rows, above-grown_rows}
@@ -24,7 +24,7 @@ module _ (prefix : List ℤ) (rows : List (ℤ × List (ℕ × ℤ))) (up : AllB
       let found = counted (holds items) (tails (grown_rows item rows)) h in
       let row = Member-from_map (λ (r : ℤ × List (ℕ × ℤ)). r.1) found.0 (grown_rows item rows) found.1 in
       let later : AllByRecursion (λ other. item < other) (items_in row.0.1) =
-          at_member (λ (r : ℤ × List (ℕ × ℤ)). AllByRecursion (λ other. item < other) (items_in r.1)) row.0 (grown_rows item rows) (above-grown_rows item rows up) row.1 in
+      at_member (λ (r : ℤ × List (ℕ × ℤ)). AllByRecursion (λ other. item < other) (items_in r.1)) row.0 (grown_rows item rows) (above-grown_rows item rows up) row.1 in
       let after : AllByRecursion (λ other. item < other) (items_in found.0) = subst (λ t. AllByRecursion (λ other. item < other) (items_in t)) row.2 later in
       each_above items found.0 after (holds-members items found.0 found.2)
     where

@@ -1,5 +1,5 @@
 -- Rows, by their places.
-use Rattle.std.proofs.Common.{◌≡◌, ℕ, zero, suc, ◌<◌, ◌≤◌, ◌+◌, ◌^◌, Bool, true, ℤ, pos, ◌+ℤ◌, unsigned_abs, List, [], ◌∷◌, ◌++◌, map, length, get_or, take, refl, sym, ap, ◌∙◌, subst, arith, sum_by, flat_map, nat_eq, Contains, ◌↔◌, IsPermutation}
+use Rattle.std.proofs.Common.{◌≡◌, ℕ, zero, suc, ◌<◌, ◌≤◌, ◌+◌, ◌^◌, true, ℤ, ◌+ℤ◌, unsigned_abs, List, [], ◌∷◌, ◌++◌, map, length, get_or, take, refl, sym, ap, ◌∙◌, subst, arith, sum_by, flat_map, nat_eq, Contains, IsPermutation}
 use Rattle.std.specs.List.{AllByRecursion, AllAdjacentBelow, dedup}
 use Rattle.std.specs.List.Retain.{IsFiltered, DiffersFromLast}
 use Rattle.std.specs.Ordering.{on}
@@ -102,7 +102,7 @@ Ascend-from : (first : ℕ × ℤ) (cells : List (ℕ × ℤ)) → AllAdjacentBe
 Ascend-from first [] up = (tt, tt)
 Ascend-from first (next ∷ cells) up =
     let up' : AllAdjacentBelow (λ (a b : ℕ × ℤ). a.0 < b.0) (next ∷ cells) (length (next ∷ cells)) =
-        λ k d within. let e : suc k + 1 ≡ suc (k + 1) = omega arith in subst (λ j. (get_or (next ∷ cells) k d).0 < (get_or (first ∷ next ∷ cells) j d).0) e (up (suc k) d (omega arith)) in
+    λ k d within. let e : suc k + 1 ≡ suc (k + 1) = omega arith in subst (λ j. (get_or (next ∷ cells) k d).0 < (get_or (first ∷ next ∷ cells) j d).0) e (up (suc k) d (omega arith)) in
     let rest = Ascend-from next cells up' in
     let before : first.0 < next.0 = up 0 first (omega arith) in
     ((before, above_all first.0 next.0 (items_in cells) before rest.0), rest)

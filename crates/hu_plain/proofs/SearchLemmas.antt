@@ -1,5 +1,5 @@
 -- What a search has made so far.
-use Rattle.std.proofs.Common.{◌≡◌, ℕ, zero, suc, ◌<◌, ◌≤◌, ◌+◌, cond, ℤ, pos, Result, Ok, Err, OnErr, Option, None, Some, IsNone, IfSome, length-append, List, [], ◌∷◌, ◌++◌, map, length, get_or, take, refl, sym, ap, ◌∙◌, subst, ◌⊎◌, inl, inr, arith, count_by, flat_map, Contains, All, ◌↔◌, append_assoc, append-nil, add-one}
+use Rattle.std.proofs.Common.{◌≡◌, ℕ, zero, suc, ◌<◌, ◌≤◌, ◌+◌, cond, ℤ, pos, Result, Ok, Err, OnErr, Option, None, Some, IsNone, IfSome, length-append, List, [], ◌∷◌, ◌++◌, map, length, get_or, take, refl, sym, ap, ◌∙◌, subst, inl, inr, arith, flat_map, Contains, All, ◌↔◌, append_assoc, append-nil, add-one}
 use Rattle.std.specs.List.{AllByRecursion}
 use Rattle.std.proofs.lemmas.List.{take_all, same_from_push}
 use Rattle.std.proofs.lemmas.List.Concat.{flat_map-append}
@@ -140,9 +140,9 @@ module _ (prefix : List ℤ) (rows : List (ℤ × List (ℕ × ℤ))) (numbers :
         own_or_before : (entry : Entry) → Member entry with_own → Member entry (grown_patterns prefix rows)
         own_or_before entry m =
             elim (Member-append_cases entry (patterns_upto prefix rows numbers i) (grown_entry (prefix ++ pos item ∷ []) (grown_rows item rows) [] ∷ []) m) [
-            inl before ↦ upto-grown i entry before
-            | inr (inl e) ↦ from entry (inl e)
-            | inr (inr none) ↦ absurd none
+              | inl before ↦ upto-grown i entry before
+              | inr (inl e) ↦ from entry (inl e)
+              | inr (inr none) ↦ absurd none
             ]
 
         each : (entry : Entry) → Member entry (with_own ++ some.0) → Member entry (grown_patterns prefix rows)
@@ -178,7 +178,7 @@ pub some_from : (rule rule' : Rule) (content new : List Entry) (p p' : List ℤ)
     → MakesSome rule content (grown_patterns p rows) new → MakesSome rule' content (grown_patterns p' rows') new
 some_from rule rule' content new p p' rows rows' er ep es some =
     subst (λ r. MakesSome r content (grown_patterns p' rows') new) er
-        (subst (λ q. MakesSome rule content (grown_patterns q rows') new) ep (subst (λ rs. MakesSome rule content (grown_patterns p rs) new) es some))
+    (subst (λ q. MakesSome rule content (grown_patterns q rows') new) ep (subst (λ rs. MakesSome rule content (grown_patterns p rs) new) es some))
 
 -- what `pop` leaves of a list with one more number
 pub popped : (r : Option ℤ) (old new p : List ℤ) (n : ℤ) → old ≡ p ++ n ∷ [] → IsNone r ↔ (old ≡ []) → IfSome r (λ m. old ≡ new ++ m ∷ []) → new ≡ p
@@ -187,6 +187,9 @@ popped (Some m) old new p n e empty last = (same_from_push new p m n (sym last �
 
 pub rows_from : (found grown : List Row) (rows : List (ℤ × List (ℕ × ℤ))) → found ≡ grown → rows_of grown ≡ rows → rows_of found ≡ rows
 rows_from found grown rows e r = ap rows_of e ∙ r
+
+pub ends_from : (grown before prefix : List ℤ) (item : ℕ) → grown ≡ before ++ pos item ∷ [] → before ≡ prefix → grown ≡ prefix ++ pos item ∷ []
+ends_from grown before prefix item e p = e ∙ ap (λ q. q ++ pos item ∷ []) p
 
 -- the patterns that grow the empty prefix in all records are those of the records
 pub patterns-first : (prefix : List ℤ) (found rows : List Row) (records given : List (List (ℕ × ℤ))) → prefix ≡ [] → found ≡ rows → rows_of rows ≡ map first_row given → given ≡ records

@@ -1,5 +1,5 @@
 -- A row as a search keeps it is seen as the pair of what its prefix earned and the pairs of its cells.
-use Rattle.std.specs.Prelude.{◌≡◌, ◌↔◌, ℕ, ℤ, pos, List, map}
+use Rattle.std.specs.Prelude.{◌↔◌, ℕ, ℤ, pos, List, map}
 use Rattle.std.specs.List.{Contains, flat_map}
 use Rattle.hu_kind.specs.declared.item.Item.{Item}
 use Rattle.hu_kind.specs.declared.item.Cell.{Cell}

@@ -17,7 +17,11 @@ use std::alloc::Global;
 /// Offers each itemset that some record holds, with its utility and its support. Nothing is cut. The time is
 /// proportional to the rows of all itemsets, by the logarithm of a record's cells; the memory, to the cells of the base
 /// and the rows of one itemset and its prefixes. After want of memory some of them have been offered.
-pub fn mine_items<C: Collect>(alloc: Global, base: &Base<Record>, collect: &mut C) -> Result<(), NoMemory>
+pub fn mine_items<C: Collect>(
+    alloc: Global,
+    base: &Base<Record>,
+    collect: &mut C,
+) -> Result<(), NoMemory>
     ensures rule { C.rule collect.new ≡ C.rule collect.old }
     ensures ok { OnOk result (C.content collect.new ≡ made (C.rule collect.old) (C.content collect.old) (item_patterns (records_of base.now))) }
     ensures err { OnErr result (MakesSome (C.rule collect.old) (C.content collect.old) (item_patterns (records_of base.now)) (C.content collect.new)) }
@@ -29,7 +33,12 @@ pub fn mine_items<C: Collect>(alloc: Global, base: &Base<Record>, collect: &mut 
 }
 
 /// Offers each itemset that grows the prefix.
-fn search<C: Collect>(alloc: Global, rows: &[Row<'_>], prefix: &mut Key, collect: &mut C) -> Result<(), NoMemory>
+fn search<C: Collect>(
+    alloc: Global,
+    rows: &[Row<'_>],
+    prefix: &mut Key,
+    collect: &mut C,
+) -> Result<(), NoMemory>
     requires rows { AreRows (rows_of rows.now) }
     requires kept { IsKept (C.rule collect.old) (C.content collect.old) }
     ensures rule { C.rule collect.new ≡ C.rule collect.old }
@@ -70,7 +79,12 @@ fn grow<'a, C: Collect>(
 }
 
 /// Offers the prefix itself.
-fn offer<C: Collect>(alloc: Global, rows: &[Row<'_>], prefix: &Key, collect: &mut C) -> Result<(), NoMemory>
+fn offer<C: Collect>(
+    alloc: Global,
+    rows: &[Row<'_>],
+    prefix: &Key,
+    collect: &mut C,
+) -> Result<(), NoMemory>
     requires { AreRows (rows_of rows.now) }
     ensures rule { C.rule collect.new ≡ C.rule collect.old }
     ensures ok { OnOk result (C.content collect.new ≡ made (C.rule collect.old) (C.content collect.old) (grown_entry prefix.now (rows_of rows.now) [] ∷ [])) }

@@ -7,5 +7,7 @@
 
 mod items;
 mod row;
+#[cfg(test)]
+mod tests;
 
 pub use items::mine_items;

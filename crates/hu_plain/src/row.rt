@@ -63,7 +63,11 @@ pub(crate) fn first_rows(alloc: Global, records: &[Record]) -> Result<Vec<Row<'_
 }
 
 /// The rows of the prefix with an item more. Each row is looked through by halves.
-pub(crate) fn grown_rows<'a>(alloc: Global, rows: &[Row<'a>], item: Item) -> Result<Vec<Row<'a>>, NoMemory>
+pub(crate) fn grown_rows<'a>(
+    alloc: Global,
+    rows: &[Row<'a>],
+    item: Item,
+) -> Result<Vec<Row<'a>>, NoMemory>
     requires { AreRows (rows_of rows.now) }
     ensures { IfOk result (λ grown. rows_of grown.items ≡ grown_rows item.0 (rows_of rows.now)) }
 {

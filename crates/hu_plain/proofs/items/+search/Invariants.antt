@@ -1,4 +1,4 @@
-use Rattle.std.proofs.Common.{◌≡◌, length, take, sum_by, flat_map}
+use Rattle.std.proofs.Common.{◌≡◌, take, flat_map}
 use Rattle.hu_collect.specs.Rule.{made}
 use Rattle.hu_plain.specs.Kept.{rows_of, numbers_of}
 use Rattle.hu_plain.proofs.Growth.{cells_in}

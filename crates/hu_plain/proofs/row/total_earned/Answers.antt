@@ -1,8 +1,6 @@
-use Rattle.std.proofs.Common.{◌≡◌, ℤ, pos, ◌+ℤ◌, [], take, suc, get_or, arith, add-one}
+use Rattle.std.proofs.Common.{pos, [], arith, add-one}
 use Rattle.std.proofs.lemmas.Int.{ints}
 use Rattle.hu_plain.specs.declared.row.Row.{Row}
-use Rattle.hu_plain.specs.Row.{earned}
-use Rattle.hu_plain.specs.Kept.{rows_of}
 use Rattle.hu_plain.proofs.RowLemmas.{earned-more, sum-within}
 use Rattle.hu_plain.proofs.row.total_earned.Goals as goal
 

@@ -1,5 +1,5 @@
-use Rattle.std.proofs.Common.{◌≡◌, ◌<◌, ◌≤◌, ◌+◌, suc, sym, ap, ◌∙◌, true, false, not, nat_eq, ℤ, ◌+ℤ◌, unsigned_abs, length, get_or, drop, FitsSigned, to_z, of_z, arith, rules, add-one, eqb-true}
-use Rattle.std.proofs.lemmas.Int.{ints, fits_signed_from_abs}
+use Rattle.std.proofs.Common.{suc, sym, ap, ◌∙◌, nat_eq, ◌+ℤ◌, unsigned_abs, get_or, drop, arith, eqb-true}
+use Rattle.std.proofs.lemmas.Int.{ints}
 use Rattle.std.proofs.lemmas.Bool.{not-true, not-false, eqb-false}
 use Rattle.hu_kind.specs.declared.item.Cell.{Cell}
 use Rattle.hu_plain.proofs.CellLemmas.{grown_row-past, grown_row-at, absolute_of-at, same_row, rest_of}
@@ -20,7 +20,7 @@ returns-then-ne c =
     let lookup = c.in_ok-cell.ensures.lookup in
     let differs = eqb-false cell.item.0 c.args.item.0 (not-true (nat_eq cell.item.0 c.args.item.0) (sym c.ne.ensures ∙ c.if-ne.true)) in
     sym (grown_row-past c.args.item.0 row.earned row.tail.now c.place_of-place.result c.requires.ascending c.place_of-place.ensures.splits
-        (λ d within e. differs (ap (λ (x : Cell). x.item.0) (lookup.3.1 d) ∙ e)))
+    (λ d within e. differs (ap (λ (x : Cell). x.item.0) (lookup.3.1 d) ∙ e)))
 
 pub overflow_add-result : goal.overflow_add-result
 overflow_add-result c =
