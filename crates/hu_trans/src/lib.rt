@@ -3,10 +3,12 @@
 //! What a line says is defined in `specs/Reading.antt`.
 #![tactic(auto)]
 
+mod checks;
 mod fault;
 mod numbers;
 mod parts;
 mod read;
+mod sums;
 mod write;
 
 pub use fault::Fault;
