@@ -6,7 +6,7 @@ ghost use Rattle.hu_base.specs.Base.{records_of};
 ghost use Rattle.hu_collect.specs.Rule.{made, IsKept};
 ghost use Rattle.hu_plain.specs.Row.{grown_entry, grown_patterns, grown_rows, AreRows};
 ghost use Rattle.hu_plain.specs.Kept.{rows_of};
-ghost use Rattle.hu_plain.specs.Makes.{MakesSome};
+ghost use Rattle.hu_collect.specs.Rule.{MakesSome};
 
 use crate::row::{Row, first_rows, grown_rows, later_items, total_earned};
 use hu_base::Base;

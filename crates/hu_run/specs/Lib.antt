@@ -3,3 +3,4 @@ pub mod Jobs
 pub mod Input
 pub mod Intake
 pub mod Reading
+pub mod Formats

@@ -4,7 +4,8 @@ ghost use Rattle.std.specs.Prelude.{◌≡◌, ◌<◌, ◌≤◌, ℕ, List, le
 ghost use Rattle.hu_run.specs.Words.{texts_of};
 ghost use Rattle.hu_run.specs.Reading.{ReadsAll, FailsRead, IsStopAt};
 
-use crate::intake::{FileStop, Format, Intake, LineStop};
+use crate::format::Format;
+use crate::intake::{FileStop, Intake, LineStop};
 use crate::reason::Reason;
 use hu_base::Base;
 use hu_io::Files;

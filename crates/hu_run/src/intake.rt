@@ -9,10 +9,11 @@ ghost use Rattle.hu_run.specs.Input.{line_record};
 ghost use Rattle.hu_run.specs.Intake.{IsOpen, Judges, IsAtStart, TakesFront, TakesIn, Finishes, ReadsPiece, ReadsFile, bytes_in};
 ghost use Rattle.hu_run.specs.declared.reason.Reason.{Reason};
 
+use crate::format::Format;
 use crate::reason::Reason;
 use hu_base::{AddFault, Base};
 use hu_io::{Failed, Files};
-use hu_kind::{Absolute, NoMemory};
+use hu_kind::NoMemory;
 use hu_lines::{LineFault, Lines, is_skipped};
 use std::alloc::Global;
 
@@ -30,18 +31,6 @@ pub(crate) enum FileStop {
     Line(LineStop),
     /// A read failed.
     ReadFailed,
-}
-
-/// A form of line, read as one record.
-pub(crate) trait Format {
-    type Record: Absolute;
-
-    ghost reading: { List ℕ → Result Self.Record Reason };
-
-    /// The record that a line says, or why it is refused; nothing where there is no memory.
-    fn read(alloc: Global, line: &[u8]) -> Result<Result<Self::Record, Reason>, NoMemory>
-        requires { length line.now ≤ 1048576 }
-        ensures { IfOk result (λ told. told ≡ reading line.now) };
 }
 
 /// What was taken in so far: the line that is held, and the records.

@@ -1,6 +1,7 @@
 //! The top call.
 #![tactic(auto)]
 
+mod format;
 mod input;
 mod intake;
 mod reason;

@@ -1,5 +1,7 @@
 //! Why lines are refused.
 
+use hu_trans::Fault;
+
 /// Why a line is refused.
 #[derive(Clone, Copy, Debug, PartialEq, Eq)]
 pub enum Reason {
@@ -9,4 +11,6 @@ pub enum Reason {
     InputTooLarge,
     /// The absolute values of all records so far would sum to more than 2^127 - 1.
     SumTooLarge,
+    /// It is no transaction.
+    Transaction(Fault),
 }
