@@ -1,3 +1,5 @@
+mod CellLemmas
+mod JudgedLemmas
 mod LineLemmas
 mod NumbersLemmas
 mod ReadingLemmas

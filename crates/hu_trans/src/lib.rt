@@ -5,6 +5,7 @@
 
 mod checks;
 mod fault;
+mod judge;
 mod numbers;
 mod parts;
 mod read;
