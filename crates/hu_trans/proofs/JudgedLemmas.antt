@@ -1,10 +1,14 @@
 -- What the numbers of a line say, fault by fault.
 use Rattle.std.proofs.Common.{◌≡◌, ℕ, ◌+◌, ◌<◌, ◌≤◌, ◌^◌, ◌==◌, ◌||◌, ℤ, Bool, true, false, not, nat_lt, Option, None, Some, Result, Ok, Err, List, [], ◌∷◌, ◌++◌, length, map, zip, position, get_or, refl, sym, ap, ◌∙◌, arith}
 use Rattle.std.specs.Bool.{then_some}
-use Rattle.std.specs.List.{All, AllAdjacentBelow, position_or_len}
+use Rattle.std.specs.List.{position_from, All, AllAdjacentBelow, position_or_len}
 use Rattle.std.specs.List.Sorted.{IsPermutation}
 use Rattle.std.specs.Option.{option_map, option_map_or, option_or}
-use Rattle.std.specs.Ordering.{int_eq}
+use Rattle.std.specs.Ordering.{int_eq, is_eq}
+use Rattle.std.proofs.lemmas.Bool.{eq-eqb}
+use Rattle.std.proofs.lemmas.Cmp.{tied_itself, int_cmp_total}
+use Rattle.std.proofs.lemmas.Iterator.Adapters.{position_from-zero}
+use Rattle.std.proofs.lemmas.List.Elements.{All-head, All-tail}
 use Rattle.std.proofs.lemmas.Bool.Decides.{nat_tests}
 use Rattle.std.proofs.lemmas.List.Sums.{fails_before_first}
 use Rattle.hu_kind.specs.Cells.{by_item, twice}
@@ -99,3 +103,28 @@ small_from_none sum cells h =
     let a = none-first (sum_too_large cells) (total_disagrees sum cells ∷ []) h in
     let small = then_none (not (nat_lt (absolute_of cells) (2 ^ 127))) SumTooLarge a.0 in
     grind (arith, nat_tests)
+
+none_past : (at : ℕ) (items : List ℕ) → All (λ item. item ≤ 2147483647) items → position_from (λ item. nat_lt 2147483647 item) at items ≡ None
+none_past at [] h = refl
+none_past at (x ∷ xs) h =
+    let below : x ≤ 2147483647 = All-head (λ item. item ≤ 2147483647) x xs h in
+    let fails : nat_lt 2147483647 x ≡ false = grind (arith, nat_tests) in
+    rw fails (none_past (at + 1) xs (All-tail (λ item. item ≤ 2147483647) x xs h))
+
+none_from_range : (items : List ℕ) → All (λ item. item ≤ 2147483647) items → position (λ item. nat_lt 2147483647 item) items ≡ None
+none_from_range items h = position_from-zero (λ item. nat_lt 2147483647 item) items ∙ none_past 0 items h
+
+-- items and values that have none of these faults
+pub item_faults-none : (items : List ℕ) (values : List ℤ) → AreFine items values → first_some (item_faults items values) ≡ None
+item_faults-none items values fine =
+    let some : (length items == 0) ≡ false = grind (arith, nat_tests, fine.some) in
+    let few : nat_lt 4096 (length items) ≡ false = grind (arith, nat_tests, fine.few) in
+    let same : (length items == length values) ≡ true = eq-eqb (length items) (length values) fine.same in
+    let range : position (λ item. nat_lt 2147483647 item) items ≡ None = none_from_range items fine.in_range in
+    rw (some, few, same, range) refl
+
+pub sum_faults-none : (cells : List (ℕ × ℤ)) → absolute_of cells < 2 ^ 127 → first_some (sum_faults (total cells) cells) ≡ None
+sum_faults-none cells small =
+    let fits : nat_lt (absolute_of cells) (2 ^ 127) ≡ true = grind (arith, nat_tests) in
+    let same : int_eq (total cells) (total cells) ≡ true = ap is_eq (tied_itself int_cmp_total (total cells)) in
+    rw (fits, same) refl

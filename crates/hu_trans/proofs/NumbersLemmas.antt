@@ -10,7 +10,7 @@ use Rattle.hu_trans.specs.Line.{numbers, bad_token}
 abbrev pub bad_from : (List ℕ → Result ℤ NumberFault) → ℕ → List (List ℕ) → Option ℕ
 bad_from read at texts = position_from (λ text. is_err (read text)) at texts
 
-bad_token-bad_from : (read : List ℕ → Result ℤ NumberFault) (texts : List (List ℕ)) → bad_token read texts ≡ option_map (λ k. k + 1) (bad_from read 0 texts)
+pub bad_token-bad_from : (read : List ℕ → Result ℤ NumberFault) (texts : List (List ℕ)) → bad_token read texts ≡ option_map (λ k. k + 1) (bad_from read 0 texts)
 bad_token-bad_from read texts = ap (option_map (λ k. k + 1)) (position_from-zero (λ text. is_err (read text)) texts)
 
 -- where no token is left, there was none
