@@ -1,15 +1,10 @@
 -- The canonical line of a record says that record.
-use Rattle.std.proofs.Common.{◌≡◌, ℕ, suc, ◌+◌, ◌<◌, ◌≤◌, ◌^◌, ◌==◌, ◌||◌, ℤ, pos, unsigned_abs, Bool, true, false, not, nat_lt, Option, None, Some, unwrap_or, slice_get, Ok, Err, Result, List, [], ◌∷◌, ◌++◌, length, map, zip, filter, position, get_or, refl, sym, ap, ◌∙◌, arith, decimal}
-use Rattle.std.specs.Bool.{then_some}
+use Rattle.std.proofs.Common.{◌≡◌, ℕ, ◌+◌, ◌<◌, ◌≤◌, ◌^◌, ◌==◌, ℤ, pos, unsigned_abs, true, false, Option, None, unwrap_or, slice_get, Ok, Err, Result, List, [], ◌∷◌, length, map, zip, filter, get_or, refl, ap, ◌∙◌, arith, decimal}
 use Rattle.std.specs.Fmt.{signed_decimal}
-use Rattle.std.specs.List.{All, AllAdjacentBelow, join_with_byte, slice_split, position_from}
+use Rattle.std.specs.List.{All, AllAdjacentBelow, join_with_byte, slice_split}
 use Rattle.std.specs.List.Sorted.{IsStrictlyIncreasing}
 use Rattle.std.specs.Option.{option_map, option_map_or}
-use Rattle.std.specs.Ordering.{int_eq, is_eq}
 use Rattle.std.proofs.lemmas.Bool.{eq-eqb}
-use Rattle.std.proofs.lemmas.Bool.Decides.{nat_tests}
-use Rattle.std.proofs.lemmas.Cmp.{tied_itself, int_cmp_total}
-use Rattle.std.proofs.lemmas.Iterator.Adapters.{position_from-zero}
 use Rattle.std.proofs.lemmas.List.{length-map, get_or-map}
 use Rattle.std.proofs.lemmas.List.Sums.{sum_by-cons, get_or-le-sum_by}
 use Rattle.std.proofs.lemmas.List.Sorted.{IsPermutation-refl}
@@ -18,11 +13,11 @@ use Rattle.std.proofs.lemmas.List.Elements.{All-nil, All-cons, All-head, All-tai
 use Rattle.std.proofs.lemmas.List.Splits.{slice_split_at, slice_split_none}
 use Rattle.hu_kind.specs.declared.number.NumberFault.{NumberFault}
 use Rattle.hu_kind.specs.Number.{number, signed_number}
-use Rattle.hu_kind.specs.Record.{items_in, absolute_of, total, gain, IsRecord}
+use Rattle.hu_kind.specs.Record.{items_in, absolute_of, total, IsRecord}
 use Rattle.hu_kind.specs.Cells.{by_item}
 use Rattle.hu_kind.proofs.CellsLemmas.{by_item-ascending, twice-ascending}
 use Rattle.hu_kind.specs.Token.{tokens, has_byte}
-use Rattle.hu_trans.specs.Line.{numbers, bad_token, bad_total, parts, items, stated, values, item_tokens, total_tokens, value_tokens}
+use Rattle.hu_trans.specs.Line.{numbers, bad_token, bad_total, parts, items}
 use Rattle.hu_trans.specs.declared.fault.Fault.{Fault}
 use Rattle.hu_trans.specs.declared.fault.Fault.TheVariants.{BadNumber}
 use Rattle.hu_trans.specs.Reading.{not_three_parts, first_some, bad_number, reading, judged}
@@ -60,7 +55,7 @@ colon-join [] all = All-nil (λ b. (b == 58) ≡ false)
 colon-join (x ∷ []) all = (All-head IsToken x [] all).no_colon
 colon-join (x ∷ y ∷ xs) all =
     All-append (λ b. (b == 58) ≡ false) x (32 ∷ join_with_byte 32 (y ∷ xs)) (All-head IsToken x (y ∷ xs) all).no_colon
-        (All-cons (λ b. (b == 58) ≡ false) 32 (join_with_byte 32 (y ∷ xs)) refl (colon-join (y ∷ xs) (All-tail IsToken x (y ∷ xs) all)))
+    (All-cons (λ b. (b == 58) ≡ false) 32 (join_with_byte 32 (y ∷ xs)) refl (colon-join (y ∷ xs) (All-tail IsToken x (y ∷ xs) all)))
 
 -- texts that say numbers
 numbers-map : {X : Type 0} (read : List ℕ → Result ℤ NumberFault) (text : X → List ℕ) (value : X → ℤ) (xs : List X)
@@ -68,14 +63,14 @@ numbers-map : {X : Type 0} (read : List ℕ → Result ℤ NumberFault) (text : 
 numbers-map read text value [] all = refl
 numbers-map read text value (x ∷ xs) all =
     rw (All-head (λ y. read (text y) ≡ Ok (value y)) x xs all)
-        (ap (λ more. value x ∷ more) (numbers-map read text value xs (All-tail (λ y. read (text y) ≡ Ok (value y)) x xs all)))
+    (ap (λ more. value x ∷ more) (numbers-map read text value xs (All-tail (λ y. read (text y) ≡ Ok (value y)) x xs all)))
 
 bad_from-map : {X : Type 0} (read : List ℕ → Result ℤ NumberFault) (text : X → List ℕ) (value : X → ℤ) (at : ℕ) (xs : List X)
     → All (λ x. read (text x) ≡ Ok (value x)) xs → bad_from read at (map text xs) ≡ None
 bad_from-map read text value at [] all = refl
 bad_from-map read text value at (x ∷ xs) all =
     rw (All-head (λ y. read (text y) ≡ Ok (value y)) x xs all)
-        (bad_from-map read text value (at + 1) xs (All-tail (λ y. read (text y) ≡ Ok (value y)) x xs all))
+    (bad_from-map read text value (at + 1) xs (All-tail (λ y. read (text y) ≡ Ok (value y)) x xs all))
 
 bad_token-map : {X : Type 0} (read : List ℕ → Result ℤ NumberFault) (text : X → List ℕ) (value : X → ℤ) (xs : List X)
     → All (λ x. read (text x) ≡ Ok (value x)) xs → bad_token read (map text xs) ≡ None
@@ -155,7 +150,7 @@ judged-record cells rules =
     let others = map (λ (cell : ℕ × ℤ). cell.1) cells in
     let once = twice-ascending (items_in cells) (items_in cells) (IsPermutation-refl (items_in cells)) (items_rise cells rules.itemset.ascending) in
     let sums : first_some (sum_faults (total cells) (zip (items_in cells) others)) ≡ None =
-        ap (λ pairs. first_some (sum_faults (total cells) pairs)) (pairs_back cells) ∙ sum_faults-none cells rules.sum_fits in
+    ap (λ pairs. first_some (sum_faults (total cells) pairs)) (pairs_back cells) ∙ sum_faults-none cells rules.sum_fits in
     judged-sums (items_in cells) (total cells) others None (item_faults-none (items_in cells) others (AreFine-record cells rules)) once sums
     ∙ ap (λ pairs. Ok (by_item pairs)) (pairs_back cells)
     ∙ ap Ok (by_item-ascending cells rules.itemset.ascending)
@@ -174,25 +169,25 @@ reading-canonical cells rules =
     let total_is : All IsToken (total_text ∷ []) = All-cons IsToken total_text [] (IsToken-signed_decimal (total cells) sum_small) (All-nil IsToken) in
     let pieces = join_with_byte 32 item_texts ∷ total_text ∷ join_with_byte 32 value_texts ∷ [] in
     let three : All (Lacks 58) pieces =
-        All-cons (Lacks 58) (join_with_byte 32 item_texts) (total_text ∷ join_with_byte 32 value_texts ∷ []) (colon-join item_texts items_are)
-        (All-cons (Lacks 58) total_text (join_with_byte 32 value_texts ∷ []) (IsToken-signed_decimal (total cells) sum_small).no_colon
-        (All-cons (Lacks 58) (join_with_byte 32 value_texts) [] (colon-join value_texts values_are) (All-nil (Lacks 58)))) in
+    All-cons (Lacks 58) (join_with_byte 32 item_texts) (total_text ∷ join_with_byte 32 value_texts ∷ []) (colon-join item_texts items_are)
+    (All-cons (Lacks 58) total_text (join_with_byte 32 value_texts ∷ []) (IsToken-signed_decimal (total cells) sum_small).no_colon
+    (All-cons (Lacks 58) (join_with_byte 32 value_texts) [] (colon-join value_texts values_are) (All-nil (Lacks 58)))) in
     let items_said : All (λ cell. number (decimal cell.0) ≡ Ok (pos cell.0)) cells = λ k d within. number-decimal (get_or cells k d).0 (low k d within) in
     let values_said : All (λ cell. signed_number (signed_decimal cell.1) ≡ Ok cell.1) cells = λ k d within. signed_number-signed_decimal (get_or cells k d).1 (small k d within) in
     let total_said = signed_number-signed_decimal (total cells) sum_small in
     let total_good : bad_total (total_text ∷ []) ≡ None = rw total_said refl in
     let total_read : numbers signed_number (total_text ∷ []) ≡ total cells ∷ [] = rw total_said refl in
     let good : bad_number item_texts (total_text ∷ []) value_texts ≡ None =
-        bad_number-none item_texts (total_text ∷ []) value_texts
-            (bad_token-map number (λ cell. decimal cell.0) (λ cell. pos cell.0) cells items_said)
-            total_good
-            (bad_token-map signed_number (λ cell. signed_decimal cell.1) (λ cell. cell.1) cells values_said) in
+    bad_number-none item_texts (total_text ∷ []) value_texts
+    (bad_token-map number (λ cell. decimal cell.0) (λ cell. pos cell.0) cells items_said)
+    total_good
+    (bad_token-map signed_number (λ cell. signed_decimal cell.1) (λ cell. cell.1) cells values_said) in
     let items_read = ap (map unsigned_abs) (numbers-map number (λ cell. decimal cell.0) (λ cell. pos cell.0) cells items_said) ∙ items_back cells in
     let values_read = numbers-map signed_number (λ cell. signed_decimal cell.1) (λ cell. cell.1) cells values_said in
     formed (canonical_line cells) (join_with_byte 32 item_texts) total_text (join_with_byte 32 value_texts) item_texts (total_text ∷ []) value_texts
-        (split-join 58 pieces (omega arith) three)
-        (tokens-join item_texts (omega (arith, length-map cells (λ cell. decimal cell.0))) items_are)
-        (tokens-join (total_text ∷ []) (omega arith) total_is)
-        (tokens-join value_texts (omega (arith, length-map cells (λ cell. signed_decimal cell.1))) values_are)
+    (split-join 58 pieces (omega arith) three)
+    (tokens-join item_texts (omega (arith, length-map cells (λ cell. decimal cell.0))) items_are)
+    (tokens-join (total_text ∷ []) (omega arith) total_is)
+    (tokens-join value_texts (omega (arith, length-map cells (λ cell. signed_decimal cell.1))) values_are)
     ∙ said-good item_texts (total_text ∷ []) value_texts (items_in cells) (total cells) (map (λ cell. cell.1) cells) good items_read total_read values_read
     ∙ judged-record cells rules

@@ -1,10 +1,9 @@
 -- Cells made of items with values beside them.
-use Rattle.std.proofs.Common.{◌≡◌, ℕ, ◌+◌, ◌<◌, ◌≤◌, ◌^◌, ℤ, List, [], ◌∷◌, ◌++◌, length, map, zip, get_or, refl, sym, ap, ◌∙◌, arith, append_assoc, sum_by}
+use Rattle.std.proofs.Common.{◌≡◌, ℕ, ◌<◌, ◌≤◌, ◌^◌, ℤ, List, [], ◌∷◌, ◌++◌, length, zip, get_or, refl, sym, ap, ◌∙◌, arith}
 use Rattle.std.specs.List.{All, AllAdjacentBelow}
 use Rattle.std.specs.List.Sorted.{IsPermutation}
-use Rattle.std.proofs.lemmas.List.{length-map}
 use Rattle.std.proofs.lemmas.List.Sorted.{All-permutation, length_permutation, sum_by-IsPermutation}
-use Rattle.std.proofs.lemmas.Slice.Zip.{firsts-zip, length-zip}
+use Rattle.std.proofs.lemmas.Slice.Zip.{firsts-zip}
 use Rattle.hu_kind.specs.declared.item.Cell.{Cell}
 use Rattle.hu_kind.specs.Cell.{pair_of, pairs_of, absolute_value}
 use Rattle.hu_kind.specs.Cells.{twice}
@@ -34,7 +33,7 @@ IsRecord-ordered cells ordered items values are fine same ascending small =
     let count : length cells ≡ length items = sym (length-items cells) ∙ ap length told in
     let whole : length ordered ≡ length cells = length_permutation cells ordered same in
     let in_range : All (λ cell. cell.item.0 ≤ 2147483647) cells =
-        λ k d within. omega (arith, item_at cells k 0 d within, ap (λ xs. get_or xs k 0) told, fine.in_range k 0 (omega arith)) in
+    λ k d within. omega (arith, item_at cells k 0 d within, ap (λ xs. get_or xs k 0) told, fine.in_range k 0 (omega arith)) in
     IsRecord-from_cells ordered (record {
       itemset = record {
         some = omega (arith, fine.some);

@@ -1,8 +1,7 @@
 -- What the numbers of a line say, fault by fault.
-use Rattle.std.proofs.Common.{◌≡◌, ℕ, ◌+◌, ◌<◌, ◌≤◌, ◌^◌, ◌==◌, ◌||◌, ℤ, Bool, true, false, not, nat_lt, Option, None, Some, Result, Ok, Err, List, [], ◌∷◌, ◌++◌, length, map, zip, position, get_or, refl, sym, ap, ◌∙◌, arith}
+use Rattle.std.proofs.Common.{◌≡◌, ℕ, ◌+◌, ◌<◌, ◌≤◌, ◌^◌, ◌==◌, ℤ, Bool, true, false, not, nat_lt, Option, None, Some, Ok, Err, List, [], ◌∷◌, ◌++◌, length, zip, position, refl, ap, ◌∙◌, arith}
 use Rattle.std.specs.Bool.{then_some}
-use Rattle.std.specs.List.{position_from, All, AllAdjacentBelow, position_or_len}
-use Rattle.std.specs.List.Sorted.{IsPermutation}
+use Rattle.std.specs.List.{position_from, All, position_or_len}
 use Rattle.std.specs.Option.{option_map, option_map_or, option_or}
 use Rattle.std.specs.Ordering.{int_eq, is_eq}
 use Rattle.std.proofs.lemmas.Bool.{eq-eqb}
@@ -12,9 +11,9 @@ use Rattle.std.proofs.lemmas.List.Elements.{All-head, All-tail}
 use Rattle.std.proofs.lemmas.Bool.Decides.{nat_tests}
 use Rattle.std.proofs.lemmas.List.Sums.{fails_before_first}
 use Rattle.hu_kind.specs.Cells.{by_item, twice}
-use Rattle.hu_kind.specs.Record.{absolute_of, total, gain}
+use Rattle.hu_kind.specs.Record.{absolute_of, total}
 use Rattle.hu_trans.specs.declared.fault.Fault.{Fault}
-use Rattle.hu_trans.specs.declared.fault.Fault.TheVariants.{NoItems, TooManyItems, CountsDiffer, ItemOutOfRange, DuplicateItem, SumTooLarge, TotalDisagrees}
+use Rattle.hu_trans.specs.declared.fault.Fault.TheVariants.{NoItems, TooManyItems, CountsDiffer, ItemOutOfRange, DuplicateItem, SumTooLarge}
 use Rattle.hu_trans.specs.Reading.{first_some, no_items, too_many_items, counts_differ, item_out_of_range, duplicate_item, sum_too_large, total_disagrees, number_faults, judged}
 
 -- the faults of the items, but for one that stands twice, and those of the sums

@@ -1,8 +1,7 @@
 -- A number that is written is read again.
-use Rattle.std.proofs.Common.{◌≡◌, ℕ, suc, ◌+◌, ◌<◌, ◌≤◌, ◌^◌, ◌==◌, ◌||◌, ℤ, pos, negsuc, neg_ℤ, unsigned_abs, Bool, true, false, not, cond, nat_lt, None, Some, Ok, Result, List, [], ◌∷◌, length, drop, position, slice_index, get_or, refl, sym, ap, ◌∙◌, arith, decimal}
+use Rattle.std.proofs.Common.{◌≡◌, ℕ, suc, ◌+◌, ◌<◌, ◌≤◌, ◌^◌, ◌==◌, ℤ, pos, negsuc, neg_ℤ, unsigned_abs, true, false, not, nat_lt, None, Ok, List, [], ◌∷◌, length, slice_index, refl, ap, ◌∙◌, arith, decimal}
 use Rattle.std.specs.Char.{is_ascii_digit, digit_value}
 use Rattle.std.specs.Fmt.{signed_decimal}
-use Rattle.std.specs.Int.{IsInRange}
 use Rattle.std.specs.List.{All, position_from}
 use Rattle.std.specs.Result.{result_map_both}
 use Rattle.std.specs.Str.Parse.{AllDigits, digits_value}
@@ -11,8 +10,7 @@ use Rattle.std.proofs.lemmas.Fmt.{decimal_is_IsNumeral_wide, length-decimal-le_w
 use Rattle.std.proofs.lemmas.Iterator.Adapters.{position_from-zero}
 use Rattle.std.proofs.lemmas.List.Elements.{All-nil, All-cons}
 use Rattle.std.proofs.lemmas.Str.Parse.{digit_from_value}
-use Rattle.hu_kind.specs.declared.number.NumberFault.{NumberFault}
-use Rattle.hu_kind.specs.Number.{number, signed_number, digits_from, other_place, value_of_digits}
+use Rattle.hu_kind.specs.Number.{number, signed_number, digits_from, other_place}
 
 -- a byte doesn't stand in a text
 abbrev pub Lacks : ℕ → List ℕ → Type 0

@@ -1,5 +1,5 @@
 -- Texts that are written number by number.
-use Rattle.std.proofs.Common.{◌≡◌, ℕ, zero, suc, ◌+◌, ◌<◌, ◌≤◌, ℤ, List, [], ◌∷◌, ◌++◌, length, map, take, get_or, refl, sym, ap, ◌∙◌, append_assoc, arith}
+use Rattle.std.proofs.Common.{◌≡◌, ℕ, ◌+◌, ◌<◌, ℤ, List, [], ◌∷◌, ◌++◌, length, map, take, get_or, refl, sym, ap, ◌∙◌, append_assoc, arith}
 use Rattle.std.specs.List.{join_with_byte}
 use Rattle.std.proofs.lemmas.List.{length-map, length-take-le, map-append, take_more}
 use Rattle.hu_kind.specs.declared.item.Cell.{Cell}
@@ -18,11 +18,11 @@ joined-more : (f : ℕ × ℤ → List ℕ) (cells : List Cell) (i : ℕ) (d : C
     ≡ join_with_byte 32 (map f (pairs_of (take i cells))) ++ (gap i ++ f (pair_of (get_or cells i d)))
 joined-more f cells i d within =
     let next : pairs_of (take (i + 1) cells) ≡ pairs_of (take i cells) ++ pair_of (get_or cells i d) ∷ [] =
-        ap pairs_of (take_more cells i d within) ∙ map-append pair_of (take i cells) (get_or cells i d ∷ []) in
+    ap pairs_of (take_more cells i d within) ∙ map-append pair_of (take i cells) (get_or cells i d ∷ []) in
     let texts : map f (pairs_of (take (i + 1) cells)) ≡ map f (pairs_of (take i cells)) ++ f (pair_of (get_or cells i d)) ∷ [] =
-        ap (map f) next ∙ map-append f (pairs_of (take i cells)) (pair_of (get_or cells i d) ∷ []) in
+    ap (map f) next ∙ map-append f (pairs_of (take i cells)) (pair_of (get_or cells i d) ∷ []) in
     let count : length (map f (pairs_of (take i cells))) ≡ i =
-        length-map (pairs_of (take i cells)) f ∙ length-map (take i cells) pair_of ∙ length-take-le i cells (omega arith) in
+    length-map (pairs_of (take i cells)) f ∙ length-map (take i cells) pair_of ∙ length-take-le i cells (omega arith) in
     ap (join_with_byte 32) texts
     ∙ join-push (map f (pairs_of (take i cells))) (f (pair_of (get_or cells i d)))
     ∙ ap (λ k. join_with_byte 32 (map f (pairs_of (take i cells))) ++ (gap k ++ f (pair_of (get_or cells i d)))) count

@@ -43,7 +43,9 @@ pub fn item_fault(items: &[u128], utilities: &[i128]) -> Option<Fault>
 fn great_item_place(items: &[u128]) -> Option<usize>
     ensures { result ≡ position (λ item. nat_lt 2147483647 item) items.now }
 {
-    items.iter().position(|item| *item > u128::from(Item::GREATEST))
+    items
+        .iter()
+        .position(|item| *item > u128::from(Item::GREATEST))
 }
 
 /// What is wrong with the sums of the cells, or with a total that is stated for them.

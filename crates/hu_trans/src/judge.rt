@@ -12,7 +12,12 @@ use hu_kind::{Cell, Item, NoMemory, Record, ordered_cells};
 use std::alloc::Global;
 
 /// The record of the items with their utilities, or the first thing that is wrong with these numbers.
-pub fn judge(alloc: Global, items: &[u128], stated: i128, utilities: &[i128]) -> Result<Record, Fault>
+pub fn judge(
+    alloc: Global,
+    items: &[u128],
+    stated: i128,
+    utilities: &[i128],
+) -> Result<Record, Fault>
     requires few_items { length items.now ≤ 1048576 }
     requires few_utilities { length utilities.now ≤ 1048576 }
     ensures ok { IfOk result (λ one. judged items.now stated utilities.now ≡ Ok one) }

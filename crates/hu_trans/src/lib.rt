@@ -10,6 +10,8 @@ mod numbers;
 mod parts;
 mod read;
 mod sums;
+#[cfg(test)]
+mod tests;
 mod write;
 
 pub use fault::Fault;

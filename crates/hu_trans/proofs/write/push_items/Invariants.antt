@@ -1,5 +1,4 @@
 use Rattle.std.proofs.Common.{◌≡◌, ◌++◌, map, take, decimal}
-use Rattle.std.specs.Fmt.{signed_decimal}
 use Rattle.std.specs.List.{join_with_byte}
 use Rattle.hu_kind.specs.Cell.{pairs_of}
 use Rattle.hu_trans.proofs.write.push_items.Given as goal

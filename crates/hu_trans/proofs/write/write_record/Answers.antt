@@ -1,6 +1,5 @@
-use Rattle.std.proofs.Common.{◌≡◌, ap, ◌∙◌, arith}
+use Rattle.std.proofs.Common.{ap, ◌∙◌, arith}
 use Rattle.std.proofs.lemmas.Grind.{common_steps}
-use Rattle.hu_trans.specs.Canonical.{canonical_line}
 use Rattle.hu_trans.specs.Reading.{reading}
 use Rattle.hu_trans.proofs.CanonicalLemmas.{reading-canonical}
 use Rattle.hu_trans.proofs.write.write_record.Goals as goal
