@@ -1,5 +1,5 @@
 -- The sums of the cells that are left, by the first of them.
-use Rattle.std.proofs.Common.{◌≡◌, ℕ, ◌+◌, ◌<◌, ℤ, ◌+ℤ◌, unsigned_abs, List, [], ◌∷◌, length, drop, get_or, ap, ◌∙◌, sym, refl, add-one, drop-cons}
+use Rattle.std.proofs.Common.{◌≡◌, ℕ, ◌+◌, ◌<◌, ◌+ℤ◌, unsigned_abs, List, ◌∷◌, length, drop, get_or, ap, ◌∙◌, refl, add-one, drop-cons}
 use Rattle.std.proofs.lemmas.List.Sums.{sum_by-cons}
 use Rattle.hu_kind.specs.declared.item.Cell.{Cell}
 use Rattle.hu_kind.specs.Cell.{pair_of, pairs_of}

@@ -1,13 +1,12 @@
 //! What may be wrong with the numbers of a line.
 
-ghost use Rattle.std.specs.Prelude.{◌≡◌, ◌≤◌, ◌<◌, ◌||◌, [], ◌∷◌, length, nat_lt, position, Ok, Err, MatchOption, if◌then◌else◌};
-ghost use Rattle.std.specs.Ordering.{int_eq};
-ghost use Rattle.hu_trans.specs.declared.fault.Fault.TheVariants.{TotalDisagrees};
-ghost use Rattle.hu_trans.specs.Reading.{first_some, no_items, too_many_items, counts_differ, item_out_of_range};
+ghost use Rattle.std.specs.Prelude.{◌≡◌, ◌≤◌, [], ◌∷◌, length, nat_lt, position};
+ghost use Rattle.hu_kind.specs.Cell.{pairs_of};
+ghost use Rattle.hu_trans.specs.Reading.{first_some, no_items, too_many_items, counts_differ, item_out_of_range, sum_too_large, total_disagrees};
 
 use crate::fault::Fault;
 use crate::sums::Sums;
-use hu_kind::{Item, Record};
+use hu_kind::{Cell, Item, Record};
 
 /// The first thing that is wrong with the items, but for one that stands twice.
 pub fn item_fault(items: &[u128], utilities: &[i128]) -> Option<Fault>
@@ -44,23 +43,26 @@ pub fn item_fault(items: &[u128], utilities: &[i128]) -> Option<Fault>
 fn great_item_place(items: &[u128]) -> Option<usize>
     ensures { result ≡ position (λ item. nat_lt 2147483647 item) items.now }
 {
-    items.iter().position(|item| *item > u128::from(Item::GREATEST))
+    items
+        .iter()
+        .position(|item| *item > u128::from(Item::GREATEST))
 }
 
-/// Whether the sums are small enough, and a stated total is the plain one or the positive one.
-pub fn check_total(stated: i128, sums: Option<Sums>) -> Result<(), Fault>
-    ensures { MatchOption sums
-        (result ≡ Err Fault.SumTooLarge)
-        (λ s. result ≡ (if int_eq stated s.plain || int_eq stated s.positive then Ok tt else Err (TotalDisagrees stated s.plain))) }
+/// What is wrong with the sums of the cells, or with a total that is stated for them.
+pub fn total_fault(stated: i128, cells: &[Cell]) -> Option<Fault>
+    ensures { result ≡ first_some (
+        sum_too_large (pairs_of cells.now)
+        ∷ total_disagrees stated (pairs_of cells.now)
+        ∷ []) }
 {
-    let Some(sums) = sums else {
-        return Err(Fault::SumTooLarge);
+    let Some(sums) = Sums::of(cells) else {
+        return Some(Fault::SumTooLarge);
     };
     if stated != sums.plain && stated != sums.positive {
-        return Err(Fault::TotalDisagrees {
+        return Some(Fault::TotalDisagrees {
             stated,
             summed: sums.plain,
         });
     }
-    Ok(())
+    None
 }

@@ -5,10 +5,13 @@
 
 mod checks;
 mod fault;
+mod judge;
 mod numbers;
 mod parts;
 mod read;
 mod sums;
+#[cfg(test)]
+mod tests;
 mod write;
 
 pub use fault::Fault;

@@ -1,7 +1,6 @@
-use Rattle.std.proofs.Common.{◌≡◌, ◌+ℤ◌, ◌≤◌, ◌<◌, ◌^◌, ◌+◌, get_or, unsigned_abs, pos, arith, rules, ap, FitsSigned}
+use Rattle.std.proofs.Common.{get_or, unsigned_abs, pos, arith, rules, ap, FitsSigned}
 use Rattle.std.specs.Int.{w128}
 use Rattle.std.proofs.lemmas.Int.{ints, to_z-of_z}
-use Rattle.std.proofs.lemmas.Grind.{common_steps}
 use Rattle.hu_kind.specs.declared.item.Cell.{Cell}
 use Rattle.hu_kind.specs.Record.{positive_part}
 use Rattle.hu_trans.proofs.SumsLemmas.{absolute-drop, total-drop, gain-drop}
