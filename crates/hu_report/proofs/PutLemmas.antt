@@ -20,8 +20,9 @@ PutsAll-append a b c (Err _) first second put next =
     )
 
 -- a failure within a text is one within that text and more
-pub PutsAll-longer : {E : Type 0} (a b : Option (List ℕ)) (e : E) (first second : List ℕ) → PutsAll a b (Err e) first → PutsAll a b (Err e) (first ++ second)
-PutsAll-longer a b e first second put =
+pub PutsAll-longer : {E F : Type 0} (a b : Option (List ℕ)) (e : E) (result : Result (Unit {0}) F) (first second : List ℕ) → IsErr result → PutsAll a b (Err e) first → PutsAll a b result (first ++ second)
+PutsAll-longer a b e (Ok _) first second failed put = absurd (cc)
+PutsAll-longer a b e (Err _) first second failed put =
     let k : ℕ = put.0 in
     let within : k ≤ length first = omega (arith, put.1) in (
       k,
@@ -56,9 +57,8 @@ Passes-append {a = a} {b = b} {c = c} {result = result} {waited = waited} {waits
 
 -- where a text fails, so does a longer one
 pub PutsAll-failed : {E : Type 0} {a b : Option (List ℕ)} {e : E} {waited waits text whole : List ℕ} (more : List ℕ) (result : Result (Unit {0}) E) → IsErr result → Passes a b (Err e) waited waits text → text ++ more ≡ whole → PutsAll a b result (waited ++ whole)
-PutsAll-failed more (Ok _) failed put same = absurd (cc)
-PutsAll-failed {a = a} {b = b} {e = e} {waited = waited} {text = text} more (Err d) failed put same =
-    subst (PutsAll a b (Err d)) (append_assoc waited text more ∙ ap (λ l. waited ++ l) same) (PutsAll-longer a b d (waited ++ text) more put.failed)
+PutsAll-failed {a = a} {b = b} {e = e} {waited = waited} {text = text} more result failed put same =
+    subst (PutsAll a b result) (append_assoc waited text more ∙ ap (λ l. waited ++ l) same) (PutsAll-longer a b e result (waited ++ text) more failed put.failed)
 
 -- the same, of what goes out and waits
 pub Passes-longer : {E : Type 0} {a b : Option (List ℕ)} {e : E} {waited waits left text whole : List ℕ} (more : List ℕ) (result : Result (Unit {0}) E) → IsErr result → Passes a b (Err e) waited waits text → text ++ more ≡ whole → Passes a b result waited left whole

@@ -42,7 +42,7 @@ impl Page {
         }
     }
 
-    /// Puts all that waits.
+    /// Puts all that waits. What waits after a failure is open.
     pub fn flush<S: Sink>(&mut self, sink: &mut S) -> Result<(), Failed>
         ensures bytes { PutsAll (S.bytes sink.old) (S.bytes sink.new) result self.old }
         ensures empty { OnOk result (self.new ≡ []) }
@@ -64,7 +64,7 @@ impl Page {
         self.len = end;
     }
 
-    /// Has the bytes wait. Where they have no room, what waits is put before.
+    /// Has the bytes wait. Where they have no room, what waits is put before. What waits after a failure is open.
     pub fn push<S: Sink>(&mut self, bytes: &[u8], sink: &mut S) -> Result<(), Failed>
         requires { length bytes.now ≤ PAGE_LEN }
         ensures bytes { Passes (S.bytes sink.old) (S.bytes sink.new) result
