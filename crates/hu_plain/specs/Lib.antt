@@ -1,3 +1,3 @@
 pub mod Row
-pub mod Kept
+pub mod View
 pub mod Makes
