@@ -14,9 +14,10 @@ use hu_collect::{Collect, law_of_members, law_of_turns};
 use hu_kind::{Entry, Item, Key, NoMemory, Record};
 use std::alloc::Global;
 
-/// Offers each itemset that some record holds, with its utility and its support. Nothing is cut. The time is
-/// proportional to the rows of all itemsets, by the logarithm of a record's cells; the memory, to the cells of the base
-/// and the rows of one itemset and its prefixes. After want of memory some of them have been offered.
+/// Offers each itemset that some record holds, with its utility and its support. Nothing is cut. A set is grown over the
+/// records that hold it alone, each looked through by halves for each item that stands after the set in some of them.
+/// The memory is a row for each record that holds a set or one of its prefixes, and the items after them. After want of
+/// memory some of the sets have been offered.
 pub fn mine_items<C: Collect>(
     alloc: Global,
     base: &Base<Record>,
