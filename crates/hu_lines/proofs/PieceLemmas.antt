@@ -1,10 +1,10 @@
 -- Pieces of bytes: how they are cut, and how they are gathered again.
 use Rattle.std.proofs.Common.{◌≡◌, ℕ, add-one, zero, suc, ◌+◌, ◌<◌, ◌≤◌, ◌||◌, true, false, cond, eqb, List, [], ◌∷◌, ◌++◌, length, take, drop, map, refl, sym, ap, subst, ◌∙◌, append_assoc, arith, Option, None, Some}
-use Rattle.std.specs.Prelude.{MatchOption}
+use Rattle.std.specs.Prelude.{MatchOption, not}
 use Rattle.std.specs.List.{concat}
 use Rattle.std.proofs.lemmas.Bool.{false≢true, false_from_ne_true}
-use Rattle.std.proofs.Math.Seq.{drop-append_seam}
-use Rattle.std.proofs.Math.Seq.{drop-length}
+use Rattle.std.proofs.lemmas.Bool.Decides.{nat_tests}
+use Rattle.std.proofs.Math.Seq.{drop-append_seam, drop-length}
 use Rattle.std.proofs.lemmas.List.{append-nil, length-take-le}
 use Rattle.std.proofs.lemmas.List.Folds.{list_any-append}
 use Rattle.memchr.specs.Find.{IsFirstByte, NoneBefore, Passes, is_byte}
@@ -44,6 +44,14 @@ first_piece_open [] open_ = refl
 first_piece_open (b ∷ bs) open_ =
     ap (λ r. b ∷ r)
     (elim (eqb b 10) as (λ t. (t || has_line_feed bs) ≡ false → cond t [] (first_piece bs) ≡ bs) [ true ↦ (λ no. absurd (false≢true (sym no))) | false ↦ first_piece_open bs ] open_)
+
+-- bytes are their first piece and what is left
+pub first_piece_split : (bytes : List ℕ) → first_piece bytes ++ drop (length (first_piece bytes)) bytes ≡ bytes
+first_piece_split [] = refl
+first_piece_split (b ∷ bs) =
+    let none : List ℕ = [] in
+    ap (λ r. b ∷ r)
+    (elim (eqb b 10) as (λ t. cond t none (first_piece bs) ++ drop (length (cond t none (first_piece bs))) bs ≡ bs) [ true ↦ refl | false ↦ first_piece_split bs ])
 
 -- the first piece of bytes comes first, and then the pieces of what is left
 pub first_piece_first : FirstPieceComesFirst
@@ -124,6 +132,13 @@ one_piece_of bytes one some =
     let P = λ (first : List ℕ). pieces bytes ≡ first ∷ pieces (drop (length first) bytes) in
     let split : P bytes = subst P one (first_piece_first bytes some) in
     split ∙ ap (λ r. bytes ∷ pieces r) (drop-length bytes)
+
+-- a first piece is one piece, unless it is empty
+pub pieces_of_one : (bytes : List ℕ) → first_piece bytes ≡ bytes → pieces bytes ≡ cond (not (eqb (length bytes) 0)) (bytes ∷ []) []
+pieces_of_one [] one = refl
+pieces_of_one (b ∷ bs) one =
+    let some : eqb (length (b ∷ bs)) 0 ≡ false = grind (arith, nat_tests) in
+    rw some (one_piece_of (b ∷ bs) one (omega arith))
 
 -- what the search for a line feed finds is the end of the first piece
 pub first_piece_found : (bytes : List ℕ) (place : Option ℕ) → IsFirstByte (is_byte 10) bytes place

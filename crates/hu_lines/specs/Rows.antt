@@ -45,7 +45,7 @@ line_feed_too_large = refl
 pub last_of_the_run : refusal_under 3 10 2 7 (97 ∷ 97 ∷ 97 ∷ []) ≡ None
 last_of_the_run = refl
 
--- an empty line and a line of spaces are skipped
+-- a line of spaces is skipped
 pub skips_spaces : is_skipped_line (32 ∷ 32 ∷ []) ≡ true
 skips_spaces = refl
 

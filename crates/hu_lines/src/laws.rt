@@ -1,6 +1,6 @@
 //! What holds of lines and refusals, whatever the bytes. These calls do nothing: their contracts are the laws.
 
-ghost use Rattle.hu_lines.specs.Laws.{WholePieceComesFirst, RestIsOnePiece, FirstPieceComesFirst, RefusalStands, FirstRefusalStands, LinesIgnoreCuts};
+ghost use Rattle.hu_lines.specs.Laws.{WholePieceComesFirst, RestIsOnePiece, FirstPieceComesFirst, RefusalStands, FirstRefusalStands, HeldComesFirst, FedComesFirst, LinesIgnoreCuts};
 
 /// Bytes that end with their only line feed are the first piece, and the pieces of what follows come after it.
 #[tactic(auto, using(crate::proofs::PieceLemmas::whole_piece_first))]
@@ -30,6 +30,19 @@ pub fn refusal_stands()
 #[tactic(auto, using(crate::proofs::LimitLemmas::refusal_first))]
 pub fn first_refusal_stands()
     ensures { FirstRefusalStands }
+{}
+
+/// Of what a reader holds and the bytes after it, the piece that has ended comes first.
+#[tactic(auto, using(crate::proofs::HeldLemmas::held_first))]
+pub fn held_comes_first()
+    ensures { HeldComesFirst }
+{}
+
+/// Feeding loses no byte: what was held, the piece that is fed and the bytes after it have the pieces of what is then
+/// held, what wasn't taken and the bytes after it, after the piece that ended, where one did.
+#[tactic(auto, using(crate::proofs::HeldLemmas::fed_first))]
+pub fn fed_comes_first()
+    ensures { FedComesFirst }
 {}
 
 /// The lines of bytes don't depend on how the bytes are cut into chunks.

@@ -1,8 +1,8 @@
 //! Lines gathered from the pieces of a file.
 
-ghost use Rattle.std.specs.Prelude.{◌≡◌, ℕ, ◌+◌, ◌-◌, ◌^◌, ◌<◌, ◌≤◌, ◌↔◌, [], ◌∷◌, ◌++◌, length, take, true, false, IsTrue, None, Some, IfSome, IfOk, IfErr, OnOk, OnErr};
+ghost use Rattle.std.specs.Prelude.{◌≡◌, ℕ, ◌+◌, ◌-◌, ◌^◌, ◌<◌, ◌≤◌, ◌↔◌, [], ◌∷◌, ◌++◌, length, take, true, false, IsTrue, None, Some, IfSome, IfOk, IfErr, OnOk, if◌then◌else◌};
 ghost use Rattle.std.specs.Result.{result_err};
-ghost use Rattle.hu_lines.specs.Pieces.{has_line_feed, first_piece, without_last, line_of, lines};
+ghost use Rattle.hu_lines.specs.Pieces.{has_line_feed, first_piece, pieces, without_last, line_of, lines};
 ghost use Rattle.hu_lines.specs.Limits.{limit_passed, refusal};
 ghost use Rattle.hu_lines.specs.Lines.{State, at_start, at_line, begun, grown, at_end, at_next_file, refusal_of, HasLine, IsHeld};
 
@@ -25,7 +25,7 @@ pub struct Fed {
 ///
 /// Feed it a file's bytes in turn, each time what it didn't take before, and read the line where it is whole; at the
 /// file's end call `end`, which tells of a last line without a line feed, and then `next_file`.
-#[derive(Drop)]
+#[derive(Debug, Drop)]
 pub struct Lines {
     bytes: Vec<u8>,
     whole: bool,
@@ -78,7 +78,7 @@ impl Lines {
         ensures stays { IfSome self.old.refused (λ fault. (result ≡ Err fault) × (self.new ≡ self.old)) }
 
         // The file goes on, and so may the line.
-        ensures open { self.new.ended ≡ false }
+        ensures going { self.new.ended ≡ false }
         ensures accepted { OnOk result (self.new.refused ≡ None) }
         ensures held { IsHeld self.new }
 
@@ -161,6 +161,7 @@ impl Lines {
     pub fn end(&mut self) -> bool
         requires { self.old.refused ≡ None }
         ensures rest { IsTrue result ↔ ((self.old.whole ≡ false) × (0 < length self.old.bytes)) }
+        ensures left { pieces (begun self.old).bytes ≡ (if result then self.old.bytes ∷ [] else []) }
         ensures ended { self.new ≡ at_end self.old }
         ensures held { IsHeld self.new }
     {

@@ -18,9 +18,9 @@ fn tell(lines: &Lines, text: &mut Vec<u8>) -> Result<(), Fail>
 
 /// Feeds a piece whole, and tells each line that ends.
 fn feed_all(lines: &mut Lines, piece: &[u8], text: &mut Vec<u8>) -> Result<(), Fail>
-    requires open { lines.old.ended ≡ false }
+    requires going { lines.old.ended ≡ false }
     requires accepted { lines.old.refused ≡ None }
-    ensures open { lines.new.ended ≡ false }
+    ensures going { lines.new.ended ≡ false }
     ensures accepted { OnOk result (lines.new.refused ≡ None) }
 {
     let mut rest = piece;

@@ -1,3 +1,2 @@
 pub mod Row
 pub mod View
-pub mod Makes

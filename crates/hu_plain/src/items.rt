@@ -3,10 +3,9 @@
 ghost use Rattle.std.specs.Prelude.{◌≡◌, [], ◌∷◌, ◌++◌, pos, IfOk, OnOk, OnErr};
 ghost use Rattle.hu_kind.specs.Itemsets.{item_patterns};
 ghost use Rattle.hu_base.specs.Base.{records_of};
-ghost use Rattle.hu_collect.specs.Rule.{made, IsKept};
+ghost use Rattle.hu_collect.specs.Rule.{made, IsKept, MakesSome};
 ghost use Rattle.hu_plain.specs.Row.{grown_entry, grown_patterns, grown_rows, AreRows};
 ghost use Rattle.hu_plain.specs.View.{rows_of};
-ghost use Rattle.hu_plain.specs.Makes.{MakesSome};
 
 use crate::row::{Row, first_rows, grown_rows, later_items, total_earned};
 use hu_base::Base;

@@ -1,7 +1,7 @@
 use Rattle.std.proofs.Common.{◌≡◌, subst, OnOk, OnErr}
 use Rattle.hu_base.specs.Base.{records_of}
 use Rattle.hu_collect.specs.Rule.{made}
-use Rattle.hu_plain.specs.Makes.{MakesSome}
+use Rattle.hu_collect.specs.Rule.{MakesSome}
 use Rattle.hu_plain.proofs.SearchLemmas.{patterns-first}
 use Rattle.hu_plain.proofs.items.mine_items.Goals as goal
 

@@ -1,0 +1,5 @@
+mod InputLemmas
+mod IntakeLemmas
+mod FrontLemmas
+mod FileLemmas
+pub mod NamesLemmas

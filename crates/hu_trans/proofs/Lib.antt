@@ -1,0 +1,4 @@
+mod LineLemmas
+mod NumbersLemmas
+mod ReadingLemmas
+mod SumsLemmas
