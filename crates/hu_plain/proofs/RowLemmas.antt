@@ -17,7 +17,7 @@ use Rattle.hu_kind.specs.Cell.{pairs_of}
 use Rattle.hu_kind.specs.Record.{items_in, absolute_of, IsRecord}
 use Rattle.hu_plain.specs.declared.row.Row.{Row}
 use Rattle.hu_plain.specs.Row.{earned, tails, weight_of, Ascend, AreRows}
-use Rattle.hu_plain.specs.Kept.{row_of, rows_of, first_row, item_of, numbers_of, AreLaterItems}
+use Rattle.hu_plain.specs.View.{row_of, rows_of, first_row, item_of, numbers_of, AreLaterItems}
 use Rattle.hu_plain.proofs.Occurring.{above_all}
 use Rattle.hu_plain.proofs.Members.{Member, Member-map, Member-from_map, Contains-from_member, Member-from_contains}
 

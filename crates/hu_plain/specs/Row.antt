@@ -1,11 +1,12 @@
 -- A search keeps a row for each record that holds its prefix: what the prefix earns there, and the record's cells
 -- after the prefix. A row is a pair (earned, cells).
-use Rattle.std.specs.Prelude.{ℕ, ◌+◌, ◌^◌, ◌<◌, ◌==◌, ℤ, pos, ◌+ℤ◌, unsigned_abs, List, [], ◌∷◌, ◌++◌, map, if◌then◌else◌, ⊤}
+use Rattle.std.specs.Prelude.{◌≡◌, refl, ℕ, ◌+◌, ◌^◌, ◌<◌, ◌==◌, ℤ, pos, ◌+ℤ◌, unsigned_abs, List, [], ◌∷◌, ◌++◌, map, if◌then◌else◌, ⊤}
 use Rattle.std.specs.List.{flat_map, sum_by, AllByRecursion}
 use Rattle.hu_kind.specs.declared.entry.Entry.{Entry}
 use Rattle.hu_kind.specs.Record.{holds, values_of, items_in, absolute_of}
 use Rattle.hu_kind.specs.Database.{support}
 use Rattle.hu_kind.specs.Itemsets.{occurring_sets}
+use Rattle.hu_kind.specs.Rows.{base_a, entry_of}
 
 -- what a prefix and a set of later items earn in a row: 0 where its cells don't hold the set
 abbrev pub earned_in : List ℕ → ℤ × List (ℕ × ℤ) → ℤ
@@ -50,3 +51,14 @@ weight_of row = unsigned_abs row.0 + absolute_of row.1
 pub record AreRows (rows : List (ℤ × List (ℕ × ℤ))) : Type 0 where
   pub ascending : AllByRecursion (λ row. Ascend (items_in row.1)) rows
   pub sum_fits : sum_by weight_of rows < 2 ^ 127
+
+-- the rows of item 5 in base A
+abbrev pub base_a_rows_of_5 : List (ℤ × List (ℕ × ℤ))
+base_a_rows_of_5 = (pos 3, (6, pos 5) ∷ []) ∷ (pos 3, []) ∷ (pos 6, (7, pos 5) ∷ []) ∷ (pos 3, (7, pos 2) ∷ []) ∷ []
+
+pub base_a_grown_by_5 : grown_rows 5 (map (λ cells. (pos 0, cells)) base_a) ≡ base_a_rows_of_5
+base_a_grown_by_5 = refl
+
+-- and the patterns that grow it
+pub patterns_after_5 : grown_patterns (pos 5 ∷ []) base_a_rows_of_5 ≡ entry_of (5 ∷ 7 ∷ []) 16 2 ∷ entry_of (5 ∷ 6 ∷ []) 8 1 ∷ []
+patterns_after_5 = refl

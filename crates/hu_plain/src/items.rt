@@ -3,10 +3,9 @@
 ghost use Rattle.std.specs.Prelude.{◌≡◌, [], ◌∷◌, ◌++◌, pos, IfOk, OnOk, OnErr};
 ghost use Rattle.hu_kind.specs.Itemsets.{item_patterns};
 ghost use Rattle.hu_base.specs.Base.{records_of};
-ghost use Rattle.hu_collect.specs.Rule.{made, IsKept};
+ghost use Rattle.hu_collect.specs.Rule.{made, IsKept, MakesSome};
 ghost use Rattle.hu_plain.specs.Row.{grown_entry, grown_patterns, grown_rows, AreRows};
-ghost use Rattle.hu_plain.specs.Kept.{rows_of};
-ghost use Rattle.hu_collect.specs.Rule.{MakesSome};
+ghost use Rattle.hu_plain.specs.View.{rows_of};
 
 use crate::row::{Row, first_rows, grown_rows, later_items, total_earned};
 use hu_base::Base;
@@ -14,9 +13,10 @@ use hu_collect::{Collect, law_of_members, law_of_turns};
 use hu_kind::{Entry, Item, Key, NoMemory, Record};
 use std::alloc::Global;
 
-/// Offers each itemset that some record holds, with its utility and its support. Nothing is cut. The time is
-/// proportional to the rows of all itemsets, by the logarithm of a record's cells; the memory, to the cells of the base
-/// and the rows of one itemset and its prefixes. After want of memory some of them have been offered.
+/// Offers each itemset that some record holds, with its utility and its support. Nothing is cut. A set is grown over the
+/// records that hold it alone, each looked through by halves for each item that stands after the set in some of them.
+/// The memory is a row for each record that holds a set or one of its prefixes, and the items after them. After want of
+/// memory some of the sets have been offered.
 pub fn mine_items<C: Collect>(
     alloc: Global,
     base: &Base<Record>,
@@ -26,6 +26,7 @@ pub fn mine_items<C: Collect>(
     ensures ok { OnOk result (C.content collect.new ≡ made (C.rule collect.old) (C.content collect.old) (item_patterns (records_of base.now))) }
     ensures err { OnErr result (MakesSome (C.rule collect.old) (C.content collect.old) (item_patterns (records_of base.now)) (C.content collect.new)) }
 {
+    // These two tell the proof that the content is in order, and that no sum overflows.
     let _floor = collect.floor();
     let _sum = base.sum();
     let rows = first_rows(alloc, base.records())?;
@@ -68,6 +69,7 @@ fn grow<'a, C: Collect>(
     requires { AreRows (rows_of rows.now) }
     ensures rule { C.rule collect.new ≡ C.rule collect.old }
     ensures rows { IfOk result (λ grown. rows_of grown.items ≡ grown_rows item.0 (rows_of rows.now)) }
+    ensures rules { IfOk result (λ grown. AreRows (rows_of grown.items)) }
     ensures prefix { OnOk result (prefix.new ≡ prefix.old ++ pos item.0 ∷ []) }
     ensures ok { OnOk result (C.content collect.new ≡ made (C.rule collect.old) (C.content collect.old) (grown_entry (prefix.old ++ pos item.0 ∷ []) (grown_rows item.0 (rows_of rows.now)) [] ∷ [])) }
     ensures err { OnErr result (C.content collect.new ≡ C.content collect.old) }

@@ -6,7 +6,7 @@ ghost use Rattle.std.specs.List.Sorted.{IsPartitionPoint};
 ghost use Rattle.hu_kind.specs.Cell.{pairs_of};
 ghost use Rattle.hu_kind.specs.Record.{items_in, absolute_of};
 ghost use Rattle.hu_plain.specs.Row.{earned, grown_row, grown_rows, weight_of, Ascend, AreRows};
-ghost use Rattle.hu_plain.specs.Kept.{row_of, rows_of, first_row, item_of, AreLaterItems};
+ghost use Rattle.hu_plain.specs.View.{row_of, rows_of, first_row, item_of, AreLaterItems};
 
 use hu_kind::{Cell, Item, NoMemory, Record};
 use std::alloc::Global;
@@ -69,7 +69,8 @@ pub(crate) fn grown_rows<'a>(
     item: Item,
 ) -> Result<Vec<Row<'a>>, NoMemory>
     requires { AreRows (rows_of rows.now) }
-    ensures { IfOk result (λ grown. rows_of grown.items ≡ grown_rows item.0 (rows_of rows.now)) }
+    ensures value { IfOk result (λ grown. rows_of grown.items ≡ grown_rows item.0 (rows_of rows.now)) }
+    ensures rules { IfOk result (λ grown. AreRows (rows_of grown.items)) }
 {
     let mut grown = Vec::new(alloc);
     for row in rows {

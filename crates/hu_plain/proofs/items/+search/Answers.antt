@@ -3,8 +3,8 @@ use Rattle.std.proofs.lemmas.List.{length-map}
 use Rattle.hu_kind.specs.declared.item.Item.{Item}
 use Rattle.hu_collect.specs.Rule.{IsKept}
 use Rattle.hu_plain.specs.Row.{grown_rows, AreRows}
-use Rattle.hu_plain.specs.Kept.{rows_of, numbers_of}
-use Rattle.hu_plain.proofs.Growth.{cells_in, cells_in-grown_rows, AreRows-grown_rows}
+use Rattle.hu_plain.specs.View.{rows_of, numbers_of}
+use Rattle.hu_plain.proofs.Growth.{cells_in, cells_in-grown_rows}
 use Rattle.hu_plain.proofs.SearchLemmas.{Search-from, MakesSome-upto, MakesSome-next, made-all, made-next, kept-own, item_occurs, next_item, Member-item, own_from, more_from, some_from, popped, on_err, rows_from, ends_from}
 use Rattle.hu_plain.proofs.items.+search.Goals as goal
 
@@ -39,7 +39,7 @@ search-requires g t c κs within =
     c.items.invariant.0 c.items.invariant.1 c.in_ok-grown.ensures.ok in
     let kept' = kept-own prefix rows (numbers_of items) s rule old i item (next_item items i no_item c.items-test.true) m (g.C.Collect.content c.items.collect) (g.C.Collect.content c.grow.new.collect) c.items.invariant.2 own in
     let fewer = cells_in-grown_rows item rows (item_occurs prefix rows (numbers_of items) s rule old item m) in
-    let are : AreRows (rows_of c.deref.result.now) = subst AreRows (sym grown) (AreRows-grown_rows item rows c.requires.rows) in
+    let are : AreRows (rows_of c.deref.result.now) = subst (λ found. AreRows (rows_of found)) (sym c.deref.ensures.value) c.in_ok-grown.ensures.rules in
     let same_rule : g.C.Collect.rule c.grow.new.collect ≡ rule = c.in_ok-grown.ensures.rule ∙ c.items.invariant.0 in
     let kept : IsKept (g.C.Collect.rule c.grow.new.collect) (g.C.Collect.content c.grow.new.collect) = subst (λ r. IsKept r (g.C.Collect.content c.grow.new.collect)) (sym same_rule) kept' in
     let smaller : cells_in (rows_of c.deref.result.now) < cells_in (rows_of c.args.rows.now) = subst (λ rs. cells_in rs < cells_in rows) (sym grown) fewer in

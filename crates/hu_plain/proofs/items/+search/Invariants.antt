@@ -1,6 +1,6 @@
 use Rattle.std.proofs.Common.{◌≡◌, take, flat_map}
 use Rattle.hu_collect.specs.Rule.{made}
-use Rattle.hu_plain.specs.Kept.{rows_of, numbers_of}
+use Rattle.hu_plain.specs.View.{rows_of, numbers_of}
 use Rattle.hu_plain.proofs.Growth.{cells_in}
 use Rattle.hu_plain.proofs.Patterns.{patterns_from}
 use Rattle.hu_plain.proofs.items.+search.Given as goal

@@ -1,6 +1,6 @@
 use Rattle.std.proofs.Common.{◌≡◌, take}
 use Rattle.hu_plain.specs.Row.{grown_rows}
-use Rattle.hu_plain.specs.Kept.{rows_of}
+use Rattle.hu_plain.specs.View.{rows_of}
 use Rattle.hu_plain.proofs.row.grown_rows.Given as goal
 
 abbrev pub invariant-loop-row : goal.invariant-loop-row

@@ -1,5 +1,5 @@
 use Rattle.std.proofs.Common.{◌≡◌, ◌++◌, map, take}
-use Rattle.hu_plain.specs.Kept.{item_of}
+use Rattle.hu_plain.specs.View.{item_of}
 use Rattle.hu_plain.proofs.row.push_items.Given as goal
 
 abbrev pub invariant-loop-cell : goal.invariant-loop-cell
