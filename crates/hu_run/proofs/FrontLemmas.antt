@@ -58,9 +58,9 @@ module _ {R : Type 0} (reading : List ℕ → Result R Reason) (absolute : R →
   front_limited t next piece fault opened some passed =
       let b = begun s in
       let limited : refusal b.number b.before (b.bytes ++ first_piece piece) ≡ Some fault =
-        sym (ap (λ r. option_or r (refusal b.number b.before (b.bytes ++ first_piece piece))) (begun_accepted s opened.accepted)) ∙ passed in
+      sym (ap (λ r. option_or r (refusal b.number b.before (b.bytes ++ first_piece piece))) (begun_accepted s opened.accepted)) ∙ passed in
       subst (λ stop. TakesFront reading absolute s base t next piece (Err stop)) (sym (limit_of_line b.number b.before _ fault limited))
-        (λ tail. outcome_limited reading absolute b.number b.before base b.bytes piece tail fault (begun_open s opened.held) some limited)
+      (λ tail. outcome_limited reading absolute b.number b.before base b.bytes piece tail fault (begun_open s opened.held) some limited)
 
   -- the line goes on after the piece
   pub front_goes_on : (n : ℕ) (piece taken : List ℕ) → take n piece ≡ taken → has_line_feed taken ≡ false

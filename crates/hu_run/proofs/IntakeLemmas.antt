@@ -62,9 +62,9 @@ module _ {R : Type 0} (reading : List ℕ → Result R Reason) (absolute : R →
   outcome_accepted bytes taken tail next r one ends within says joined =
       line_joined next r (λ s. records_from reading absolute (number + 1) (before + length (bytes ++ taken)) s (pieces tail)) joined
       ∙ sym (
-        outcome_first (bytes ++ taken) (pieces tail) (bytes ++ (taken ++ tail)) (pieces_whole bytes taken tail one ends)
-        ∙ ap (λ v. with_front (records_of base) (after_line reading absolute number (sum_of absolute base) v (λ s. records_from reading absolute (number + 1) (before + length (bytes ++ taken)) s (pieces tail))))
-          (piece_is_line (bytes ++ taken) within ∙ says)
+      outcome_first (bytes ++ taken) (pieces tail) (bytes ++ (taken ++ tail)) (pieces_whole bytes taken tail one ends)
+      ∙ ap (λ v. with_front (records_of base) (after_line reading absolute number (sum_of absolute base) v (λ s. records_from reading absolute (number + 1) (before + length (bytes ++ taken)) s (pieces tail))))
+      (piece_is_line (bytes ++ taken) within ∙ says)
       )
 
   -- a line that ended, passes no limit and is refused
@@ -74,7 +74,7 @@ module _ {R : Type 0} (reading : List ℕ → Result R Reason) (absolute : R →
   outcome_refused bytes taken tail reason one ends within says =
       outcome_first (bytes ++ taken) (pieces tail) (bytes ++ (taken ++ tail)) (pieces_whole bytes taken tail one ends)
       ∙ ap (λ v. with_front (records_of base) (after_line reading absolute number (sum_of absolute base) v (λ s. records_from reading absolute (number + 1) (before + length (bytes ++ taken)) s (pieces tail))))
-        (piece_is_line (bytes ++ taken) within ∙ says)
+      (piece_is_line (bytes ++ taken) within ∙ says)
 
   -- a line that passes a limit within the bytes to come
   pub outcome_limited : (bytes piece tail : List ℕ) (fault : LineFault) → has_line_feed bytes ≡ false → 0 < length piece
@@ -87,7 +87,7 @@ module _ {R : Type 0} (reading : List ℕ → Result R Reason) (absolute : R →
       let any : 0 < length all = omega (arith, length-append bytes (piece ++ tail), length-append piece tail) in
       outcome_first (first_piece all) _ all (first_piece_first all any)
       ∙ ap (λ v. with_front (records_of base) (after_line reading absolute number (sum_of absolute base) v (λ s. records_from reading absolute (number + 1) (before + length (first_piece all)) s (pieces (drop (length (first_piece all)) all)))))
-        (ap (λ r. option_map_or (λ f. Err (limit_reason f)) r (line_record reading absolute (sum_of absolute base) (line_of (first_piece all)))) stands)
+      (ap (λ r. option_map_or (λ f. Err (limit_reason f)) r (line_record reading absolute (sum_of absolute base) (line_of (first_piece all)))) stands)
 
   -- no line is held, and the file ends
   pub outcome_empty : outcome_at reading absolute number before [] base [] ≡ Ok (records_of base)

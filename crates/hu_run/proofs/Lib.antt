@@ -3,3 +3,5 @@ mod IntakeLemmas
 mod FrontLemmas
 mod FileLemmas
 pub mod NamesLemmas
+mod PartLemmas
+mod TopLemmas

@@ -111,7 +111,7 @@ module _ {R : Type 0} (reading : List ℕ → Result R Reason) (absolute : R →
   file_refused told name s t base next None more number reason start read = absurd read
   file_refused told name s t base next (Some content) more number reason start read =
       ap (λ r. with_front (records_of base) (after_file reading absolute name (sum_of absolute base) (Some r) (λ u. input_from reading absolute told (s.before + length content) u more)))
-        (behind_err (records_of base) (spec.records_of reading absolute s.before (sum_of absolute base) content) (record { number = number; reason = reason }) (sym (outcome_of_file s base content start) ∙ read))
+      (behind_err (records_of base) (spec.records_of reading absolute s.before (sum_of absolute base) content) (record { number = number; reason = reason }) (sym (outcome_of_file s base content start) ∙ read))
 
   stopped : (told : List ℕ → Option (List ℕ)) (done : List (List ℕ)) (name : List ℕ) (more : List (List ℕ)) (s t : State) (base next : ℕ × List R) (stop : FileStop) (result : InputStop) → IsAtStart s
       → ReadSoFar told done s.before base → ReadsFile reading absolute s base t next (told name) (Err stop) → IsStopAt name stop result → ReadsAll reading absolute told (done ++ name ∷ more) (Err result)

@@ -4,3 +4,6 @@ pub mod Input
 pub mod Intake
 pub mod Reading
 pub mod Formats
+pub mod Part
+pub mod Stop
+pub mod Run

@@ -24,13 +24,19 @@ pub(crate) enum InputStop<'a> {
         reason: Reason,
     },
     /// A read of this file failed.
-    ReadFailed { name: &'a str },
+    ReadFailed {
+        name: &'a str,
+    },
     /// There is no memory.
     NoMemory,
 }
 
 /// Reads the files in order, each to its end, and takes in their records as one base.
-pub(crate) fn read_files<'a, T: Format, F: Files>(alloc: Global, files: &mut F, names: &'a [String]) -> Result<Base<T::Record>, InputStop<'a>>
+pub(crate) fn read_files<'a, T: Format, F: Files>(
+    alloc: Global,
+    files: &mut F,
+    names: &'a [String],
+) -> Result<Base<T::Record>, InputStop<'a>>
     ensures read { IfSome (F.contents files.old) (λ told. ReadsAll T.reading T.Record.absolute told (texts_of names.now) result) }
     ensures failed { IfErr result (FailsRead T.reading T.Record.absolute (F.contents files.old) (F.faults files.old) (F.faults files.new) (texts_of names.now)) }
     ensures later { (other : List ℕ) → F.faults files.old other ≤ F.faults files.new other }

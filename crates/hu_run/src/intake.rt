@@ -64,7 +64,12 @@ impl<T: Format> Intake<T> {
 
     /// Reads a file to its end, in pieces of the buffer's size, and takes in its lines. A refused line is answered
     /// before any further read.
-    pub(crate) fn read_file<F: Files>(&mut self, files: &mut F, name: &str, buffer: &mut [u8]) -> Result<(), FileStop>
+    pub(crate) fn read_file<F: Files>(
+        &mut self,
+        files: &mut F,
+        name: &str,
+        buffer: &mut [u8],
+    ) -> Result<(), FileStop>
         requires start { IsAtStart self.old.lines }
         requires some { 0 < length buffer.old }
         ensures read { IfSome (F.contents files.old) (λ told. ReadsFile T.reading T.Record.absolute self.old.lines self.old.base self.new.lines self.new.base (told name.now) result) }
@@ -87,7 +92,13 @@ impl<T: Format> Intake<T> {
     }
 
     /// Reads a piece of a file from a place on, and takes it in.
-    fn read_piece<F: Files>(&mut self, files: &mut F, name: &str, at: u64, buffer: &mut [u8]) -> Result<usize, FileStop>
+    fn read_piece<F: Files>(
+        &mut self,
+        files: &mut F,
+        name: &str,
+        at: u64,
+        buffer: &mut [u8],
+    ) -> Result<usize, FileStop>
         requires open { IsOpen self.old.lines }
         requires some { 0 < length buffer.old }
         ensures read { IfSome (F.contents files.old) (λ told. ReadsPiece T.reading T.Record.absolute self.old.lines self.old.base self.new.lines self.new.base (told name.now) at result) }
@@ -124,7 +135,11 @@ impl<T: Format> Intake<T> {
         ensures lines { self.new.lines ≡ at_end self.old.lines }
         ensures carried { carried_of self.new.base ≡ carried_of self.old.base }
     {
-        if self.lines.end() { self.judge() } else { Ok(()) }
+        if self.lines.end() {
+            self.judge()
+        } else {
+            Ok(())
+        }
     }
 
     /// Takes in a piece of the file.
@@ -178,7 +193,10 @@ impl<T: Format> Intake<T> {
         };
         match self.base.add(one) {
             Ok(()) => Ok(()),
-            Err(AddFault::SumTooLarge { .. }) => Err(LineStop::Refused { number, reason: Reason::SumTooLarge }),
+            Err(AddFault::SumTooLarge { .. }) => Err(LineStop::Refused {
+                number,
+                reason: Reason::SumTooLarge,
+            }),
             Err(AddFault::NoMemory) => Err(LineStop::NoMemory),
         }
     }
@@ -225,8 +243,14 @@ impl From<LineFault> for LineStop {
 
     fn from(fault: LineFault) -> LineStop {
         match fault {
-            LineFault::LineTooLong { number } => LineStop::Refused { number, reason: Reason::LineTooLong },
-            LineFault::InputTooLarge { number } => LineStop::Refused { number, reason: Reason::InputTooLarge },
+            LineFault::LineTooLong { number } => LineStop::Refused {
+                number,
+                reason: Reason::LineTooLong,
+            },
+            LineFault::InputTooLarge { number } => LineStop::Refused {
+                number,
+                reason: Reason::InputTooLarge,
+            },
         }
     }
 }

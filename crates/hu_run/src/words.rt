@@ -1,6 +1,6 @@
 //! The words of the command line.
 
-ghost use Rattle.std.specs.Prelude.{◌≡◌, Some, drop, IfOk};
+ghost use Rattle.std.specs.Prelude.{◌≡◌, ◌≤◌, pos, ◌≤ℤ◌, Some, drop, IfOk, IfSome};
 ghost use Rattle.std.specs.Result.{result_err};
 ghost use Rattle.hu_run.specs.Words.{task_of, engine_of, offered_engine, least_of, top_of, offers, is_built, job, texts_of};
 ghost use Rattle.hu_run.specs.Jobs.{mining_of, files_of};
@@ -59,6 +59,8 @@ pub fn read_words(words: &[String]) -> Result<Job<'_>, WordFault>
     ensures fault { result_err result ≡ result_err (job (texts_of words.now)) }
     ensures job { IfOk result (λ found. job (texts_of words.now) ≡ Ok (mining_of found)) }
     ensures names { IfOk result (λ found. files_of found ≡ drop 4 words.now) }
+    ensures least { IfOk result (λ found. pos 1 ≤ℤ (mining_of found).least) }
+    ensures top { IfOk result (λ found. IfSome (mining_of found).top (λ k. 1 ≤ k)) }
 {
     if words.len() < 5 {
         return Err(WordFault::TooFewWords);
@@ -137,14 +139,16 @@ fn is_built(task: Task, engine: Engine) -> bool
 
 /// The least utility that a word says.
 fn read_least(word: &str) -> Option<i128>
-    ensures { result ≡ least_of word.now }
+    ensures value { result ≡ least_of word.now }
+    ensures least { IfSome result (λ n. pos 1 ≤ℤ n) }
 {
     read_number(word.as_bytes()).ok().filter(|n| *n >= 1)
 }
 
 /// How many entries a word asks for.
 fn read_top(word: &str) -> Option<Option<u32>>
-    ensures { result ≡ top_of word.now }
+    ensures value { result ≡ top_of word.now }
+    ensures some { IfSome result (λ top. IfSome top (λ k. 1 ≤ k)) }
 {
     if word == "all" {
         return Some(None);

@@ -28,8 +28,8 @@ loop-word-preserved g c =
       read.plan ∙ kept.3,
       λ other. omega (arith, read.later other, kept.4 other),
       so_far_more reading absolute contents (texts_of names) i name c.loop-word.intake.lines c.read_file.new.self.lines c.loop-word.intake.base c.read_file.new.self.base kept.0 read.carried
-        (text_cut names i c.word-item.result name c.loop-word-test.true c.word-item.is c.as_str-name.ensures.value) kept.5
-        (subst (λ cs. IfSome cs (λ told. ReadsFile reading absolute c.loop-word.intake.lines c.loop-word.intake.base c.read_file.new.self.lines c.read_file.new.self.base (told name) (Ok tt))) kept.2 read.read),
+          (text_cut names i c.word-item.result name c.loop-word-test.true c.word-item.is c.as_str-name.ensures.value) kept.5
+          (subst (λ cs. IfSome cs (λ told. ReadsFile reading absolute c.loop-word.intake.lines c.loop-word.intake.base c.read_file.new.self.lines c.read_file.new.self.base (told name) (Ok tt))) kept.2 read.read),
     )
 
 pub returns-in-Err-read_file-clause-read : goal.returns-in-Err-read_file-clause-read
@@ -43,9 +43,9 @@ returns-in-Err-read_file-clause-read g c =
     let absolute = g.T.Record.Absolute.absolute in
     let contents = g.F.Files.contents c.args.files.now in
     so_far_stopped reading absolute contents (texts_of names) i name c.loop-word.intake.lines c.read_file.new.self.lines c.loop-word.intake.base c.read_file.new.self.base c.in-Err-read_file.stop c.at_file.result kept.0
-      (text_whole names i c.word-item.result name c.loop-word-test.true c.word-item.is c.as_str-name.ensures.value) kept.5
-      (subst (λ cs. IfSome cs (λ told. ReadsFile reading absolute c.loop-word.intake.lines c.loop-word.intake.base c.read_file.new.self.lines c.read_file.new.self.base (told name) (Err c.in-Err-read_file.stop))) kept.2 read.read)
-      c.at_file.ensures
+    (text_whole names i c.word-item.result name c.loop-word-test.true c.word-item.is c.as_str-name.ensures.value) kept.5
+    (subst (λ cs. IfSome cs (λ told. ReadsFile reading absolute c.loop-word.intake.lines c.loop-word.intake.base c.read_file.new.self.lines c.read_file.new.self.base (told name) (Err c.in-Err-read_file.stop))) kept.2 read.read)
+    c.at_file.ensures
 
 pub returns-in-Err-read_file-clause-failed : goal.returns-in-Err-read_file-clause-failed
 returns-in-Err-read_file-clause-failed g c =
@@ -54,9 +54,9 @@ returns-in-Err-read_file-clause-failed g c =
     let i = c.loop-word.word-index in
     let name = c.as_str-name.result.now in
     so_far_failed g.T.Format.reading g.T.Record.Absolute.absolute (g.F.Files.contents c.args.files.now) (g.F.Files.faults c.args.files.now) (g.F.Files.faults c.read_file.new.files) (texts_of names) i name
-      c.loop-word.intake.lines.before c.loop-word.intake.base c.in-Err-read_file.stop c.at_file.result
-      (text_place names i c.word-item.result name c.loop-word-test.true c.word-item.is c.as_str-name.ensures.value) kept.5
-      (λ failed. omega (arith, kept.4 name, c.in-Err-read_file.ensures.failed (ap Err failed))) c.at_file.ensures
+    c.loop-word.intake.lines.before c.loop-word.intake.base c.in-Err-read_file.stop c.at_file.result
+    (text_place names i c.word-item.result name c.loop-word-test.true c.word-item.is c.as_str-name.ensures.value) kept.5
+    (λ failed. omega (arith, kept.4 name, c.in-Err-read_file.ensures.failed (ap Err failed))) c.at_file.ensures
 
 pub returns-clause-read : goal.returns-clause-read
 returns-clause-read g c =
@@ -67,5 +67,5 @@ returns-clause-read g c =
     let contents = g.F.Files.contents c.args.files.now in
     let all : length texts ≤ c.loop-word.word-index = omega (arith, length-map c.args.names.now string_bytes) in
     subst (λ b. IfSome contents (λ told. ReadsAll reading absolute told texts (Ok b))) (sym c.into_base.ensures)
-      (so_far_whole reading absolute contents texts c.loop-word.intake.lines.before c.loop-word.intake.base
-        (subst (λ done. SoFar reading absolute contents done c.loop-word.intake.lines.before c.loop-word.intake.base) (take_all c.loop-word.word-index texts all) kept.5))
+    (so_far_whole reading absolute contents texts c.loop-word.intake.lines.before c.loop-word.intake.base
+    (subst (λ done. SoFar reading absolute contents done c.loop-word.intake.lines.before c.loop-word.intake.base) (take_all c.loop-word.word-index texts all) kept.5))

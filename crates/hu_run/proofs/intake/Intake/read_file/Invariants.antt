@@ -16,8 +16,8 @@ invariant-loop-count g l =
     × (g.F.Files.plan l.files ≡ g.F.Files.plan l.initial.files)
     × ((other : List ℕ) → g.F.Files.faults l.initial.files other ≤ g.F.Files.faults l.files other)
     × IfSome (g.F.Files.contents l.initial.files) (λ told. IfSome (told l.name) (λ content. (l.at ≤ length content)
-      × (outcome g.T.Format.reading g.T.Record.Absolute.absolute l.self.lines l.self.base (drop l.at content)
-        ≡ outcome g.T.Format.reading g.T.Record.Absolute.absolute l.initial.self.lines l.initial.self.base content)))
+    × (outcome g.T.Format.reading g.T.Record.Absolute.absolute l.self.lines l.self.base (drop l.at content)
+    ≡ outcome g.T.Format.reading g.T.Record.Absolute.absolute l.initial.self.lines l.initial.self.base content)))
 
 abbrev pub decreases-loop-count : goal.decreases-loop-count
 decreases-loop-count g l = LARGEST_INPUT - bytes_in l.self.lines

@@ -9,7 +9,7 @@ invariant-loop-rest g l =
     × (carried_of l.self.base ≡ carried_of l.initial.self.base)
     × (bytes_in l.self.lines + length l.rest ≡ bytes_in l.initial.self.lines + length l.piece)
     × ((tail : List ℕ) → outcome g.T.Format.reading g.T.Record.Absolute.absolute l.self.lines l.self.base (l.rest ++ tail)
-      ≡ outcome g.T.Format.reading g.T.Record.Absolute.absolute l.initial.self.lines l.initial.self.base (l.piece ++ tail))
+    ≡ outcome g.T.Format.reading g.T.Record.Absolute.absolute l.initial.self.lines l.initial.self.base (l.piece ++ tail))
 
 abbrev pub decreases-loop-rest : goal.decreases-loop-rest
 decreases-loop-rest g l = length l.rest
