@@ -3,5 +3,7 @@
 #![tactic(auto)]
 
 mod base;
+#[cfg(test)]
+mod tests;
 
 pub use base::{AddFault, Base};
