@@ -1,0 +1,32 @@
+//! hupm, a miner of patterns of high utility: `hupm TASK ENGINE MIN TOP FILE [BATCH ..]`. All that it does is one call of
+//! [`hu_run::run`] over the words, the files of the system and its streams.
+#![tactic(auto)]
+
+use hu_io::{DiskFiles, StreamSink};
+use hu_run::run;
+use std::env;
+use std::io;
+use std::process::ExitCode;
+use std::rt::Env;
+
+/// The status where the words find no memory.
+const OUT_OF_MEMORY: u8 = 5;
+
+fn main(rt: HostRuntime) -> ExitCode {
+    let Ok(words) = read_args(&rt) else {
+        return ExitCode::from(OUT_OF_MEMORY);
+    };
+    let mut files = DiskFiles::new(rt, rt.stdin());
+    let mut out = StreamSink::new(rt.stdout());
+    let mut err = StreamSink::new(rt.stderr());
+    ExitCode::from(run(rt.alloc(), &words, &mut files, &mut out, &mut err))
+}
+
+/// The words of the command line, without the program's name.
+fn read_args(rt: &(impl Env + AllocGlobal)) -> io::Result<Vec<String>> {
+    let mut words = Vec::new(rt.alloc());
+    for word in env::args(rt)?.skip(1) {
+        words.push(word)?;
+    }
+    Ok(words)
+}
