@@ -8,3 +8,4 @@ pub mod Answer
 pub mod Number
 pub mod Rows
 pub mod Token
+pub mod Cells
