@@ -45,6 +45,7 @@ not_memory (Some fault) sets told h = let same : fault ≡ NoMemory = cc in let 
 
 -- no line tells want of memory
 pub reading-memory : (line : List ℕ) → reading line ≢ Err NoMemory
+unfolding reading
 reading-memory line =
     let told : AreTold (faults line) = search (rules, then_told, map_told, total_told) depth 30 in
     not_memory (first_some (faults line)) (map by_item (itemsets (known line))) (first_told (faults line) told)

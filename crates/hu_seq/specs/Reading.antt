@@ -11,7 +11,7 @@ use Rattle.hu_kind.specs.Token.{tokens}
 use Rattle.hu_seq.specs.declared.fault.SeqFault.{SeqFault}
 use Rattle.hu_seq.specs.declared.fault.SeqFault.TheVariants.{BadToken, NoEnd, AfterEnd, OpenItemset, EmptyItemset, NoItems, TooManyItems, ItemOutOfRange, DuplicateItem, Negative, SumTooLarge, TotalDisagrees}
 use Rattle.hu_seq.specs.declared.token.Token.{Token}
-use Rattle.hu_seq.specs.Token.{token_of, is_cell, is_itemset_end, is_sequence_end, is_total, is_out_of_range, is_negative, pair_in, sum_in}
+use Rattle.hu_seq.specs.Token.{token_of, is_unknown, is_cell, is_itemset_end, is_sequence_end, is_total, is_out_of_range, is_negative, pair_in, sum_in}
 
 -- the first that there is
 abbrev pub first_some : {A : Type 0} → List (Option A) → Option A
@@ -33,7 +33,7 @@ itemsets told = map cells (slice_split is_itemset_end (before_last is_itemset_en
 
 -- the first token of none of the four kinds
 abbrev pub bad_token : List (List ℕ) → Option SeqFault
-bad_token texts = option_map (λ k. BadToken (k + 1)) (position (λ text. is_none (token_of text)) texts)
+bad_token texts = option_map (λ k. BadToken (k + 1)) (position is_unknown texts)
 
 -- no token is `-2`
 abbrev pub no_end : List Token → Option SeqFault
@@ -116,5 +116,5 @@ faults line =
     ∷ []
 
 -- the first fault of a line, and where it has none its itemsets in order, each with its items ascending
-abbrev pub reading : List ℕ → Result (List (List (ℕ × ℤ))) SeqFault
+unfoldable pub reading : List ℕ → Result (List (List (ℕ × ℤ))) SeqFault
 reading line = option_map_or Err (first_some (faults line)) (Ok (map by_item (itemsets (known line))))

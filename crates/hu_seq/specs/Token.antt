@@ -1,7 +1,7 @@
 -- The tokens of a sequence line. After SPMF's format of sequence databases with utilities.
 use Rattle.std.specs.Prelude.{ℕ, ◌+◌, ◌-◌, ◌==◌, nat_eq, nat_lt, ℤ, pos, int_lt, unsigned_abs, Bool, true, false, Option, None, Some, List, length, take, drop, codes, if◌then◌else◌}
 use Rattle.std.specs.List.{position, starts_with, ends_with}
-use Rattle.std.specs.Option.{option_map, option_and_then, option_or}
+use Rattle.std.specs.Option.{option_map, option_and_then, option_or, is_none}
 use Rattle.std.specs.Result.{result_ok}
 use Rattle.std.specs.Str.{bytes_eq}
 use Rattle.hu_kind.specs.Number.{number, signed_number}
@@ -25,11 +25,15 @@ abbrev pub total_of : List ℕ → Option Token
 total_of text = if starts_with nat_eq text (codes "SUtility:") then option_map Total (result_ok (signed_number (drop 9 text))) else None
 
 -- what a text says: the end of an itemset, the end of the sequence, a total or a cell
-abbrev pub token_of : List ℕ → Option Token
+unfoldable pub token_of : List ℕ → Option Token
 token_of text =
     if bytes_eq text (codes "-1") then Some ItemsetEnd
     else (if bytes_eq text (codes "-2") then Some SequenceEnd
     else option_or (total_of text) (cell_of text))
+
+-- a text of none of the four kinds
+abbrev pub is_unknown : List ℕ → Bool
+is_unknown text = is_none (token_of text)
 
 -- the four kinds of token
 abbrev pub is_cell : Token → Bool

@@ -19,6 +19,7 @@ pub(crate) enum Token {
 }
 
 /// What a text says, where it is a token of one of the four kinds.
+#[tactic(auto, unfolding(crate::specs::Token::token_of))]
 pub(crate) fn token_of(text: &[u8]) -> Option<Token>
     ensures { result ≡ token_of text.now }
 {
