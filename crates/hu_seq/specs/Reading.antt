@@ -1,9 +1,9 @@
 -- What a sequence line says: a sequence, or its first fault. The line is one or more itemsets, then `-2`, then one total
 -- or nothing; an itemset is one or more cells, then `-1`.
-use Rattle.std.specs.Prelude.{ℕ, ◌+◌, ◌-◌, ◌^◌, nat_lt, ℤ, pos, int_lt, Bool, true, false, not, ◌&&◌, ◌||◌, Option, None, Some, is_none, Result, Ok, Err, List, [], ◌∷◌, map, length, position, filter_map, slice_get}
+use Rattle.std.specs.Prelude.{ℕ, ◌+◌, ◌-◌, ◌^◌, nat_lt, ℤ, pos, int_lt, Bool, true, false, not, ◌&&◌, ◌||◌, Option, None, Some, is_none, Result, Ok, Err, List, [], ◌∷◌, ◌++◌, map, take, length, position, filter_map, slice_get}
 use Rattle.std.specs.Bool.{then_some}
 use Rattle.std.specs.Ordering.{int_eq}
-use Rattle.std.specs.List.{before_first, after_first, before_last, list_any, slice_split}
+use Rattle.std.specs.List.{before_first, after_first, position_or_len, count_by, list_any, slice_split}
 use Rattle.std.specs.Option.{option_map, option_map_or}
 use Rattle.hu_kind.specs.Cells.{by_item, twice}
 use Rattle.hu_kind.specs.Record.{items_in, total}
@@ -27,9 +27,13 @@ known line = filter_map token_of (tokens line)
 abbrev pub cells : List Token → List (ℕ × ℤ)
 cells told = filter_map pair_in told
 
--- the itemsets: the cells between the `-1`s, up to the last of these
+-- what stands before the first `-2`, without its last token
+abbrev pub body : List Token → List Token
+body told = take (position_or_len is_sequence_end told - 1) told
+
+-- the itemsets: the cells between the `-1`s of the body
 abbrev pub itemsets : List Token → List (List (ℕ × ℤ))
-itemsets told = map cells (slice_split is_itemset_end (before_last is_itemset_end told))
+itemsets told = map cells (slice_split is_itemset_end (body told))
 
 -- the first token of none of the four kinds
 abbrev pub bad_token : List (List ℕ) → Option SeqFault
@@ -37,7 +41,7 @@ bad_token texts = option_map (λ k. BadToken (k + 1)) (position is_unknown texts
 
 -- no token is `-2`
 abbrev pub no_end : List Token → Option SeqFault
-no_end told = then_some (not (list_any is_sequence_end told)) NoEnd
+no_end told = then_some (is_none (position is_sequence_end told)) NoEnd
 
 -- tokens that are nothing, or one total alone
 abbrev pub is_total_or_nothing : List Token → Bool
@@ -75,7 +79,7 @@ no_items told = then_some (first_is is_sequence_end told) NoItems
 
 -- there are more than 4,096 cells
 abbrev pub too_many_items : List Token → Option SeqFault
-too_many_items told = then_some (nat_lt 4096 (length (cells told))) (TooManyItems (length (cells told)))
+too_many_items told = then_some (nat_lt 4096 (count_by is_cell told)) (TooManyItems (count_by is_cell told))
 
 -- the first cell whose item is above 2,147,483,647
 abbrev pub item_out_of_range : List Token → Option SeqFault
@@ -98,22 +102,24 @@ abbrev pub total_disagrees : List ℤ → List (ℕ × ℤ) → Option SeqFault
 total_disagrees [] pairs = None
 total_disagrees (sum ∷ sums) pairs = then_some (not (int_eq sum (total pairs))) (TotalDisagrees sum (total pairs))
 
--- the faults that a line may have, in their order
-abbrev pub faults : List ℕ → List (Option SeqFault)
-faults line =
-    bad_token (tokens line)
-    ∷ no_end (known line)
-    ∷ after_end (known line)
-    ∷ open_itemset (known line)
-    ∷ empty_itemset (known line)
-    ∷ no_items (known line)
-    ∷ too_many_items (known line)
-    ∷ item_out_of_range (known line)
-    ∷ duplicate_item (itemsets (known line))
-    ∷ negative (known line)
-    ∷ sum_too_large (cells (known line))
-    ∷ total_disagrees (filter_map sum_in (known line)) (cells (known line))
+-- the faults in the order of the tokens
+abbrev pub order_faults : List Token → List (Option SeqFault)
+order_faults told = no_end told ∷ after_end told ∷ open_itemset told ∷ empty_itemset told ∷ no_items told ∷ []
+
+-- the faults in the cells and their sum
+abbrev pub cell_faults : List Token → List (Option SeqFault)
+cell_faults told =
+    too_many_items told
+    ∷ item_out_of_range told
+    ∷ duplicate_item (itemsets told)
+    ∷ negative told
+    ∷ sum_too_large (cells told)
+    ∷ total_disagrees (filter_map sum_in told) (cells told)
     ∷ []
+
+-- the faults that a line may have, in the order in which the first of them counts
+abbrev pub faults : List ℕ → List (Option SeqFault)
+faults line = bad_token (tokens line) ∷ order_faults (known line) ++ cell_faults (known line)
 
 -- the first fault of a line, and where it has none its itemsets in order, each with its items ascending
 unfoldable pub reading : List ℕ → Result (List (List (ℕ × ℤ))) SeqFault

@@ -47,19 +47,19 @@ returns-in-None-token_of-clause-err c =
     let step : c.loop-text.text-iterator ≡ c.in-Some.text.now ∷ c.next.new.self = c.in-Some.ensures.steps in
     let is : token_of c.in-Some.text.now ≡ None = cc in
     let here : position_from is_unknown 0 (tokens c.args.line.now) ≡ Some c.len.result =
-        c.loop-text.invariant.place
-        ∙ ap (position_from is_unknown (vec_len c.loop-text.told)) step
-        ∙ unknown-here (vec_len c.loop-text.told) c.in-Some.text.now c.next.new.self is
-        ∙ ap Some (sym c.len.ensures) in
+    c.loop-text.invariant.place
+    ∙ ap (position_from is_unknown (vec_len c.loop-text.told)) step
+    ∙ unknown-here (vec_len c.loop-text.told) c.in-Some.text.now c.next.new.self is
+    ∙ ap Some (sym c.len.ensures) in
     inr (bad_token-from (tokens c.args.line.now) ∙ ap (option_map (λ k. BadToken (k + 1))) here)
 
 pub returns-clause-told : goal.returns-clause-told
 returns-clause-told c =
     let over : c.loop-text.text-iterator ≡ [] = c.in-None.ensures.steps.0 in
     sym (
-      c.loop-text.invariant.rest
-      ∙ ap (λ left. c.loop-text.told.items ++ filter_map token_of left) over
-      ∙ append-nil c.loop-text.told.items
+    c.loop-text.invariant.rest
+    ∙ ap (λ left. c.loop-text.told.items ++ filter_map token_of left) over
+    ∙ append-nil c.loop-text.told.items
     )
 
 pub returns-clause-ok : goal.returns-clause-ok
