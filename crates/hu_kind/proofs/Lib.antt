@@ -1,3 +1,5 @@
 mod RecordLemmas
 mod NumberLemmas
 pub mod TokenLemmas
+pub mod RankingLemmas
+mod CellsLemmas

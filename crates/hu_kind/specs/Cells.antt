@@ -1,5 +1,5 @@
 -- What makes a set of cells of the pairs (item, value) that a line tells.
-use Rattle.std.specs.Prelude.{◌≡◌, ℕ, ◌==◌, nat_lt, ℤ, pos, negsuc, Bool, Option, None, Some, min, List, [], ◌∷◌, map, filter, count_by, refl}
+use Rattle.std.specs.Prelude.{◌≡◌, ℕ, ◌<◌, ◌≤◌, ◌==◌, nat_lt, ℤ, pos, negsuc, Option, None, Some, min, List, [], ◌∷◌, filter, count_by, refl}
 use Rattle.std.specs.declared.cmp.Ordering.{Ordering}
 use Rattle.std.specs.List.{reduce}
 use Rattle.std.specs.Ordering.{nat_cmp, int_cmp, ordering_then}
@@ -20,6 +20,11 @@ times item items = count_by (λ other. other == item) items
 -- the smallest of the items that stand more than once
 abbrev pub twice : List ℕ → Option ℕ
 twice items = reduce min (filter (λ item. nat_lt 1 (times item items)) items)
+
+-- an item stands more than once, and no smaller one does
+pub record IsFirstTwice (items : List ℕ) (item : ℕ) : Type 0 where
+  pub more : 1 < times item items
+  pub least : (other : ℕ) → 1 < times other items → item ≤ other
 
 -- an example of each
 pub four_pairs : by_item ((3, pos 3) ∷ (5, pos 3) ∷ (2, pos 8) ∷ (4, negsuc 5) ∷ []) ≡ (2, pos 8) ∷ (3, pos 3) ∷ (4, negsuc 5) ∷ (5, pos 3) ∷ []

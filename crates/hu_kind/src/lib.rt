@@ -1,6 +1,7 @@
 //! The types that every crate of hupm shares, and the definitions of the whole answer.
 #![tactic(auto)]
 
+mod cells;
 mod entry;
 mod item;
 mod key;
@@ -11,6 +12,7 @@ mod sequence;
 mod task;
 mod token;
 
+pub use cells::ordered_cells;
 pub use entry::Entry;
 pub use item::{Cell, Item};
 pub use key::Key;

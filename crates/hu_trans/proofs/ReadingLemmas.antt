@@ -1,5 +1,5 @@
 -- The reading of a line.
-use Rattle.std.proofs.Common.{◌≡◌, ◌≢◌, ◌+◌, ◌^◌, ◌==◌, ◌||◌, ℕ, ℤ, Bool, true, false, not, nat_lt, Option, None, Some, Result, Ok, Err, List, [], ◌∷◌, length, position, IfSome}
+use Rattle.std.proofs.Common.{◌≡◌, ◌≢◌, ◌+◌, ◌^◌, ◌==◌, ◌||◌, ℕ, ℤ, Bool, true, false, not, nat_lt, Option, None, Some, Result, Ok, Err, List, [], ◌∷◌, length, position, zip, IfSome}
 use Rattle.std.specs.Bool.{then_some}
 use Rattle.std.specs.Ordering.{int_eq}
 use Rattle.std.specs.Option.{option_map, option_map_or}
@@ -8,8 +8,8 @@ use Rattle.hu_kind.specs.Number.{number, signed_number}
 use Rattle.hu_kind.specs.Record.{absolute_of, total, gain}
 use Rattle.hu_trans.specs.declared.fault.Fault.{Fault}
 use Rattle.hu_trans.specs.declared.fault.Fault.TheVariants.{NotThreeParts, BadNumber, NoItems, TooManyItems, CountsDiffer, ItemOutOfRange, DuplicateItem, SumTooLarge, TotalDisagrees, NoMemory}
-use Rattle.hu_trans.specs.Line.{parts, item_tokens, total_tokens, value_tokens, bad_token, bad_total, items, stated, values, pairs}
-use Rattle.hu_trans.specs.Reading.{first_some, not_three_parts, bad_number, no_items, too_many_items, counts_differ, item_out_of_range, duplicate_item, sum_too_large, total_disagrees, faults, reading}
+use Rattle.hu_trans.specs.Line.{parts, item_tokens, total_tokens, value_tokens, bad_token, bad_total, items, stated, values}
+use Rattle.hu_trans.specs.Reading.{first_some, not_three_parts, bad_number, no_items, too_many_items, counts_differ, item_out_of_range, duplicate_item, sum_too_large, total_disagrees, form_faults, number_faults, judged, reading}
 
 -- a fault of a line, and not want of memory
 abbrev IsTold : Option Fault → Type 0
@@ -62,34 +62,26 @@ large_told cells = then_told (not (nat_lt (absolute_of cells) (2 ^ 127))) SumToo
 total_told : (sum : ℤ) (cells : List (ℕ × ℤ)) → IsTold (total_disagrees sum cells)
 total_told sum cells = then_told (not (int_eq sum (total cells) || int_eq sum (gain cells))) (TotalDisagrees sum (total cells)) (λ h. cc)
 
-not_memory : (first : Option Fault) (cells : List (ℕ × ℤ)) → IsTold first → option_map_or Err first (Ok cells) ≢ Err NoMemory
-not_memory None cells told h = cc
-not_memory (Some fault) cells told h = told cc
+not_memory : (first : Option Fault) (rest : Result (List (ℕ × ℤ)) Fault) → IsTold first → rest ≢ Err NoMemory → option_map_or Err first rest ≢ Err NoMemory
+not_memory None rest told kept h = kept h
+not_memory (Some fault) rest told kept h = told cc
+
+form_told : (line : List ℕ) → AreTold (form_faults line)
+form_told line = (three_told (parts line), (number_told (item_tokens line) (total_tokens line) (value_tokens line), tt))
+
+numbers_told : (numbers : List ℕ) (sum : ℤ) (utilities : List ℤ) → AreTold (number_faults numbers sum utilities)
+numbers_told numbers sum utilities = (
+    none_told numbers,
+    (many_told numbers,
+    (counts_told numbers utilities,
+    (range_told numbers,
+    (twice_told numbers,
+    (large_told (zip numbers utilities),
+    (total_told sum (zip numbers utilities), tt))))))
+)
 
 -- no line tells want of memory
 pub reading-memory : (line : List ℕ) → reading line ≢ Err NoMemory
-reading-memory line = not_memory (first_some (faults line)) (by_item (pairs line)) (first_told (faults line) (
-  three_told (parts line),
-  (
-    number_told (item_tokens line) (total_tokens line) (value_tokens line),
-    (
-      none_told (items line),
-      (
-        many_told (items line),
-        (
-          counts_told (items line) (values line),
-          (
-            range_told (items line),
-            (
-              twice_told (items line),
-              (
-                large_told (pairs line),
-                (total_told (stated line) (pairs line), tt),
-              ),
-            ),
-          ),
-        ),
-      ),
-    ),
-  ),
-))
+reading-memory line =
+    not_memory (first_some (form_faults line)) (judged (items line) (stated line) (values line)) (first_told (form_faults line) (form_told line))
+    (not_memory (first_some (number_faults (items line) (stated line) (values line))) (Ok (by_item (zip (items line) (values line)))) (first_told (number_faults (items line) (stated line) (values line)) (numbers_told (items line) (stated line) (values line))) (λ h. cc))

@@ -1,6 +1,6 @@
 -- A transaction line tells the items of a record, its total, and the value of each item: `items:total:values`.
 -- After SPMF's format of databases with utilities.
-use Rattle.std.specs.Prelude.{ℕ, ◌+◌, ◌==◌, ℤ, pos, unsigned_abs, Bool, true, false, Option, None, Some, unwrap_or, Result, is_ok, is_err, List, [], ◌∷◌, map, length, position, zip, filter_map, slice_get, if◌then◌else◌}
+use Rattle.std.specs.Prelude.{ℕ, ◌+◌, ◌==◌, ℤ, pos, unsigned_abs, Bool, true, false, Option, None, Some, unwrap_or, Result, is_ok, is_err, List, [], ◌∷◌, map, length, position, filter_map, slice_get, if◌then◌else◌}
 use Rattle.std.specs.List.{slice_split}
 use Rattle.std.specs.Option.{option_map}
 use Rattle.std.specs.Result.{result_ok}
@@ -47,10 +47,6 @@ items line = map unsigned_abs (numbers number (item_tokens line))
 abbrev pub stated : List ℕ → ℤ
 stated line = unwrap_or (slice_get (numbers signed_number (total_tokens line)) 0) (pos 0)
 
--- the values that it tells, in its order
+-- the values that it tells, in its order: the j-th belongs to the j-th item
 abbrev pub values : List ℕ → List ℤ
 values line = numbers signed_number (value_tokens line)
-
--- the j-th value belongs to the j-th item
-abbrev pub pairs : List ℕ → List (ℕ × ℤ)
-pairs line = zip (items line) (values line)

@@ -1,5 +1,5 @@
 -- What a transaction line says: a record, or its first fault.
-use Rattle.std.specs.Prelude.{ℕ, ◌+◌, ◌^◌, ◌==◌, nat_lt, ℤ, Bool, true, false, not, ◌||◌, Option, None, Some, Result, Ok, Err, List, [], ◌∷◌, length, position}
+use Rattle.std.specs.Prelude.{ℕ, ◌+◌, ◌^◌, ◌==◌, nat_lt, ℤ, Bool, true, false, not, ◌||◌, Option, None, Some, Result, Ok, Err, List, [], ◌∷◌, length, position, zip}
 use Rattle.std.specs.Bool.{then_some}
 use Rattle.std.specs.Ordering.{int_eq}
 use Rattle.std.specs.Option.{option_map, option_map_or}
@@ -8,7 +8,7 @@ use Rattle.hu_kind.specs.Number.{number, signed_number}
 use Rattle.hu_kind.specs.Record.{absolute_of, total, gain}
 use Rattle.hu_trans.specs.declared.fault.Fault.{Fault}
 use Rattle.hu_trans.specs.declared.fault.Fault.TheVariants.{NotThreeParts, BadNumber, NoItems, TooManyItems, CountsDiffer, ItemOutOfRange, DuplicateItem, SumTooLarge, TotalDisagrees}
-use Rattle.hu_trans.specs.Line.{parts, item_tokens, total_tokens, value_tokens, bad_token, bad_total, items, stated, values, pairs}
+use Rattle.hu_trans.specs.Line.{parts, item_tokens, total_tokens, value_tokens, bad_token, bad_total, items, stated, values}
 
 -- the first that there is
 abbrev pub first_some : {A : Type 0} → List (Option A) → Option A
@@ -56,20 +56,29 @@ sum_too_large cells = then_some (not (nat_lt (absolute_of cells) (2 ^ 127))) Sum
 abbrev pub total_disagrees : ℤ → List (ℕ × ℤ) → Option Fault
 total_disagrees sum cells = then_some (not (int_eq sum (total cells) || int_eq sum (gain cells))) (TotalDisagrees sum (total cells))
 
--- the faults that a line may have, in their order
-abbrev pub faults : List ℕ → List (Option Fault)
-faults line =
+-- what may be wrong with the form of a line, in order
+abbrev pub form_faults : List ℕ → List (Option Fault)
+form_faults line =
     not_three_parts (parts line)
     ∷ bad_number (item_tokens line) (total_tokens line) (value_tokens line)
-    ∷ no_items (items line)
-    ∷ too_many_items (items line)
-    ∷ counts_differ (items line) (values line)
-    ∷ item_out_of_range (items line)
-    ∷ duplicate_item (items line)
-    ∷ sum_too_large (pairs line)
-    ∷ total_disagrees (stated line) (pairs line)
     ∷ []
 
--- the first fault of a line, and where it has none the record of its pairs, their items ascending
+-- what may be wrong with its numbers, in order
+abbrev pub number_faults : List ℕ → ℤ → List ℤ → List (Option Fault)
+number_faults numbers sum utilities =
+    no_items numbers
+    ∷ too_many_items numbers
+    ∷ counts_differ numbers utilities
+    ∷ item_out_of_range numbers
+    ∷ duplicate_item numbers
+    ∷ sum_too_large (zip numbers utilities)
+    ∷ total_disagrees sum (zip numbers utilities)
+    ∷ []
+
+-- the first fault of a line's numbers, and where they have none the record of its pairs, their items ascending
+abbrev pub judged : List ℕ → ℤ → List ℤ → Result (List (ℕ × ℤ)) Fault
+judged numbers sum utilities = option_map_or Err (first_some (number_faults numbers sum utilities)) (Ok (by_item (zip numbers utilities)))
+
+-- the first fault of a line's form, and where it has none what its numbers say
 abbrev pub reading : List ℕ → Result (List (ℕ × ℤ)) Fault
-reading line = option_map_or Err (first_some (faults line)) (Ok (by_item (pairs line)))
+reading line = option_map_or Err (first_some (form_faults line)) (judged (items line) (stated line) (values line))

@@ -1,5 +1,7 @@
 //! Why a line is no record.
 
+ghost use Rattle.std.specs.Prelude.{◌≡◌};
+
 use hu_kind::{Item, NoMemory};
 use std::alloc::{AllocError, AllocFailed};
 
@@ -27,4 +29,34 @@ pub enum Fault {
     TotalDisagrees { stated: i128, summed: i128 },
     /// Memory was asked for and not given. No line has this fault.
     NoMemory,
+}
+
+impl From<NoMemory> for Fault {
+    ghost use Rattle.hu_trans.specs.declared.fault.Fault.{Fault};
+
+    ghost from_gives = { λ _ fault. fault ≡ Fault.NoMemory };
+
+    fn from(_error: NoMemory) -> Fault {
+        Fault::NoMemory
+    }
+}
+
+impl From<AllocError> for Fault {
+    ghost use Rattle.hu_trans.specs.declared.fault.Fault.{Fault};
+
+    ghost from_gives = { λ _ fault. fault ≡ Fault.NoMemory };
+
+    fn from(_error: AllocError) -> Fault {
+        Fault::NoMemory
+    }
+}
+
+impl<T: Drop> From<AllocFailed<T>> for Fault {
+    ghost use Rattle.hu_trans.specs.declared.fault.Fault.{Fault};
+
+    ghost from_gives = { λ _ fault. fault ≡ Fault.NoMemory };
+
+    fn from(_failed: AllocFailed<T>) -> Fault {
+        Fault::NoMemory
+    }
 }

@@ -4,6 +4,8 @@
 #![tactic(auto)]
 
 mod fault;
+mod numbers;
+mod parts;
 mod read;
 mod write;
 

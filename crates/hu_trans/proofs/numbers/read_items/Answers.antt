@@ -1,0 +1,15 @@
+use Rattle.std.proofs.Common.{ap, sym, inr}
+use Rattle.std.specs.Option.{option_map}
+use Rattle.hu_kind.specs.Number.{number}
+use Rattle.hu_kind.specs.Token.{tokens}
+use Rattle.hu_trans.specs.declared.fault.Fault.TheVariants.{BadNumber}
+use Rattle.hu_trans.proofs.NumbersLemmas.{bad_token-none, bad_token-some}
+use Rattle.hu_trans.proofs.numbers.read_items.Goals as goal
+
+pub returns-in-Err-clause-bad : goal.returns-in-Err-clause-bad
+returns-in-Err-clause-bad c =
+    let first = bad_token-some number (tokens c.args.part.now) _ c.loop-token.at _ _ _ c.loop-token.invariant.place c.in-Some.ensures.steps (sym c.in-Err.ensures) in
+    inr (ap (option_map (BadNumber 1)) first)
+
+pub returns-clause-good : goal.returns-clause-good
+returns-clause-good c = bad_token-none number (tokens c.args.part.now) _ c.loop-token.at c.loop-token.invariant.place c.in-None.ensures.steps.0
