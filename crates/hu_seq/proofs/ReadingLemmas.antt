@@ -5,7 +5,7 @@ use Rattle.std.specs.Option.{option_map, option_map_or}
 use Rattle.hu_kind.specs.Cells.{by_item}
 use Rattle.hu_seq.specs.declared.fault.SeqFault.{SeqFault}
 use Rattle.hu_seq.specs.declared.fault.SeqFault.TheVariants.{NoMemory}
-use Rattle.hu_seq.specs.Reading.{faults, first_some, itemsets, known, reading, total_disagrees}
+use Rattle.hu_seq.specs.Reading.{faults, first_some, body, itemsets, known, reading, total_disagrees}
 
 -- whether a fault is want of memory
 abbrev is_memory : SeqFault → Bool
@@ -48,4 +48,4 @@ pub reading-memory : (line : List ℕ) → reading line ≢ Err NoMemory
 unfolding reading
 reading-memory line =
     let told : AreTold (faults line) = search (rules, then_told, map_told, total_told) depth 30 in
-    not_memory (first_some (faults line)) (map by_item (itemsets (known line))) (first_told (faults line) told)
+    not_memory (first_some (faults line)) (map by_item (itemsets (body (known line)))) (first_told (faults line) told)

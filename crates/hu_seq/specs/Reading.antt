@@ -31,9 +31,9 @@ cells told = filter_map pair_in told
 abbrev pub body : List Token → List Token
 body told = take (position_or_len is_sequence_end told - 1) told
 
--- the itemsets: the cells between the `-1`s of the body
+-- the itemsets of a body: the cells between its `-1`s
 abbrev pub itemsets : List Token → List (List (ℕ × ℤ))
-itemsets told = map cells (slice_split is_itemset_end (body told))
+itemsets told = map cells (slice_split is_itemset_end told)
 
 -- the first token of none of the four kinds
 abbrev pub bad_token : List (List ℕ) → Option SeqFault
@@ -111,7 +111,7 @@ abbrev pub cell_faults : List Token → List (Option SeqFault)
 cell_faults told =
     too_many_items told
     ∷ item_out_of_range told
-    ∷ duplicate_item (itemsets told)
+    ∷ duplicate_item (itemsets (body told))
     ∷ negative told
     ∷ sum_too_large (cells told)
     ∷ total_disagrees (filter_map sum_in told) (cells told)
@@ -123,4 +123,4 @@ faults line = bad_token (tokens line) ∷ order_faults (known line) ++ cell_faul
 
 -- the first fault of a line, and where it has none its itemsets in order, each with its items ascending
 unfoldable pub reading : List ℕ → Result (List (List (ℕ × ℤ))) SeqFault
-reading line = option_map_or Err (first_some (faults line)) (Ok (map by_item (itemsets (known line))))
+reading line = option_map_or Err (first_some (faults line)) (Ok (map by_item (itemsets (body (known line)))))

@@ -5,6 +5,7 @@
 #![tactic(auto)]
 
 mod fault;
+mod itemset;
 mod order;
 mod read;
 mod token;

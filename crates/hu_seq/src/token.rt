@@ -1,9 +1,11 @@
 //! Tokens of a sequence line.
 
-ghost use Rattle.std.specs.Prelude.{◌≡◌, ◌<◌, ◌==◌, length, position, IfSome};
-ghost use Rattle.hu_seq.specs.Token.{token_of, total_of, cell_of, cell_inside, cell_from, is_cell, is_itemset_end, is_sequence_end, is_total, is_out_of_range, is_negative};
+ghost use Rattle.std.specs.Prelude.{◌≡◌, ◌<◌, ◌≤◌, ◌==◌, false, length, position, IfSome};
+ghost use Rattle.std.specs.Option.{option_map};
+ghost use Rattle.hu_kind.specs.Cell.{pair_of};
+ghost use Rattle.hu_seq.specs.Token.{token_of, total_of, cell_of, cell_inside, cell_from, is_cell, is_itemset_end, is_sequence_end, is_total, is_out_of_range, is_negative, pair_in};
 
-use hu_kind::{Item, read_number, read_signed};
+use hu_kind::{Cell, Item, read_number, read_signed};
 
 /// What one token of a line says.
 #[derive(Clone, Copy, Debug, PartialEq, Eq)]
@@ -79,6 +81,21 @@ impl Token {
         ensures { result ≡ is_cell self }
     {
         matches!(self, Token::Cell { .. })
+    }
+
+    /// The cell that it is, if it is one.
+    pub(crate) fn cell(self) -> Option<Cell>
+        requires { is_out_of_range self ≡ false }
+        ensures value { option_map pair_of result ≡ pair_in self }
+        ensures in_range { IfSome result (λ cell. cell.item.0 ≤ 2147483647) }
+    {
+        match self {
+            Token::Cell { item, value } => Some(Cell {
+                item: Item(item as u32),
+                value,
+            }),
+            _ => None,
+        }
     }
 
     /// Whether it ends an itemset.
