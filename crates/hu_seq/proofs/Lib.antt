@@ -1,3 +1,5 @@
 mod ReadingLemmas
 mod TokensLemmas
 mod ItemsetLemmas
+mod ShapeLemmas
+mod SumLemmas

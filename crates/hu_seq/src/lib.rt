@@ -4,6 +4,7 @@
 //! What the tokens of a line are is defined in `specs/Token.antt`, and what a line says in `specs/Reading.antt`.
 #![tactic(auto)]
 
+mod checks;
 mod fault;
 mod itemset;
 mod order;
