@@ -3,3 +3,4 @@ mod TokensLemmas
 mod ItemsetLemmas
 mod ShapeLemmas
 mod SumLemmas
+mod FaultLemmas

@@ -39,7 +39,7 @@ five_none None None (Some x) d e h = cc
 five_none None None None (Some x) e h = cc
 five_none None None None None (Some x) h = cc
 
-then_none : (test : Bool) (fault : SeqFault) → then_some test fault ≡ None → test ≡ false
+pub then_none : (test : Bool) (fault : SeqFault) → then_some test fault ≡ None → test ≡ false
 then_none true fault h = cc
 then_none false fault h = refl
 
