@@ -19,7 +19,7 @@ use Rattle.hu_seq.specs.declared.fault.SeqFault.TheVariants.{TooManyItems, ItemO
 use Rattle.hu_seq.specs.declared.token.Token.{Token}
 use Rattle.hu_seq.specs.declared.token.Token.TheVariants.{ItemsetEnd, SequenceEnd}
 use Rattle.hu_seq.specs.Token.{is_cell, is_itemset_end, is_out_of_range, is_negative, pair_in, sum_in}
-use Rattle.hu_seq.specs.Reading.{first_some, known, cells, body, itemsets, bad_token, too_many_items, item_out_of_range, duplicate_item, negative, sum_too_large, total_disagrees, order_faults, cell_faults, faults, reading}
+use Rattle.hu_seq.specs.Reading.{first_some, known, cells, body, itemsets, bad_token, too_many_items, item_out_of_range, duplicate_item, negative, sum_too_large, total_disagrees, order_faults, cell_faults, reading}
 use Rattle.hu_seq.specs.Itemset.{IsSound, IsOrdered}
 use Rattle.hu_seq.proofs.ShapeLemmas.{IsShaped, IsShaped-full, neither, not_any, then_none}
 use Rattle.hu_seq.proofs.SumLemmas.{any-parts, end_in_range, ordered-length, ordered-absolute, ordered-negative, ordered-some, length-cells, any_negative-cells, total-absolute, cells-after}
@@ -121,8 +121,8 @@ sound-parts told shape items =
     let places = two_none (too_many_items told) (item_out_of_range told) items in
     let none : list_any is_out_of_range told ≡ false = none_passes is_out_of_range told (map_none (λ k. ItemOutOfRange (k + 1)) (position is_out_of_range told) places.1) in
     let front : list_any is_out_of_range (body told) ≡ false =
-        (neither (list_any is_out_of_range (body told)) (list_any is_out_of_range (ItemsetEnd ∷ SequenceEnd ∷ shape.rest))
-            (sym (list_any-append is_out_of_range (body told) (ItemsetEnd ∷ SequenceEnd ∷ shape.rest)) ∙ sym (ap (list_any is_out_of_range) shape.is) ∙ none)).0 in
+    (neither (list_any is_out_of_range (body told)) (list_any is_out_of_range (ItemsetEnd ∷ SequenceEnd ∷ shape.rest))
+    (sym (list_any-append is_out_of_range (body told) (ItemsetEnd ∷ SequenceEnd ∷ shape.rest)) ∙ sym (ap (list_any is_out_of_range) shape.is) ∙ none)).0 in
     let parts : list_any (list_any is_out_of_range) (slice_split is_itemset_end (body told)) ≡ false = any-parts is_out_of_range end_in_range (body told) ∙ front in
     λ k d within. record {
       some = IsShaped-full told shape k d within;
@@ -132,11 +132,11 @@ sound-parts told shape items =
 -- the cells of a line are those of its body
 cells-body : (told : List Token) → IsShaped told → cells (body told) ≡ cells told
 cells-body told shape = sym (
-  ap cells shape.is
-  ∙ filter_map-append pair_in (body told) (ItemsetEnd ∷ SequenceEnd ∷ shape.rest)
-  ∙ ap (λ more. cells (body told) ++ more) (cells-after shape.rest shape.after)
-  ∙ append-nil (cells (body told))
-)
+    ap cells shape.is
+    ∙ filter_map-append pair_in (body told) (ItemsetEnd ∷ SequenceEnd ∷ shape.rest)
+    ∙ ap (λ more. cells (body told) ++ more) (cells-after shape.rest shape.after)
+    ∙ append-nil (cells (body told))
+    )
 
 -- what the elements of a line keep, before their sum is looked at
 pub record AreTold (told : List Token) (elements : List (List (ℕ × ℤ))) : Type 0 where

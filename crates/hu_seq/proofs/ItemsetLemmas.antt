@@ -1,5 +1,5 @@
 -- The cells of tokens, one after another, and cells in order.
-use Rattle.std.proofs.Common.{◌≡◌, ℕ, ◌+◌, ◌<◌, ◌≤◌, ℤ, pos, Option, None, Some, List, [], ◌∷◌, ◌++◌, map, sym, ap, ◌∙◌, length, take, get_or, arith, filter_map, suc, zero}
+use Rattle.std.proofs.Common.{◌≡◌, ℕ, ◌+◌, ◌<◌, ◌≤◌, ℤ, pos, Option, None, Some, List, [], ◌∷◌, ◌++◌, map, sym, ap, ◌∙◌, length, take, get_or, arith, suc, zero}
 use Rattle.std.specs.List.{All, AllAdjacentBelow, AllZip, cons_option, slice_split}
 use Rattle.std.specs.Option.{option_map}
 use Rattle.std.specs.List.Sorted.{IsPermutation}

@@ -1,7 +1,7 @@
 -- Tokens in whose order there is no fault.
-use Rattle.std.proofs.Common.{◌≡◌, ℕ, ◌+◌, ◌-◌, ◌<◌, ◌≤◌, ℤ, pos, Bool, true, false, not, ◌&&◌, ◌||◌, Option, None, Some, List, [], ◌∷◌, ◌++◌, refl, sym, ap, ◌∙◌, length, take, drop, drop-cons, get_or, arith, suc, zero, subst}
+use Rattle.std.proofs.Common.{◌≡◌, ℕ, ◌+◌, ◌-◌, ◌<◌, ◌≤◌, Bool, true, false, not, ◌&&◌, ◌||◌, Option, None, Some, List, [], ◌∷◌, ◌++◌, refl, sym, ap, ◌∙◌, length, take, drop, drop-cons, get_or, arith, suc, zero, subst}
 use Rattle.std.specs.Bool.{then_some}
-use Rattle.std.specs.List.{All, AllByRecursion, before_first, after_first, onto_first, slice_split, list_all, list_any, position, position_or_len, slice_get}
+use Rattle.std.specs.List.{All, AllByRecursion, before_first, after_first, onto_first, slice_split, list_all, list_any, position, position_or_len}
 use Rattle.std.specs.Option.{is_none, option_map_or}
 use Rattle.std.proofs.lemmas.Bool.Decides.{nat_tests}
 use Rattle.std.proofs.lemmas.List.{take-append-drop, length-take-le, get_or-take}
@@ -94,7 +94,7 @@ shaped_at told n k place next within ends totals after closed first apart =
     let before : (j : ℕ) (d : Token) → j < n → is_sequence_end (get_or told j d) ≡ false = λ j d below. fails_before_first is_sequence_end told j d (omega arith) in
     let size : length (take n told) ≡ n = length-take-le n told (omega arith) in
     let total_free : (j : ℕ) (d : Token) → j < n → is_total (get_or told j d) ≡ false =
-        λ j d below. sym (ap is_total (get_or-take n told j d below)) ∙ not_any is_total (take n told) j d (omega arith) totals in
+    λ j d below. sym (ap is_total (get_or-take n told j d below)) ∙ not_any is_total (take n told) j d (omega arith) totals in
     let cell_free : is_cell (get_or told k ItemsetEnd) ≡ false = sym (last_at is_cell told n k ItemsetEnd next (omega arith)) ∙ closed in
     let last : get_or told k ItemsetEnd ≡ ItemsetEnd = itemset_end_is (get_or told k ItemsetEnd) cell_free (total_free k ItemsetEnd (omega arith)) (before k ItemsetEnd (omega arith)) in
     let end : get_or told n ItemsetEnd ≡ SequenceEnd = sequence_end_is (get_or told n ItemsetEnd) ends in
@@ -103,12 +103,12 @@ shaped_at told n k place next within ends totals after closed first apart =
     let following : suc k ≡ n = omega arith in
     let beyond : suc n ≡ n + 1 = omega arith in
     let back : drop k told ≡ ItemsetEnd ∷ SequenceEnd ∷ drop (n + 1) told =
-        drop-cons told k ItemsetEnd (omega arith)
-        ∙ ap (λ token. token ∷ drop (suc k) told) last
-        ∙ ap (λ m. ItemsetEnd ∷ drop m told) following
-        ∙ ap (λ more. ItemsetEnd ∷ more) (drop-cons told n ItemsetEnd within)
-        ∙ ap (λ token. ItemsetEnd ∷ token ∷ drop (suc n) told) end
-        ∙ ap (λ m. ItemsetEnd ∷ SequenceEnd ∷ drop m told) beyond in
+    drop-cons told k ItemsetEnd (omega arith)
+    ∙ ap (λ token. token ∷ drop (suc k) told) last
+    ∙ ap (λ m. ItemsetEnd ∷ drop m told) following
+    ∙ ap (λ more. ItemsetEnd ∷ more) (drop-cons told n ItemsetEnd within)
+    ∙ ap (λ token. ItemsetEnd ∷ token ∷ drop (suc n) told) end
+    ∙ ap (λ m. ItemsetEnd ∷ SequenceEnd ∷ drop m told) beyond in
     record {
       rest = drop (n + 1) told;
       is = sym (take-append-drop k told) ∙ ap (λ more. take k told ++ more) back ∙ ap (λ part. part ++ ItemsetEnd ∷ SequenceEnd ∷ drop (n + 1) told) (sym front);
@@ -134,19 +134,19 @@ shaped_where told (Some (suc k)) is ended after closed empty some =
     let totals = neither (list_any is_total (before_first is_sequence_end told)) (not (is_total_or_nothing (after_first is_sequence_end told))) after in
     let empties = neither (first_is is_itemset_end told) (has_two_ends told) empty in
     shaped_at told (suc k) k end (omega arith) place.0 place.1
-        (sym (ap (λ n. list_any is_total (take n told)) end) ∙ totals.0)
-        (sym (ap (λ n. is_total_or_nothing (drop (n + 1) told)) end) ∙ isn't (is_total_or_nothing (after_first is_sequence_end told)) totals.1)
-        (sym (ap (λ n. last_is is_cell (take n told)) end) ∙ closed)
-        empties.0 empties.1
+    (sym (ap (λ n. list_any is_total (take n told)) end) ∙ totals.0)
+    (sym (ap (λ n. is_total_or_nothing (drop (n + 1) told)) end) ∙ isn't (is_total_or_nothing (after_first is_sequence_end told)) totals.1)
+    (sym (ap (λ n. last_is is_cell (take n told)) end) ∙ closed)
+    empties.0 empties.1
 
 pub IsShaped-from : (told : List Token) → first_some (order_faults told) ≡ None → IsShaped told
 IsShaped-from told none =
     let each = five_none (no_end told) (after_end told) (open_itemset told) (empty_itemset told) (no_items told) none in
     shaped_where told (position is_sequence_end told) refl (then_none (is_none (position is_sequence_end told)) NoEnd each.0)
-        (then_none (list_any is_total (before_first is_sequence_end told) || not (is_total_or_nothing (after_first is_sequence_end told))) AfterEnd each.1)
-        (then_none (last_is is_cell (before_first is_sequence_end told)) OpenItemset each.2)
-        (then_none (first_is is_itemset_end told || has_two_ends told) EmptyItemset each.3)
-        (then_none (first_is is_sequence_end told) NoItems each.4)
+    (then_none (list_any is_total (before_first is_sequence_end told) || not (is_total_or_nothing (after_first is_sequence_end told))) AfterEnd each.1)
+    (then_none (last_is is_cell (before_first is_sequence_end told)) OpenItemset each.2)
+    (then_none (first_is is_itemset_end told || has_two_ends told) EmptyItemset each.3)
+    (then_none (first_is is_sequence_end told) NoItems each.4)
 
 -- no part is empty
 abbrev AreFull : List (List Token) → Type 0
@@ -193,14 +193,12 @@ full_parts (token ∷ front) back inner apart last =
     step : (ends : Bool) → is_itemset_end token ≡ ends → is_inner token ≡ true → (is_itemset_end token && first_is is_itemset_end (front ++ back)) ≡ false
         → RestFull (slice_split is_itemset_end front) × (first_is is_itemset_end (front ++ back) ≡ false → AreFull (slice_split is_itemset_end front))
         → RestFull (slice_split is_itemset_end (token ∷ front)) × (is_itemset_end token ≡ false → AreFull (slice_split is_itemset_end (token ∷ front)))
-    step true is kind alone more =
-        (
-          subst RestFull (sym (slice_split-cons_yes is_itemset_end token front is)) (more.1 (rw is at alone)),
-          λ h. let never : true ≡ false = sym is ∙ h in cc,
-        )
+    step true is kind alone more = (
+      subst RestFull (sym (slice_split-cons_yes is_itemset_end token front is)) (more.1 (rw is at alone)),
+      λ h. let never : true ≡ false = sym is ∙ h in cc,
+    )
     step false is kind alone more =
-        let split = sym (slice_split-cons_no is_itemset_end token front is) in
-        (
+        let split = sym (slice_split-cons_no is_itemset_end token front is) in (
           subst RestFull split (rest_onto token (slice_split is_itemset_end front) more.0),
           λ h. subst AreFull split (full_onto token (slice_split is_itemset_end front) (cell_is token kind is) more.0),
         )

@@ -1,8 +1,7 @@
 -- What holds of the cells of a body holds of its parts, of its itemsets and of the elements made of them.
-use Rattle.std.proofs.Common.{◌≡◌, ℕ, ◌+◌, ◌<◌, ◌≤◌, ℤ, pos, negsuc, ◌+ℤ◌, unsigned_abs, int_lt, Bool, true, false, cond, ◌||◌, Option, None, Some, List, [], ◌∷◌, ◌++◌, map, refl, sym, ap, ◌∙◌, length, get_or, arith, filter_map, sum_by}
-use Rattle.std.specs.List.{All, AllZip, cons_option, count_by, flat_map, list_any, onto_first, slice_split}
+use Rattle.std.proofs.Common.{◌≡◌, ℕ, ◌+◌, ℤ, pos, negsuc, ◌+ℤ◌, unsigned_abs, int_lt, Bool, true, false, cond, ◌||◌, Option, None, Some, List, [], ◌∷◌, ◌++◌, map, refl, sym, ap, ◌∙◌, length, arith, sum_by}
+use Rattle.std.specs.List.{AllZip, cons_option, count_by, flat_map, list_any, onto_first, slice_split}
 use Rattle.std.specs.List.Sorted.{IsPermutation}
-use Rattle.std.proofs.lemmas.List.Elements.{filter_map-append}
 use Rattle.std.proofs.lemmas.List.Folds.{list_any-append}
 use Rattle.std.proofs.lemmas.List.Concat.{length-flat_map}
 use Rattle.std.proofs.lemmas.List.Sorted.{length_permutation, list_any-IsPermutation, sum_by-IsPermutation}
@@ -12,7 +11,7 @@ use Rattle.hu_kind.specs.Cells.{by_item, twice}
 use Rattle.hu_kind.specs.Record.{items_in, total, absolute_of, any_negative}
 use Rattle.hu_seq.specs.declared.token.Token.{Token}
 use Rattle.hu_seq.specs.declared.token.Token.TheVariants.{Cell, ItemsetEnd, SequenceEnd, Total}
-use Rattle.hu_seq.specs.Token.{is_cell, is_itemset_end, is_out_of_range, is_negative, is_total, pair_in, sum_in}
+use Rattle.hu_seq.specs.Token.{is_cell, is_itemset_end, is_out_of_range, is_negative, pair_in}
 use Rattle.hu_seq.specs.Reading.{cells, first_some, itemsets, duplicate_item, is_total_or_nothing}
 use Rattle.hu_seq.specs.Itemset.{IsOrdered}
 use Rattle.hu_seq.proofs.ShapeLemmas.{neither}

@@ -1,9 +1,8 @@
 -- The tokens of a line, one after another.
 use Rattle.std.proofs.Common.{◌≡◌, ℕ, ◌+◌, None, Some, List, [], ◌∷◌, ◌++◌, sym, ap, refl, append_assoc, filter_map}
-use Rattle.std.specs.List.{position, position_from}
+use Rattle.std.specs.List.{position_from}
 use Rattle.std.specs.Option.{option_map}
 use Rattle.std.proofs.lemmas.Iterator.Adapters.{position_from-zero}
-use Rattle.hu_seq.specs.declared.fault.SeqFault.{SeqFault}
 use Rattle.hu_seq.specs.declared.fault.SeqFault.TheVariants.{BadToken}
 use Rattle.hu_seq.specs.declared.token.Token.{Token}
 use Rattle.hu_seq.specs.Token.{token_of, is_unknown}

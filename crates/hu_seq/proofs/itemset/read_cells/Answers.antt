@@ -1,5 +1,4 @@
 use Rattle.std.proofs.Common.{◌≤◌, ap, sym, ◌∙◌}
-use Rattle.std.specs.List.{All}
 use Rattle.std.specs.Option.{option_map}
 use Rattle.hu_kind.specs.Cell.{pair_of, pairs_of}
 use Rattle.hu_seq.proofs.ItemsetLemmas.{cells-push, cells-skip}

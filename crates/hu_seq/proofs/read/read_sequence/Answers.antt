@@ -1,4 +1,4 @@
-use Rattle.std.proofs.Common.{◌≡◌, ◌∙◌, inl, inr}
+use Rattle.std.proofs.Common.{◌∙◌, inl, inr}
 use Rattle.std.proofs.lemmas.Result.{err_from_is_err_and}
 use Rattle.hu_seq.proofs.ReadingLemmas.{reading-memory}
 use Rattle.hu_seq.proofs.FaultLemmas.{reading-bad, reading-ok, reading-err}

@@ -4,7 +4,6 @@ use Rattle.std.specs.List.{position_from}
 use Rattle.hu_kind.specs.Token.{tokens}
 use Rattle.hu_seq.specs.declared.fault.SeqFault.TheVariants.{BadToken}
 use Rattle.hu_seq.specs.Token.{token_of, is_unknown}
-use Rattle.hu_seq.specs.Reading.{known}
 use Rattle.hu_seq.proofs.TokensLemmas.{known-next, unknown-next, unknown-here, bad_token-from}
 use Rattle.hu_seq.proofs.read.read_tokens.Goals as goal
 

@@ -1,4 +1,4 @@
-use Rattle.std.proofs.Common.{◌≡◌, List, pos, refl, sym, ap, ◌∙◌, inl, inr, sum_by, arith}
+use Rattle.std.proofs.Common.{◌≡◌, pos, refl, sym, ap, ◌∙◌, inl, inr, sum_by, arith}
 use Rattle.std.specs.List.{AllZip}
 use Rattle.std.proofs.lemmas.Int.{ints, to_z-of_z}
 use Rattle.std.proofs.lemmas.Result.{err_from_is_err_and}
@@ -8,7 +8,7 @@ use Rattle.hu_seq.specs.Reading.{body, cells, itemsets}
 use Rattle.hu_seq.specs.Itemset.{IsOrdered}
 use Rattle.hu_seq.proofs.ShapeLemmas.{IsShaped-from}
 use Rattle.hu_seq.proofs.SumLemmas.{ordered-once, ordered-value}
-use Rattle.hu_seq.proofs.FaultLemmas.{AreTold, AreTold-from, sound-parts, sum_too_large-from, sum_too_large-no, faults-order, faults-items, faults-twice, faults-negative, faults-sum, faults-total}
+use Rattle.hu_seq.proofs.FaultLemmas.{AreTold-from, sound-parts, sum_too_large-from, sum_too_large-no, faults-order, faults-items, faults-twice, faults-negative, faults-sum, faults-total}
 use Rattle.hu_seq.proofs.read.sequence.Goals as goal
 
 pub elements-requires : goal.elements-requires
@@ -59,7 +59,7 @@ returns-in_default-clause-err c =
     let ordered : AllZip IsOrdered (itemsets (body told)) elements = rw c.in_ok-part.ensures.value at c.in_ok-elements.ensures.ok in
     let kept = AreTold-from told elements (IsShaped-from told c.in_ok-part.ensures.ok) (sym c.in_ok-check_items.ensures) ordered (sym c.in_ok-check_values.ensures) in
     inr (faults-sum told SumTooLarge c.in_ok-part.ensures.ok (sym c.in_ok-check_items.ensures) (ordered-once (itemsets (body told)) elements ordered) (sym c.in_ok-check_values.ensures)
-        (sum_too_large-from told elements kept (λ sequence. let never = c.in_default.ensures.valid.1 sequence in cc)))
+    (sum_too_large-from told elements kept (λ sequence. let never = c.in_default.ensures.valid.1 sequence in cc)))
 
 pub returns-in_err-check_total-clause-err : goal.returns-in_err-check_total-clause-err
 returns-in_err-check_total-clause-err c =
