@@ -9,6 +9,8 @@ mod fault;
 mod itemset;
 mod order;
 mod read;
+#[cfg(test)]
+mod tests;
 mod token;
 
 pub use fault::SeqFault;
