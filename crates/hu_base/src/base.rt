@@ -74,6 +74,7 @@ impl<R: Absolute> Base<R> {
     /// Appends a record, in constant amortised time. A refused record is dropped.
     pub fn add(&mut self, one: R) -> Result<(), AddFault>
         ensures ok { OnOk result (self.new ≡ (carried_of self.old, records_of self.old ++ one ∷ [])) }
+        ensures within { OnOk result (sum_of R.absolute self.old + R.absolute one < 2 ^ 127) }
         ensures err { OnErr result (self.new ≡ self.old) }
         ensures fits { sum_of R.absolute self.old + R.absolute one < 2 ^ 127 → IsOkUnless result AddFault.NoMemory }
         ensures too_large { 2 ^ 127 ≤ sum_of R.absolute self.old + R.absolute one
@@ -89,6 +90,7 @@ impl<R: Absolute> Base<R> {
     /// each. A refused base is dropped.
     pub fn join(&mut self, other: Base<R>) -> Result<(), AddFault>
         ensures ok { OnOk result (self.new ≡ (carried_of self.old, records_of self.old ++ records_of other)) }
+        ensures within { OnOk result (sum_of R.absolute self.old + sum_by R.absolute (records_of other) < 2 ^ 127) }
         ensures err { OnErr result (self.new ≡ self.old) }
         ensures fits { sum_of R.absolute self.old + sum_by R.absolute (records_of other) < 2 ^ 127 → IsOkUnless result AddFault.NoMemory }
         ensures too_large { 2 ^ 127 ≤ sum_of R.absolute self.old + sum_by R.absolute (records_of other)

@@ -1,5 +1,5 @@
 -- What the bodies of `All` and `Top` compute.
-use Rattle.std.proofs.Common.{◌≡◌, ◌∷◌, [], ◌++◌, ℕ, ◌+◌, ◌-◌, ◌<◌, ◌≤◌, ℤ, pos, ◌<ℤ◌, ◌≤ℤ◌, Bool, true, false, Option, None, Some, List, length, take, refl, sym, ap, subst, ◌∙◌, append-nil, arith}
+use Rattle.std.proofs.Common.{◌≡◌, ◌∷◌, [], ◌++◌, ℕ, ◌-◌, ℤ, ◌<ℤ◌, ◌≤ℤ◌, Bool, true, false, Option, None, Some, List, length, take, refl, sym, ap, ◌∙◌, append-nil, arith}
 use Rattle.std.specs.Prelude.{int_le, slice_get}
 use Rattle.std.specs.BTreeSet.{insert_key}
 use Rattle.std.specs.List.{Contains, dedup}
@@ -17,7 +17,7 @@ use Rattle.hu_kind.specs.declared.entry.Entry.{Entry}
 use Rattle.hu_kind.specs.Order.{entry_cmp, entry_cmp_total, ranking}
 use Rattle.hu_collect.specs.Rule.{rule_of, passes, made, IsKept, last_utility, floor_of, floor_by}
 use Rattle.hu_collect.specs.Top.{IsTop}
-use Rattle.hu_collect.proofs.Ranking.{ranking-ranking, ranking-same_members}
+use Rattle.hu_collect.proofs.Ranking.{ranking-same_members}
 use Rattle.hu_collect.proofs.Cutting.{ranking-sorted, cut-ranking-in_turn}
 use Rattle.hu_collect.proofs.Entries.{entry_order, entry_exact}
 use Rattle.hu_collect.proofs.Floor.{floor_by-start}

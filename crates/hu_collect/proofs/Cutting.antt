@@ -1,13 +1,13 @@
 -- The first k of a ranking.
-use Rattle.std.proofs.Common.{◌≡◌, ℕ, zero, suc, ◌<◌, ◌≤◌, Option, None, Some, List, [], ◌∷◌, ◌++◌, length, take, refl, sym, ap, ◌∙◌, arith}
+use Rattle.std.proofs.Common.{◌≡◌, ℕ, zero, suc, Option, None, Some, List, [], ◌∷◌, ◌++◌, take, refl, sym, ap, ◌∙◌, arith}
 use Rattle.std.specs.declared.cmp.Ordering.{Ordering}
-use Rattle.std.specs.declared.cmp.Ordering.TheVariants.{Less, Equal, Greater}
+use Rattle.std.specs.declared.cmp.Ordering.TheVariants.{Less}
 use Rattle.std.specs.List.{AllByRecursion}
 use Rattle.std.specs.List.Sorted.{IsStrictlySortedBy}
 use Rattle.std.specs.BTreeSet.{insert_key}
-use Rattle.std.proofs.lemmas.List.{take-take, take_all}
+use Rattle.std.proofs.lemmas.List.{take-take}
 use Rattle.hu_kind.specs.Order.{ranking, cut}
-use Rattle.hu_collect.proofs.Ranking.{IsExactOrder, Compared, before, same, after, compared, ranking-ranking, ranking-append_comm}
+use Rattle.hu_collect.proofs.Ranking.{IsExactOrder, before, same, after, compared, ranking-append_comm}
 
 -- what holds of each element holds after an insertion, and of the first k
 AllByRecursion-insert : {A : Type 0} (P : A → Type 0) (cmp : A → A → Ordering) → IsExactOrder cmp → (xs : List A) (x : A)

@@ -1,5 +1,5 @@
 -- The laws of what collectors make, for proofs above to cite.
-use Rattle.std.proofs.Common.{◌≡◌, ℤ, ◌<ℤ◌, ◌≤ℤ◌, Bool, true, false, cond, ◌&&◌, ◌⊎◌, inl, inr, Option, List, [], ◌∷◌, ◌++◌, refl, sym, ap, subst, ◌∙◌, arith, append-nil, append_assoc}
+use Rattle.std.proofs.Common.{◌≡◌, ◌<ℤ◌, ◌≤ℤ◌, Bool, true, false, cond, ◌&&◌, ◌⊎◌, inl, inr, List, [], ◌∷◌, ◌++◌, refl, sym, ap, subst, ◌∙◌, arith, append-nil, append_assoc}
 use Rattle.std.specs.Prelude.{int_le}
 use Rattle.std.specs.Int.Signed.{≤ℤ_refl}
 use Rattle.std.specs.List.{All, AllByRecursion, Contains, filter}
@@ -7,11 +7,11 @@ use Rattle.std.specs.List.Sorted.{IsStrictlySortedBy}
 use Rattle.std.specs.BTreeSet.{insert_key}
 use Rattle.std.proofs.lemmas.Int.{ints}
 use Rattle.std.proofs.lemmas.Float.{T_from_true}
-use Rattle.std.proofs.lemmas.List.Elements.{filter-append, filter_passes, All-filter, All-contains, All-contains_itself, recursion_from_All, Contains-append_left, Contains-append_right, Contains-append_cases, Contains-push}
+use Rattle.std.proofs.lemmas.List.Elements.{filter-append, filter_passes, All-filter, All-contains, All-contains_itself, recursion_from_All, Contains-append_left, Contains-append_right, Contains-append_cases}
 use Rattle.hu_kind.specs.declared.entry.Entry.{Entry}
 use Rattle.hu_kind.specs.Order.{entry_cmp, ranking, cut}
 use Rattle.hu_collect.specs.Rule.{Rule, passes, made, IsKept, floor_of}
-use Rattle.hu_collect.specs.Laws.{SameMembers, MakesInTurn, MakesByMembers, LeavesBelowFloor, KeepsFloor}
+use Rattle.hu_collect.specs.Laws.{MakesInTurn, MakesByMembers, LeavesBelowFloor, KeepsFloor}
 use Rattle.hu_collect.proofs.Ranking.{ranking-append_comm, ranking-same_members, first_or_later}
 use Rattle.hu_collect.proofs.Cutting.{AllByRecursion-weaker, sorted-ranking, sorted-cut, ranking-sorted, cut-cut, cut-ranking-in_turn}
 use Rattle.hu_collect.proofs.Entries.{entry_order}

@@ -1,16 +1,15 @@
 -- Ranking by an order in which equal elements are the same.
-use Rattle.std.proofs.Common.{◌≡◌, ℕ, List, [], ◌∷◌, ◌++◌, take, refl, sym, ap, ◌∙◌, ◌⊎◌, inl, inr, append-nil, arith}
+use Rattle.std.proofs.Common.{◌≡◌, List, [], ◌∷◌, ◌++◌, refl, sym, ap, ◌∙◌, ◌⊎◌, inl, inr, append-nil, arith}
 use Rattle.std.specs.List.{Contains}
 use Rattle.std.proofs.lemmas.List.Elements.{Contains-push, Contains-push_cases, Contains-append_left, Contains-append_right, Contains-append_cases}
 use Rattle.hu_collect.specs.Laws.{SameMembers}
 use Rattle.std.specs.declared.cmp.Ordering.{Ordering}
 use Rattle.std.specs.declared.cmp.Ordering.TheVariants.{Less, Equal, Greater}
-use Rattle.std.specs.Ordering.{ordering_reverse, match_ordering}
 use Rattle.std.specs.Cmp.{IsTotalOrder}
 use Rattle.std.specs.BTreeSet.{insert_key}
 use Rattle.std.proofs.lemmas.Cmp.{tied_itself}
 use Rattle.std.proofs.lemmas.Map.Lookups.{CmpEqualImpliesEq}
-use Rattle.hu_kind.specs.Order.{ranking, cut}
+use Rattle.hu_kind.specs.Order.{ranking}
 
 -- a total order in which equal elements are the same
 pub record IsExactOrder {A : Type 0} (cmp : A → A → Ordering) : Type 0 where
@@ -32,12 +31,11 @@ pub compared : {A : Type 0} (cmp : A → A → Ordering) → IsExactOrder cmp �
 compared cmp e x y = compared-by cmp e x y (cmp x y) refl
 
 -- insertions commute, whatever the list
-pub insert_comm-nil : {A : Type 0} (cmp : A → A → Ordering) (x y : A) → Compared cmp x y → insert_key cmp (x ∷ []) y ≡ insert_key cmp (y ∷ []) x
+insert_comm-nil : {A : Type 0} (cmp : A → A → Ordering) (x y : A) → Compared cmp x y → insert_key cmp (x ∷ []) y ≡ insert_key cmp (y ∷ []) x
 insert_comm-nil cmp x y (before h b) = simp (h, b)
 insert_comm-nil cmp x y (same e h b) = simp (h, b) (ap (λ z. z ∷ []) e)
 insert_comm-nil cmp x y (after h b) = simp (h, b)
 
--- both before the head: as with an empty list
 insert_comm-cons : {A : Type 0} (cmp : A → A → Ordering) → IsExactOrder cmp → (z : A) (zs : List A) (x y : A)
     → insert_key cmp (insert_key cmp zs x) y ≡ insert_key cmp (insert_key cmp zs y) x
     → Compared cmp x z → Compared cmp y z → Compared cmp x y
@@ -46,11 +44,17 @@ insert_comm-cons cmp e z zs x y ih (before a a') (before b b') (before c c') = s
 insert_comm-cons cmp e z zs x y ih (before a a') (before b b') (same c d d') = simp (a, b, d, d') (ap (λ w. w ∷ z ∷ zs) c)
 insert_comm-cons cmp e z zs x y ih (before a a') (before b b') (after c c') = simp (a, b, c, c')
 insert_comm-cons cmp e z zs x y ih (before a a') (same b d d') c = let k : cmp y x ≡ Greater = rw b a' in simp (a, d, k)
-insert_comm-cons cmp e z zs x y ih (before a a') (after b b') c = let t : cmp x y ≡ Less = e.total.trans x z y a b' in let k : cmp y x ≡ Greater = rw (e.total.antisymm y x, t) refl in simp (a, b, k)
+insert_comm-cons cmp e z zs x y ih (before a a') (after b b') c =
+    let t : cmp x y ≡ Less = e.total.trans x z y a b' in
+    let k : cmp y x ≡ Greater = rw (e.total.antisymm y x, t) refl in
+    simp (a, b, k)
 insert_comm-cons cmp e z zs x y ih (same a d d') (before b b') c = let k : cmp x y ≡ Greater = rw a b' in simp (d, b, k)
 insert_comm-cons cmp e z zs x y ih (same a d d') (same b f f') c = simp (d, f)
 insert_comm-cons cmp e z zs x y ih (same a d d') (after b b') c = simp (d, b)
-insert_comm-cons cmp e z zs x y ih (after a a') (before b b') c = let t : cmp y x ≡ Less = e.total.trans y z x b a' in let k : cmp x y ≡ Greater = rw (e.total.antisymm x y, t) refl in simp (a, b, k)
+insert_comm-cons cmp e z zs x y ih (after a a') (before b b') c =
+    let t : cmp y x ≡ Less = e.total.trans y z x b a' in
+    let k : cmp x y ≡ Greater = rw (e.total.antisymm x y, t) refl in
+    simp (a, b, k)
 insert_comm-cons cmp e z zs x y ih (after a a') (same b f f') c = simp (a, f)
 insert_comm-cons cmp e z zs x y ih (after a a') (after b b') c = simp (a, b) (ap (λ w. z ∷ w) ih)
 
@@ -72,25 +76,6 @@ pub insert_twice : {A : Type 0} (cmp : A → A → Ordering) → IsExactOrder cm
     → insert_key cmp (insert_key cmp xs x) x ≡ insert_key cmp xs x
 insert_twice cmp e [] x = rw (tied_itself e.total x) refl
 insert_twice cmp e (z ∷ zs) x = insert_twice-cons cmp e z zs x (insert_twice cmp e zs x) (compared cmp e x z) (compared cmp e x x)
-
--- ranking a list with one more element put in
-ranking-insert-cons : {A : Type 0} (cmp : A → A → Ordering) → IsExactOrder cmp → (z : A) (zs : List A) (x : A)
-    → ranking cmp (insert_key cmp zs x) ≡ insert_key cmp (ranking cmp zs) x → Compared cmp x z
-    → ranking cmp (insert_key cmp (z ∷ zs) x) ≡ insert_key cmp (ranking cmp (z ∷ zs)) x
-ranking-insert-cons cmp e z zs x ih (before a a') = rw a refl
-ranking-insert-cons cmp e z zs x ih (same a d d') = rw (d, a) (sym (insert_twice cmp e (ranking cmp zs) z))
-ranking-insert-cons cmp e z zs x ih (after a a') = simp (a, ih) (insert_comm cmp e (ranking cmp zs) x z)
-
-pub ranking-insert : {A : Type 0} (cmp : A → A → Ordering) → IsExactOrder cmp → (xs : List A) (x : A)
-    → ranking cmp (insert_key cmp xs x) ≡ insert_key cmp (ranking cmp xs) x
-ranking-insert cmp e [] x = refl
-ranking-insert cmp e (z ∷ zs) x = ranking-insert-cons cmp e z zs x (ranking-insert cmp e zs x) (compared cmp e x z)
-
--- a ranking is in order
-pub ranking-ranking : {A : Type 0} (cmp : A → A → Ordering) → IsExactOrder cmp → (xs : List A)
-    → ranking cmp (ranking cmp xs) ≡ ranking cmp xs
-ranking-ranking cmp e [] = refl
-ranking-ranking cmp e (x ∷ xs) = ranking-insert cmp e (ranking cmp xs) x ∙ ap (λ s. insert_key cmp s x) (ranking-ranking cmp e xs)
 
 -- where an element stands in the list doesn't matter
 ranking-middle : {A : Type 0} (cmp : A → A → Ordering) → IsExactOrder cmp → (xs : List A) (y : A) (ys : List A)

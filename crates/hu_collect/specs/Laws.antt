@@ -1,9 +1,8 @@
 -- The laws of what collectors make. They hold of every rule.
-use Rattle.std.specs.Prelude.{◌≡◌, ℤ, ◌<ℤ◌, ◌≤ℤ◌, ◌↔◌, List, [], ◌∷◌, ◌++◌}
+use Rattle.std.specs.Prelude.{◌≡◌, ◌<ℤ◌, ◌≤ℤ◌, ◌↔◌, List, [], ◌∷◌, ◌++◌}
 use Rattle.std.specs.List.{Contains}
 use Rattle.hu_kind.specs.declared.entry.Entry.{Entry}
-use Rattle.hu_kind.specs.Order.{entry_cmp, ranking, cut}
-use Rattle.hu_collect.specs.Rule.{Rule, passes, made, IsKept, floor_of}
+use Rattle.hu_collect.specs.Rule.{Rule, made, IsKept, floor_of}
 
 -- two lists have the same members
 abbrev pub SameMembers : {A : Type 0} → List A → List A → Type 0

@@ -2,3 +2,4 @@ pub mod Rule
 pub mod Ranks
 pub mod Laws
 pub mod Top
+pub mod Rows

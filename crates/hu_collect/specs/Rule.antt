@@ -1,7 +1,7 @@
 -- What a collector keeps: its rule, and what it makes of entries by that rule.
 use Rattle.std.specs.Prelude.{◌≡◌, ℕ, ℤ, int_le, nat_lt, Bool, true, ◌&&◌, Option, None, Some, List, [], ◌∷◌, ◌++◌, length, if◌then◌else◌}
 use Rattle.std.specs.Int.{int_max}
-use Rattle.std.specs.List.{filter}
+use Rattle.std.specs.List.{All, Contains, filter}
 use Rattle.hu_kind.specs.declared.entry.Entry.{Entry}
 use Rattle.hu_kind.specs.Order.{entry_cmp, ranking, cut}
 
@@ -43,3 +43,7 @@ floor_by (Some k) start content = if nat_lt (length content) k then start else i
 -- the floor: an entry of less utility changes nothing
 abbrev pub floor_of : Rule → List Entry → ℤ
 floor_of rule content = floor_by rule.limit rule.start content
+
+-- a content that an old one and some of these entries make together
+abbrev pub MakesSome : Rule → List Entry → List Entry → List Entry → Type 0
+MakesSome rule old entries new = (some : List Entry) × All (λ entry. Contains entries entry) some × (new ≡ made rule old some)

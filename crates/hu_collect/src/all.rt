@@ -9,7 +9,8 @@ use hu_kind::{Entry, Key, NoMemory};
 use std::alloc::Global;
 use std::marker::Model;
 
-/// Keeps every entry of at least a start. It is seen as its start and its entries in the one order.
+/// Keeps every entry of at least a start, whatever its key. It is seen as its start and its entries in the one order.
+/// It holds each offer until the end, so an entry that is offered twice takes its room twice until then.
 #[derive(Debug, Drop)]
 pub struct All {
     start: i128,
@@ -41,7 +42,7 @@ impl All {
         }
     }
 
-    /// The entries in the one order, by one sort in place. Want of memory drops them.
+    /// The entries in the one order, by one sort in place of all that were taken. Want of memory drops them.
     pub fn into_entries(self) -> Result<Vec<Entry>, NoMemory>
         ensures { IfOk result (λ entries. entries.items ≡ ⟦<All as Collect>⟧.content self) }
     {
@@ -62,16 +63,19 @@ impl Collect for All {
 
     ghost content = { λ a. a.1 };
 
+    /// The start, in constant time.
     fn floor(&self) -> i128 {
         self.start
     }
 
+    /// Always true.
     fn opens(&self, _key: &Key, _last: u32) -> bool
         ensures { result ≡ true }
     {
         true
     }
 
+    /// Takes constant time, amortised.
     fn offer(&mut self, entry: Entry) -> Result<(), NoMemory> {
         if entry.utility >= self.start {
             self.offered.push(entry)?;

@@ -25,7 +25,8 @@ pub trait Collect {
     /// this one or, with a table, this one with items of greater ranks, or with none, this one with any further numbers.
     fn opens(&self, key: &Key, last: u32) -> bool
         requires { CanOpen (rule self.now).table key.now last }
-        ensures { result ≡ false → (grown : List ℤ) → IsGrown (rule self.now).table key.now last grown → (rule self.now).wants grown ≡ false };
+        ensures { result ≡ false → (grown : List ℤ) → IsGrown (rule self.now).table key.now last grown →
+            (rule self.now).wants grown ≡ false };
 
     /// Takes an entry, if its key is wanted and its utility is at least the start: it is put in by the one order, an
     /// equal one once, and what is past the limit goes. After want of memory the content is as before.

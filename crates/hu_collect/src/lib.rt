@@ -15,3 +15,6 @@ pub use all::All;
 pub use collect::Collect;
 pub use laws::{law_of_floors, law_of_low_entries, law_of_members, law_of_turns};
 pub use top::Top;
+
+#[cfg(test)]
+mod tests;

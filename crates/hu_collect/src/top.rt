@@ -10,7 +10,8 @@ use std::alloc::Global;
 use std::collections::BTreeSet;
 use std::marker::Model;
 
-/// Keeps the first k of the entries of at least a start. It is seen as k, its start and its entries in the one order.
+/// Keeps the first k of the entries of at least a start, whatever their keys. It is seen as k, its start and its
+/// entries in the one order. An entry of just the floor's utility still enters if it comes before the last one.
 #[derive(Debug, Drop)]
 pub struct Top {
     limit: u32,
@@ -50,7 +51,7 @@ impl Top {
         }
     }
 
-    /// The entries in the one order. Want of memory drops them.
+    /// The entries in the one order, in k steps. Want of memory drops them.
     pub fn into_entries(self) -> Result<Vec<Entry>, NoMemory>
         ensures { IfOk result (λ entries. entries.items ≡ ⟦<Top as Collect>⟧.content self) }
     {
@@ -67,16 +68,19 @@ impl Collect for Top {
 
     ghost content = { λ t. t.2 };
 
+    /// Takes constant time.
     fn floor(&self) -> i128 {
         self.floor
     }
 
+    /// Always true.
     fn opens(&self, _key: &Key, _last: u32) -> bool
         ensures { result ≡ true }
     {
         true
     }
 
+    /// Takes constant time below the floor, else some log k comparisons.
     fn offer(&mut self, entry: Entry) -> Result<(), NoMemory> {
         if entry.utility < self.floor {
             return Ok(());

@@ -12,8 +12,9 @@ use std::{fs, io, rt};
 /// The name of standard input.
 const INPUT_NAME: &str = "-";
 
-/// The system's files, by their paths, and standard input under the name `-`. Every error counts as a fault, also one
-/// of opening a file and of finding the place in it.
+/// The system's files, by their paths, and standard input under the name `-`, which is read forward only: a call at
+/// another place than the next one fails. Every error counts as a fault, also one of opening a file or of finding the
+/// place in it. Each call opens its file anew.
 #[derive(Drop)]
 pub struct DiskFiles<R, I> {
     files: R,

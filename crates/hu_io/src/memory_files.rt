@@ -50,7 +50,8 @@ impl MemoryFiles {
         }
     }
 
-    /// Gives the file `name` these bytes, in place of those that it had. No counter changes.
+    /// Gives the file `name` these bytes, in place of those that it had. No counter changes. Copies the name and the
+    /// bytes, and compares the name as often as the number of files doubles.
     pub fn add(&mut self, name: &str, bytes: &[u8]) -> Result<(), NoMemory>
         ensures ok { OnOk result (Adds self.old.files self.new.files name.now bytes.now) }
         ensures rest { self.new ≡ record self.old { files = self.new.files } }
@@ -68,7 +69,7 @@ impl MemoryFiles {
         self.plan.fail_at(call)
     }
 
-    /// Has each later call of `get` give at most so many bytes. Takes no memory.
+    /// Has each later call of `get` give at most so many bytes, at least one. Takes no memory.
     pub fn give_at_most(&mut self, most: usize)
         requires { 0 < most }
         ensures { self.new ≡ record self.old { most = most } }
@@ -91,7 +92,7 @@ impl Files for MemoryFiles {
 
     ghost plan = { λ m. m.plan.failing };
 
-    /// Costs a comparison for each doubling of the number of files, and one for each call that is to fail.
+    /// Compares the call with each that is to fail, and the name as often as the number of files doubles.
     fn get(&mut self, name: &str, at: u64, into: &mut [u8]) -> Result<usize, Failed>
         ensures bound { ReadsAtMost result into.new }
         ensures bytes { GetsTold (Some (content_in self.old.files)) name.now at result into.new }

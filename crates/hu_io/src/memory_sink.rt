@@ -80,7 +80,7 @@ impl Sink for MemorySink {
 
     ghost plan = { λ s. s.room ∷ s.plan.failing };
 
-    /// Takes no memory. Costs a comparison for each call that is to fail, and a copy of what it takes.
+    /// Takes as much of the piece as fits, and no memory. Compares the call with each that is to fail.
     fn put(&mut self, piece: &[u8]) -> Result<usize, Failed>
         ensures count { TakesSome result piece.now }
         ensures bytes { WriteAppends (Some self.old.bytes) (Some self.new.bytes) result piece.now }

@@ -10,7 +10,8 @@ use std::io;
 use std::io::{ErrorKind, Write};
 use std::marker::Model;
 
-/// A writer that is flushed at each put. Every error counts as a fault, and so does a write of no byte of a piece.
+/// A writer that is flushed at each put. Every error counts as a fault, also a failed flush, and so does a write that
+/// takes no byte of a piece.
 #[derive(Drop)]
 pub struct StreamSink<W> {
     to: W,

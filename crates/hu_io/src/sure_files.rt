@@ -34,7 +34,8 @@ impl SureFiles {
         }
     }
 
-    /// Gives the file `name` these bytes, in place of those that it had.
+    /// Gives the file `name` these bytes, in place of those that it had. Copies the name and the bytes, and compares the
+    /// name as often as the number of files doubles.
     pub fn add(&mut self, name: &str, bytes: &[u8]) -> Result<(), NoMemory>
         ensures ok { OnOk result (Adds self.old self.new name.now bytes.now) }
         ensures err { OnErr result (self.new ≡ self.old) }

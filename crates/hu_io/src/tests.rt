@@ -4,6 +4,7 @@ ghost use Rattle.hu_io.specs.Files.{content_in};
 
 use super::*;
 use std::io::{ErrorKind, Write};
+use std::process::Abort;
 use std::test::Fail;
 use std::{env, fs, io, process};
 
@@ -25,7 +26,7 @@ fn read_named(files: &mut MemoryFiles, name: &str, into: &mut [u8]) -> usize
     read(files, name, 0, into).unwrap()
 }
 
-// What a caller of generic code can show: a read of any file succeeds.
+// The same for a file of any name.
 fn read_sure(files: &mut SureFiles, name: &str, into: &mut [u8]) -> usize {
     read(files, name, 0, into).unwrap()
 }
@@ -38,27 +39,49 @@ fn put_fitting(sink: &mut MemorySink, text: &[u8])
     put_all(sink, text).unwrap()
 }
 
-// What a caller of generic code can show: any text goes out.
+// The same for any text.
 fn put_sure(sink: &mut SureSink, text: &[u8]) {
     put_all(sink, text).unwrap()
 }
 
+// A read into room for four bytes gives these bytes, or fails.
+fn expect_read<F: Files>(
+    rt: &impl Abort,
+    files: &mut F,
+    name: &str,
+    at: u64,
+    wanted: Option<&[u8]>,
+) {
+    let mut into = [0; 4];
+    let given = match files.get(name, at, &mut into) {
+        Ok(count) => Some(&into[..count]),
+        Err(Failed) => None,
+    };
+    assert_eq!(rt; given, wanted, "{name} at {at}");
+}
+
+// Of `abcd`, these bytes go out.
+fn expect_put(rt: &impl Abort, mut sink: MemorySink, answer: Result<(), Failed>, bytes: &[u8]) {
+    assert_eq!(rt; put_all(&mut sink, b"abcd"), answer);
+    assert_eq!(rt; sink.bytes(), bytes);
+    assert_eq!(rt; sink.faults(), u64::from(answer.is_err()));
+}
+
+// The writer takes so many bytes of a piece, or the call fails and is counted.
+fn expect_write(rt: &impl Abort, to: Pipe, piece: &[u8], answer: Result<usize, Failed>) {
+    let mut sink = StreamSink::new(to);
+    assert_eq!(rt; sink.put(piece), answer);
+    assert_eq!(rt; sink.faults(), u64::from(answer.is_err()));
+}
+
 #[test]
 fn small_sinks(rt: HostRuntime) -> Result<(), Fail> {
-    let cases = [
-        (3, None, Err(Failed), "abc", 1),
-        (4, None, Ok(()), "abcd", 0),
-        (4, Some(1), Err(Failed), "", 1),
-    ];
-    for (room, failing, answer, bytes, faults) in cases {
-        let mut sink = MemorySink::new(rt.alloc(), room)?;
-        if let Some(call) = failing {
-            sink.fail_at(call)?;
-        }
-        assert_eq!(rt; put_all(&mut sink, b"abcd"), answer, "room {room}");
-        assert_eq!(rt; sink.bytes(), bytes.as_bytes(), "room {room}");
-        assert_eq!(rt; sink.faults(), faults, "room {room}");
-    }
+    let alloc = rt.alloc();
+    expect_put(&rt, MemorySink::new(alloc, 3)?, Err(Failed), b"abc");
+    expect_put(&rt, MemorySink::new(alloc, 4)?, Ok(()), b"abcd");
+    let mut failing = MemorySink::new(alloc, 4)?;
+    failing.fail_at(1)?;
+    expect_put(&rt, failing, Err(Failed), b"");
     Ok(())
 }
 
@@ -67,41 +90,45 @@ fn small_files(rt: HostRuntime) -> Result<(), Fail> {
     let mut files = MemoryFiles::new(rt.alloc());
     files.add("f", b"abc")?;
     files.fail_at(4)?;
-    let cases = [
-        ("f", 1, Ok(2), "bc", 0),
-        ("f", 3, Ok(0), "", 0),
-        ("g", 0, Err(Failed), "", 1),
-        ("f", 0, Err(Failed), "", 2),
-        ("f", 0, Ok(3), "abc", 2),
-    ];
-    for (name, at, answer, bytes, faults) in cases {
-        let mut into = [0; 5];
-        assert_eq!(rt;
-            read(&mut files, name, at, &mut into),
-            answer,
-            "{name} at {at}"
-        );
-        assert_eq!(rt; into.starts_with(bytes.as_bytes()), true, "{name} at {at}");
-        assert_eq!(rt; files.faults(), faults, "{name} at {at}");
-    }
+    expect_read(&rt, &mut files, "f", 1, Some(b"bc"));
+    expect_read(&rt, &mut files, "f", 3, Some(b""));
+    expect_read(&rt, &mut files, "g", 0, None);
+    assert_eq!(rt; files.faults(), 1);
+    expect_read(&rt, &mut files, "f", 0, None);
+    assert_eq!(rt; files.faults(), 2);
     files.give_at_most(2);
-    assert_eq!(rt; read(&mut files, "f", 0, &mut [0; 5]), Ok(2));
+    expect_read(&rt, &mut files, "f", 0, Some(b"ab"));
     Ok(())
 }
 
 #[test]
-fn sure_ones(rt: HostRuntime) -> Result<(), Fail> {
-    let mut files = SureFiles::new(rt.alloc());
+fn sure_reads(rt: HostRuntime) -> Result<(), Fail> {
+    let mut files = MemoryFiles::new(rt.alloc());
     files.add("f", b"abc")?;
-    let mut into = [0; 5];
-    assert_eq!(rt; read(&mut files, "f", 1, &mut into), Ok(2));
-    assert_eq!(rt; into, *b"bc\0\0\0");
-    assert_eq!(rt; read(&mut files, "f", 3, &mut into), Ok(0));
-    assert_eq!(rt; read_sure(&mut files, "g", &mut into), 0);
+    assert_eq!(rt; read_named(&mut files, "f", &mut [0; 4]), 3);
+    let mut files = SureFiles::new(rt.alloc());
+    assert_eq!(rt; read_sure(&mut files, "g", &mut [0; 4]), 0);
+    Ok(())
+}
 
+#[test]
+fn sure_writes(rt: HostRuntime) -> Result<(), Fail> {
+    let mut sink = MemorySink::new(rt.alloc(), 4)?;
+    put_fitting(&mut sink, b"abcd");
+    assert_eq!(rt; sink.bytes(), b"abcd".as_slice());
     let mut sink = SureSink::new();
     put_sure(&mut sink, b"abcd");
     assert_eq!(rt; sink.count(), 4);
+    Ok(())
+}
+
+#[test]
+fn sure_files(rt: HostRuntime) -> Result<(), Fail> {
+    let mut files = SureFiles::new(rt.alloc());
+    files.add("f", b"abc")?;
+    expect_read(&rt, &mut files, "f", 1, Some(b"bc"));
+    expect_read(&rt, &mut files, "f", 3, Some(b""));
+    expect_read(&rt, &mut files, "g", 0, Some(b""));
     Ok(())
 }
 
@@ -111,27 +138,24 @@ fn disk_files(rt: HostRuntime) -> Result<(), Fail> {
     let own = process::id(rt.process());
     let path = format!(in rt.alloc(); "{}/hu_io-{own}", folder.display())?;
     fs::write(&rt, path.as_str(), "abcdef")?;
-
-    let mut files = DiskFiles::new(rt, b"abcdef".as_slice());
-    for name in [path.as_str(), "-"] {
-        let mut into = [0; 4];
-        assert_eq!(rt; read(&mut files, name, 0, &mut into), Ok(4), "{name}");
-        assert_eq!(rt; into, *b"abcd", "{name}");
-        assert_eq!(rt; read(&mut files, name, 4, &mut into), Ok(2), "{name}");
-        assert_eq!(rt; into, *b"efcd", "{name}");
-        assert_eq!(rt; read(&mut files, name, 6, &mut into), Ok(0), "{name}");
-    }
-    assert_eq!(rt; files.faults(), 0);
-
-    assert_eq!(rt; read(&mut files, "-", 0, &mut [0; 4]), Err(Failed));
-    assert_eq!(rt; files.faults(), 1);
+    let mut files = DiskFiles::new(rt, b"".as_slice());
+    expect_read(&rt, &mut files, path.as_str(), 0, Some(b"abcd"));
+    expect_read(&rt, &mut files, path.as_str(), 4, Some(b"ef"));
+    expect_read(&rt, &mut files, path.as_str(), 6, Some(b""));
     fs::remove_file(&rt, path.as_str())?;
-    assert_eq!(rt;
-        read(&mut files, path.as_str(), 0, &mut [0; 4]),
-        Err(Failed)
-    );
-    assert_eq!(rt; files.faults(), 2);
+    expect_read(&rt, &mut files, path.as_str(), 0, None);
+    assert_eq!(rt; files.faults(), 1);
     Ok(())
+}
+
+#[test]
+fn standard_input(rt: HostRuntime) {
+    let mut files = DiskFiles::new(rt, b"abcdef".as_slice());
+    expect_read(&rt, &mut files, "-", 0, Some(b"abcd"));
+    expect_read(&rt, &mut files, "-", 0, None);
+    expect_read(&rt, &mut files, "-", 4, Some(b"ef"));
+    expect_read(&rt, &mut files, "-", 6, Some(b""));
+    assert_eq!(rt; files.faults(), 1);
 }
 
 // Takes so many bytes of each piece, and may fail to flush.
@@ -159,19 +183,19 @@ fn stream_sinks(rt: HostRuntime) -> Result<(), Fail> {
     let mut written = Vec::new(rt.alloc());
     let mut sink = StreamSink::new(&mut written);
     assert_eq!(rt; put_all(&mut sink, b"abcd"), Ok(()));
-    assert_eq!(rt; sink.faults(), 0);
     assert_eq!(rt; written.as_slice(), b"abcd".as_slice());
 
-    let cases = [
-        (2, true, "abcd", Ok(2), 0),
-        (0, true, "abcd", Err(Failed), 1),
-        (0, true, "", Ok(0), 0),
-        (2, false, "abcd", Err(Failed), 1),
-    ];
-    for (takes, flushes, piece, answer, faults) in cases {
-        let mut sink = StreamSink::new(Pipe { takes, flushes });
-        assert_eq!(rt; sink.put(piece.as_bytes()), answer, "{takes} {flushes}");
-        assert_eq!(rt; sink.faults(), faults, "{takes} {flushes}");
-    }
+    let takes = |takes| Pipe {
+        takes,
+        flushes: true,
+    };
+    expect_write(&rt, takes(2), b"abcd", Ok(2));
+    expect_write(&rt, takes(0), b"abcd", Err(Failed));
+    expect_write(&rt, takes(0), b"", Ok(0));
+    let stuck = Pipe {
+        takes: 2,
+        flushes: false,
+    };
+    expect_write(&rt, stuck, b"abcd", Err(Failed));
     Ok(())
 }

@@ -212,17 +212,21 @@ pair_exact = record {
   exact = exact_pairs nat_cmp int_cmp exact_unsigned exact_signed;
 }
 
+-- pairs whose items ascend strictly are in order
+pub by_item-ascending : (pairs : List (ℕ × ℤ)) → AllAdjacentBelow (λ a b. a.0 < b.0) pairs (length pairs) → by_item pairs ≡ pairs
+by_item-ascending pairs h =
+    ranking-sorted pair_cmp pairs (sorted_from_all_adjacent pair_exact.total pairs (0, pos 0) (λ k within. pair_less (get_or pairs k (0, pos 0)) (get_or pairs (k + 1) (0, pos 0)) (h k (0, pos 0) within)))
+
 -- cells that ascend strictly are the pairs by item of the cells that were put in order
 pub by_item-ordered : (cells ordered : List Cell) → IsPermutation cells ordered → AllAdjacentBelow (λ a b. a.item.0 < b.item.0) ordered (length ordered)
     → pairs_of ordered ≡ by_item (pairs_of cells)
 by_item-ordered cells ordered same ascending =
     sym (ranking-permutation pair_cmp pair_exact (pairs_of cells) (pairs_of ordered) (IsPermutation-map pair_of cells ordered same)
-    ∙ ranking-sorted pair_cmp (pairs_of ordered) (sorted_from_all_adjacent pair_exact.total (pairs_of ordered) (0, pos 0) rises))
+    ∙ by_item-ascending (pairs_of ordered) rises)
   where
-    at : (k : ℕ) → k < length ordered → get_or (pairs_of ordered) k (0, pos 0) ≡ pair_of (get_or ordered k no_cell)
-    at k within = get_or-map pair_of ordered k no_cell (0, pos 0) within
-
-    rises : (k : ℕ) → k + 1 < length (pairs_of ordered) → pair_cmp (get_or (pairs_of ordered) k (0, pos 0)) (get_or (pairs_of ordered) (k + 1) (0, pos 0)) ≡ Less
-    rises k within =
+    at : (k : ℕ) (d : ℕ × ℤ) → k < length ordered → (get_or (pairs_of ordered) k d).0 ≡ (get_or ordered k no_cell).item.0
+    at k d within = ap (λ pair. pair.0) (get_or-map pair_of ordered k no_cell d within)
+    rises : AllAdjacentBelow (λ a b. a.0 < b.0) (pairs_of ordered) (length (pairs_of ordered))
+    rises k d within =
         let inside : k + 1 < length ordered = omega (arith, length-map ordered pair_of) in
-        rw (at k (omega arith), at (k + 1) inside) (pair_less (pair_of (get_or ordered k no_cell)) (pair_of (get_or ordered (k + 1) no_cell)) (ascending k no_cell inside))
+        omega (arith, at k d (omega arith), at (k + 1) d inside, ascending k no_cell inside)

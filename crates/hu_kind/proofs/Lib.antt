@@ -1,5 +1,5 @@
-mod RecordLemmas
+pub mod RecordLemmas
 mod NumberLemmas
 pub mod TokenLemmas
 pub mod RankingLemmas
-mod CellsLemmas
+pub mod CellsLemmas

@@ -1,15 +1,16 @@
 -- What the bytes that a `Lines` holds keep, from call to call.
-use Rattle.std.proofs.Common.{◌≡◌, ℕ, ◌+◌, ◌<◌, ◌≤◌, Bool, true, false, cond, inl, inr, length-append, List, [], ◌∷◌, ◌++◌, length, refl, sym, ap, subst, ◌∙◌, arith, rules, Option, None, Some}
-use Rattle.std.specs.Prelude.{IsSome, map, ◌⊎◌}
+use Rattle.std.proofs.Common.{◌≡◌, ℕ, ◌+◌, ◌<◌, ◌≤◌, Bool, true, false, inl, inr, length-append, List, [], ◌∷◌, ◌++◌, length, drop, append_assoc, refl, sym, ap, ◌∙◌, arith, None}
+use Rattle.std.specs.Prelude.{map}
 use Rattle.std.specs.Option.{is_some}
 use Rattle.std.proofs.lemmas.Bool.{false≢true}
 use Rattle.hu_lines.specs.declared.limits.TheConstants.{LONGEST_LINE, LARGEST_INPUT}
-use Rattle.hu_lines.specs.Pieces.{has_line_feed, first_piece, body_of, line_of, lines, pieces}
+use Rattle.hu_lines.specs.Pieces.{has_line_feed, first_piece, pieces, body_of, line_of, lines}
 use Rattle.hu_lines.specs.Limits.{refusal}
 use Rattle.hu_lines.specs.declared.lines.Lines.TheInside.{Inside}
 use Rattle.hu_lines.specs.Held.{state_of, IsKept}
-use Rattle.hu_lines.specs.Lines.{State, IsHeld, HasLine}
-use Rattle.hu_lines.proofs.PieceLemmas.{has_line_feed-append, first_piece-append, one_piece_of}
+use Rattle.hu_lines.specs.Lines.{State, begun, ended_piece, IsHeld, HasLine}
+use Rattle.hu_lines.specs.Laws.{HeldComesFirst, FedComesFirst}
+use Rattle.hu_lines.proofs.PieceLemmas.{has_line_feed-append, first_piece-append, first_piece_split, one_piece_of, whole_piece_first}
 use Rattle.hu_lines.proofs.LimitLemmas.{refusal-none, refusal-empty, length-body-le, length-without_last-le}
 
 -- the bytes held and those before them are within the run's limit
@@ -70,3 +71,22 @@ pub held_short : (s : State) → IsHeld s → length (line_of s.bytes) ≤ LONGE
 held_short s held =
     let within : length (body_of s.bytes) ≤ LONGEST_LINE = (refusal-none s.number s.before s.bytes held.within).1 in
     omega (arith, length-without_last-le 13 (body_of s.bytes))
+
+-- of what is held and what comes after it, the piece that has ended comes first
+pub held_first : HeldComesFirst
+held_first s rest held = first_by s.whole refl
+  where
+    first_by : (t : Bool) → s.whole ≡ t → pieces (s.bytes ++ rest) ≡ ended_piece s ++ pieces ((begun s).bytes ++ rest)
+    first_by true ended = rw ended (whole_piece_first s.bytes rest held.one (sym held.whole ∙ ended))
+    first_by false open_ = rw open_ refl
+
+-- so it is of what was held, a piece that is fed, and what comes after it
+pub fed_first : FedComesFirst
+fed_first old now piece rest is held =
+    let front = first_piece piece in
+    let left = drop (length front) piece in
+    let bytes : now.bytes ≡ (begun old).bytes ++ front = ap (λ s. s.bytes) is in
+    let split : piece ++ rest ≡ front ++ (left ++ rest) = sym (ap (λ r. r ++ rest) (first_piece_split piece)) ∙ append_assoc front left rest in
+    let all : (begun old).bytes ++ (piece ++ rest) ≡ now.bytes ++ (left ++ rest) =
+    ap (λ r. (begun old).bytes ++ r) split ∙ (sym (append_assoc (begun old).bytes front (left ++ rest)) ∙ ap (λ r. r ++ (left ++ rest)) (sym bytes)) in
+    ap pieces all ∙ held_first now (left ++ rest) held

@@ -1,14 +1,14 @@
 -- Pieces of bytes: how they are cut, and how they are gathered again.
-use Rattle.std.proofs.Common.{◌≡◌, ℕ, add-one, zero, suc, ◌+◌, ◌-◌, ◌<◌, ◌≤◌, ◌||◌, Bool, true, false, cond, eqb, List, [], ◌∷◌, ◌++◌, length, take, drop, get_or, map, refl, sym, ap, subst, ◌∙◌, append_assoc, arith, rules, Option, None, Some}
-use Rattle.std.specs.Prelude.{MatchOption}
-use Rattle.std.specs.List.{list_any, flat_map, concat}
+use Rattle.std.proofs.Common.{◌≡◌, ℕ, add-one, zero, suc, ◌+◌, ◌<◌, ◌≤◌, ◌||◌, true, false, cond, eqb, List, [], ◌∷◌, ◌++◌, length, take, drop, map, refl, sym, ap, subst, ◌∙◌, append_assoc, arith, Option, None, Some}
+use Rattle.std.specs.Prelude.{MatchOption, not}
+use Rattle.std.specs.List.{concat}
 use Rattle.std.proofs.lemmas.Bool.{false≢true, false_from_ne_true}
-use Rattle.std.proofs.Math.Seq.{drop-append_seam}
-use Rattle.std.proofs.Math.Seq.{drop-length}
+use Rattle.std.proofs.lemmas.Bool.Decides.{nat_tests}
+use Rattle.std.proofs.Math.Seq.{drop-append_seam, drop-length}
 use Rattle.std.proofs.lemmas.List.{append-nil, length-take-le}
 use Rattle.std.proofs.lemmas.List.Folds.{list_any-append}
 use Rattle.memchr.specs.Find.{IsFirstByte, NoneBefore, Passes, is_byte}
-use Rattle.hu_lines.specs.Pieces.{has_line_feed, first_piece, in_front, pieces, without_last, body_of, line_of, lines, parts, gathered, gathered_lines}
+use Rattle.hu_lines.specs.Pieces.{has_line_feed, first_piece, in_front, pieces, line_of, parts, gathered}
 use Rattle.hu_lines.specs.Laws.{WholePieceComesFirst, RestIsOnePiece, FirstPieceComesFirst, LinesIgnoreCuts}
 
 -- the first piece has a line feed where the bytes have one
@@ -44,6 +44,14 @@ first_piece_open [] open_ = refl
 first_piece_open (b ∷ bs) open_ =
     ap (λ r. b ∷ r)
     (elim (eqb b 10) as (λ t. (t || has_line_feed bs) ≡ false → cond t [] (first_piece bs) ≡ bs) [ true ↦ (λ no. absurd (false≢true (sym no))) | false ↦ first_piece_open bs ] open_)
+
+-- bytes are their first piece and what is left
+pub first_piece_split : (bytes : List ℕ) → first_piece bytes ++ drop (length (first_piece bytes)) bytes ≡ bytes
+first_piece_split [] = refl
+first_piece_split (b ∷ bs) =
+    let none : List ℕ = [] in
+    ap (λ r. b ∷ r)
+    (elim (eqb b 10) as (λ t. cond t none (first_piece bs) ++ drop (length (cond t none (first_piece bs))) bs ≡ bs) [ true ↦ refl | false ↦ first_piece_split bs ])
 
 -- the first piece of bytes comes first, and then the pieces of what is left
 pub first_piece_first : FirstPieceComesFirst
@@ -100,11 +108,11 @@ gathered-pieces later rest so held (b ∷ bs) open_ =
     let onward : (held ++ b ∷ []) ++ (bs ++ rest) ≡ held ++ (b ∷ (bs ++ rest)) = append_assoc held (b ∷ []) (bs ++ rest) in
     let marks : has_line_feed (held ++ b ∷ []) ≡ eqb b 10 = has_line_feed-after held b open_ in
     elim (eqb b 10) as
-    (λ t. eqb b 10 ≡ t → gathered held (cond t ((b ∷ []) ∷ pieces bs) (in_front b (pieces bs)) ++ later) ≡ pieces (held ++ (b ∷ (bs ++ rest))))
-    [ true ↦ (λ ends. rw ends
-      (ap (λ r. (held ++ b ∷ []) ∷ r) (gathered-pieces later rest so [] bs refl)
-        ∙ (sym (whole_piece_first (held ++ b ∷ []) (bs ++ rest) (first_piece-append held (b ∷ []) open_ ∙ ap (λ r. held ++ r) (first_piece_single b)) (marks ∙ ends)) ∙ ap pieces onward)))
-    | false ↦ (λ other. gathered-in_front held b (pieces bs) later other ∙ (gathered-pieces later rest so (held ++ b ∷ []) bs (marks ∙ other) ∙ ap pieces onward))
+    (λ t. eqb b 10 ≡ t → gathered held (cond t ((b ∷ []) ∷ pieces bs) (in_front b (pieces bs)) ++ later) ≡ pieces (held ++ (b ∷ (bs ++ rest)))) [
+      | true ↦ (λ ends. rw ends
+          (ap (λ r. (held ++ b ∷ []) ∷ r) (gathered-pieces later rest so [] bs refl)
+          ∙ (sym (whole_piece_first (held ++ b ∷ []) (bs ++ rest) (first_piece-append held (b ∷ []) open_ ∙ ap (λ r. held ++ r) (first_piece_single b)) (marks ∙ ends)) ∙ ap pieces onward)))
+      | false ↦ (λ other. gathered-in_front held b (pieces bs) later other ∙ (gathered-pieces later rest so (held ++ b ∷ []) bs (marks ∙ other) ∙ ap pieces onward))
     ]
     refl
 
@@ -124,6 +132,13 @@ one_piece_of bytes one some =
     let P = λ (first : List ℕ). pieces bytes ≡ first ∷ pieces (drop (length first) bytes) in
     let split : P bytes = subst P one (first_piece_first bytes some) in
     split ∙ ap (λ r. bytes ∷ pieces r) (drop-length bytes)
+
+-- a first piece is one piece, unless it is empty
+pub pieces_of_one : (bytes : List ℕ) → first_piece bytes ≡ bytes → pieces bytes ≡ cond (not (eqb (length bytes) 0)) (bytes ∷ []) []
+pieces_of_one [] one = refl
+pieces_of_one (b ∷ bs) one =
+    let some : eqb (length (b ∷ bs)) 0 ≡ false = grind (arith, nat_tests) in
+    rw some (one_piece_of (b ∷ bs) one (omega arith))
 
 -- what the search for a line feed finds is the end of the first piece
 pub first_piece_found : (bytes : List ℕ) (place : Option ℕ) → IsFirstByte (is_byte 10) bytes place

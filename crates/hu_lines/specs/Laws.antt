@@ -4,6 +4,7 @@ use Rattle.std.specs.List.{concat}
 use Rattle.hu_lines.specs.declared.limits.LineFault.{LineFault}
 use Rattle.hu_lines.specs.Pieces.{has_line_feed, first_piece, pieces, lines, gathered_lines}
 use Rattle.hu_lines.specs.Limits.{refusal}
+use Rattle.hu_lines.specs.Lines.{State, begun, grown, ended_piece, IsHeld}
 
 -- bytes that end with their only line feed are a piece, and what follows them has its own
 abbrev pub WholePieceComesFirst : Type 0
@@ -26,6 +27,15 @@ RefusalStands = (number before : ℕ) (begun more : List ℕ) (fault : LineFault
 abbrev pub FirstRefusalStands : Type 0
 FirstRefusalStands = (number before : ℕ) (bytes more : List ℕ) (fault : LineFault)
     → refusal number before (first_piece bytes) ≡ Some fault → refusal number before (first_piece (bytes ++ more)) ≡ Some fault
+
+-- of what a `Lines` holds and what comes after it, the piece that has ended comes first
+abbrev pub HeldComesFirst : Type 0
+HeldComesFirst = (s : State) (rest : List ℕ) → IsHeld s → pieces (s.bytes ++ rest) ≡ ended_piece s ++ pieces ((begun s).bytes ++ rest)
+
+-- so it is of what was held, a piece that is fed, and what comes after it: what `now` holds has taken the front of the piece
+abbrev pub FedComesFirst : Type 0
+FedComesFirst = (old now : State) (piece rest : List ℕ) → now ≡ grown (begun old) (first_piece piece) → IsHeld now
+    → pieces ((begun old).bytes ++ (piece ++ rest)) ≡ ended_piece now ++ pieces ((begun now).bytes ++ (drop (length (first_piece piece)) piece ++ rest))
 
 -- however bytes are cut into chunks, the lines gathered from the chunks are the lines of the bytes
 abbrev pub LinesIgnoreCuts : Type 0

@@ -1,5 +1,5 @@
 -- What a `Lines` is seen as, and what its calls make of it.
-use Rattle.std.specs.Prelude.{◌≡◌, ◌⊎◌, ℕ, ◌+◌, ◌<◌, ◌≤◌, Bool, true, false, Option, None, Some, List, [], ◌++◌, length, IsSome, if◌then◌else◌}
+use Rattle.std.specs.Prelude.{◌≡◌, ◌⊎◌, ℕ, ◌+◌, ◌<◌, ◌≤◌, Bool, true, false, Option, None, List, [], ◌∷◌, ◌++◌, length, IsSome, if◌then◌else◌}
 use Rattle.std.specs.Option.{option_or}
 use Rattle.hu_lines.specs.declared.limits.LineFault.{LineFault}
 use Rattle.hu_lines.specs.Pieces.{has_line_feed, first_piece}
@@ -42,6 +42,10 @@ at_next_file s = record (at_line 1 s) { ended = false }
 -- the answer to more bytes of a line: the earlier refusal, else the limit that the line passes with them
 abbrev pub refusal_of : State → List ℕ → Option LineFault
 refusal_of s taken = option_or s.refused (refusal s.number s.before (s.bytes ++ taken))
+
+-- the piece that has ended, where it has
+abbrev pub ended_piece : State → List (List ℕ)
+ended_piece s = if s.whole then s.bytes ∷ [] else []
 
 -- a line can be read: it has ended, or the file has, and bytes stand after its last line feed
 abbrev pub HasLine : State → Type 0

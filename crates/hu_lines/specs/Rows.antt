@@ -1,7 +1,7 @@
 -- Worked rows: small texts with their pieces, lines and refusals, by computation.
-use Rattle.std.specs.Prelude.{◌≡◌, ℕ, true, false, None, Some, List, [], ◌∷◌, codes, refl}
+use Rattle.std.specs.Prelude.{◌≡◌, true, false, None, Some, [], ◌∷◌, refl}
 use Rattle.hu_lines.specs.declared.limits.LineFault.TheVariants.{LineTooLong, InputTooLarge}
-use Rattle.hu_lines.specs.Pieces.{first_piece, pieces, line_of, lines, parts, gathered_lines}
+use Rattle.hu_lines.specs.Pieces.{pieces, lines, gathered_lines}
 use Rattle.hu_lines.specs.Limits.{refusal_under}
 use Rattle.hu_lines.specs.Skipped.{is_skipped_line}
 
@@ -45,7 +45,7 @@ line_feed_too_large = refl
 pub last_of_the_run : refusal_under 3 10 2 7 (97 ∷ 97 ∷ 97 ∷ []) ≡ None
 last_of_the_run = refl
 
--- an empty line and a line of spaces are skipped
+-- a line of spaces is skipped
 pub skips_spaces : is_skipped_line (32 ∷ 32 ∷ []) ≡ true
 skips_spaces = refl
 

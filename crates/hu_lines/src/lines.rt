@@ -1,8 +1,8 @@
 //! Lines gathered from the pieces of a file.
 
-ghost use Rattle.std.specs.Prelude.{◌≡◌, ℕ, ◌+◌, ◌-◌, ◌^◌, ◌<◌, ◌≤◌, ◌↔◌, [], ◌∷◌, ◌++◌, length, take, true, false, IsTrue, None, Some, IfSome, IfOk, IfErr, OnOk, OnErr};
+ghost use Rattle.std.specs.Prelude.{◌≡◌, ℕ, ◌+◌, ◌-◌, ◌^◌, ◌<◌, ◌≤◌, ◌↔◌, [], ◌∷◌, ◌++◌, length, take, true, false, IsTrue, None, Some, IfSome, IfOk, IfErr, OnOk, if◌then◌else◌};
 ghost use Rattle.std.specs.Result.{result_err};
-ghost use Rattle.hu_lines.specs.Pieces.{has_line_feed, first_piece, without_last, line_of, lines};
+ghost use Rattle.hu_lines.specs.Pieces.{has_line_feed, first_piece, pieces, without_last, line_of, lines};
 ghost use Rattle.hu_lines.specs.Limits.{limit_passed, refusal};
 ghost use Rattle.hu_lines.specs.Lines.{State, at_start, at_line, begun, grown, at_end, at_next_file, refusal_of, HasLine, IsHeld};
 
@@ -25,7 +25,7 @@ pub struct Fed {
 ///
 /// Feed it a file's bytes in turn, each time what it didn't take before, and read the line where it is whole; at the
 /// file's end call `end`, which tells of a last line without a line feed, and then `next_file`.
-#[derive(Drop)]
+#[derive(Debug, Drop)]
 pub struct Lines {
     bytes: Vec<u8>,
     whole: bool,
@@ -78,7 +78,7 @@ impl Lines {
         ensures stays { IfSome self.old.refused (λ fault. (result ≡ Err fault) × (self.new ≡ self.old)) }
 
         // The file goes on, and so may the line.
-        ensures open { self.new.ended ≡ false }
+        ensures going { self.new.ended ≡ false }
         ensures accepted { OnOk result (self.new.refused ≡ None) }
         ensures held { IsHeld self.new }
 
@@ -128,8 +128,8 @@ impl Lines {
         self.whole = false;
     }
 
-    /// The limit that the line passes with more bytes, of which the last is a line feed where they are the `whole` rest.
-    #[tactic(auto, using(crate::proofs::HeldLemmas::kept_within, crate::proofs::LimitLemmas::refusal_by_length))]
+    /// The limit that the line passes with these bytes, of which the last is a line feed where they make it `whole`.
+    #[tactic(auto, using(crate::proofs::HeldLemmas::kept_within))]
     fn passed_limit(&self, taken: &[u8], whole: bool) -> Option<LineFault>
         requires begun { self.now.whole ≡ false }
         requires one { first_piece taken.now ≡ taken.now }
@@ -141,7 +141,7 @@ impl Lines {
     }
 
     /// Adds bytes to the line, for which there is room where they pass no limit.
-    #[tactic(auto, using(crate::proofs::HeldLemmas::held_grown, crate::proofs::HeldLemmas::held_room))]
+    #[tactic(auto, using(crate::proofs::HeldLemmas::held_room))]
     fn grow(&mut self, taken: &[u8], whole: bool)
         requires begun { self.old.whole ≡ false }
         requires accepted { self.old.refused ≡ None }
@@ -161,6 +161,7 @@ impl Lines {
     pub fn end(&mut self) -> bool
         requires { self.old.refused ≡ None }
         ensures rest { IsTrue result ↔ ((self.old.whole ≡ false) × (0 < length self.old.bytes)) }
+        ensures left { pieces (begun self.old).bytes ≡ (if result then self.old.bytes ∷ [] else []) }
         ensures ended { self.new ≡ at_end self.old }
         ensures held { IsHeld self.new }
     {
@@ -169,7 +170,7 @@ impl Lines {
     }
 
     /// The line, without its line feed and without one carriage return at its end.
-    #[tactic(auto, using(crate::proofs::HeldLemmas::held_line, crate::proofs::HeldLemmas::held_short))]
+    #[tactic(auto, using(crate::proofs::HeldLemmas::held_line))]
     pub fn line(&self) -> &[u8]
         requires { HasLine self.now }
         ensures value { result.now ≡ line_of self.now.bytes }
@@ -215,7 +216,6 @@ fn limit_passed(number: u64, before: u64, body: u64, all: u64) -> Option<LineFau
 }
 
 /// What a feed takes of a piece: the bytes up to and with its first line feed, all of them where it has none.
-#[tactic(auto, using(crate::proofs::PieceLemmas::front_found))]
 fn front_of(piece: &[u8]) -> Fed
     ensures taken { result.taken ≡ length (first_piece piece.now) }
     ensures front { take result.taken piece.now ≡ first_piece piece.now }

@@ -1,3 +1,9 @@
+mod CellLemmas
+mod CanonicalLemmas
+mod JudgedLemmas
 mod LineLemmas
 mod NumbersLemmas
+mod NumeralLemmas
 mod ReadingLemmas
+mod SumsLemmas
+mod WriteLemmas

@@ -1,6 +1,6 @@
 -- The parts of a line.
-use Rattle.std.proofs.Common.{◌≡◌, ℕ, ◌+◌, ◌-◌, ◌<◌, ◌≤◌, ◌==◌, Bool, true, false, not, None, Some, Option, List, [], ◌∷◌, length, take, drop, position, sym, ap, ◌∙◌, arith, refl}
-use Rattle.std.specs.List.{position_or_len, slice_split}
+use Rattle.std.proofs.Common.{◌≡◌, ℕ, ◌+◌, ◌-◌, ◌<◌, ◌≤◌, ◌==◌, false, None, Some, List, [], ◌∷◌, length, take, drop, position, ap, ◌∙◌, arith, refl}
+use Rattle.std.specs.List.{position_or_len}
 use Rattle.std.proofs.lemmas.Bool.Decides.{nat_tests}
 use Rattle.std.proofs.lemmas.List.{take_all, length-drop}
 use Rattle.std.proofs.lemmas.List.Sums.{fails_before_first}
@@ -8,7 +8,6 @@ use Rattle.std.proofs.lemmas.List.Splits.{slice_split_first, slice_split_none, l
 use Rattle.hu_trans.specs.declared.fault.Fault.TheVariants.{NotThreeParts}
 use Rattle.hu_trans.specs.Line.{parts}
 use Rattle.hu_trans.specs.Reading.{not_three_parts}
-
 
 -- the first part ends at the first `:`
 pub parts-first : (text : List ℕ) (place : ℕ) → position (λ byte. byte == 58) text ≡ Some place

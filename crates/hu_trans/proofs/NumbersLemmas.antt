@@ -1,16 +1,16 @@
 -- The numbers of tokens, and the first token that is none.
-use Rattle.std.proofs.Common.{◌≡◌, ℕ, ◌+◌, ℤ, Option, None, Some, Result, Ok, Err, is_err, List, [], ◌∷◌, map, unsigned_abs, ap, ◌∙◌, sym, refl, arith}
+use Rattle.std.proofs.Common.{◌≡◌, ℕ, ◌+◌, ℤ, Option, None, Some, Result, Err, is_err, List, [], ◌∷◌, ap, ◌∙◌, refl}
 use Rattle.std.specs.List.{position_from}
 use Rattle.std.specs.Option.{option_map}
 use Rattle.std.proofs.lemmas.Iterator.Adapters.{position_from-zero}
 use Rattle.hu_kind.specs.declared.number.NumberFault.{NumberFault}
-use Rattle.hu_trans.specs.Line.{numbers, bad_token}
+use Rattle.hu_trans.specs.Line.{bad_token}
 
 -- the first place, counted from `at`, at which a token is no number
 abbrev pub bad_from : (List ℕ → Result ℤ NumberFault) → ℕ → List (List ℕ) → Option ℕ
 bad_from read at texts = position_from (λ text. is_err (read text)) at texts
 
-bad_token-bad_from : (read : List ℕ → Result ℤ NumberFault) (texts : List (List ℕ)) → bad_token read texts ≡ option_map (λ k. k + 1) (bad_from read 0 texts)
+pub bad_token-bad_from : (read : List ℕ → Result ℤ NumberFault) (texts : List (List ℕ)) → bad_token read texts ≡ option_map (λ k. k + 1) (bad_from read 0 texts)
 bad_token-bad_from read texts = ap (option_map (λ k. k + 1)) (position_from-zero (λ text. is_err (read text)) texts)
 
 -- where no token is left, there was none

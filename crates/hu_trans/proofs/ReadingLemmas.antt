@@ -1,5 +1,5 @@
 -- The reading of a line.
-use Rattle.std.proofs.Common.{◌≡◌, ◌≢◌, ◌+◌, ◌^◌, ◌==◌, ◌||◌, ℕ, ℤ, Bool, true, false, not, nat_lt, Option, None, Some, Result, Ok, Err, List, [], ◌∷◌, length, position, zip, IfSome}
+use Rattle.std.proofs.Common.{◌≢◌, ◌+◌, ◌^◌, ◌==◌, ◌||◌, ℕ, ℤ, Bool, true, false, not, nat_lt, Option, None, Some, Result, Ok, Err, List, [], ◌∷◌, length, position, zip, IfSome}
 use Rattle.std.specs.Bool.{then_some}
 use Rattle.std.specs.Ordering.{int_eq}
 use Rattle.std.specs.Option.{option_map, option_map_or}
@@ -71,13 +71,23 @@ form_told line = (three_told (parts line), (number_told (item_tokens line) (tota
 
 numbers_told : (numbers : List ℕ) (sum : ℤ) (utilities : List ℤ) → AreTold (number_faults numbers sum utilities)
 numbers_told numbers sum utilities = (
-    none_told numbers,
-    (many_told numbers,
-    (counts_told numbers utilities,
-    (range_told numbers,
-    (twice_told numbers,
-    (large_told (zip numbers utilities),
-    (total_told sum (zip numbers utilities), tt))))))
+  none_told numbers,
+  (
+    many_told numbers,
+    (
+      counts_told numbers utilities,
+      (
+        range_told numbers,
+        (
+          twice_told numbers,
+          (
+            large_told (zip numbers utilities),
+            (total_told sum (zip numbers utilities), tt),
+          ),
+        ),
+      ),
+    ),
+  ),
 )
 
 -- no line tells want of memory

@@ -1,5 +1,5 @@
 -- The one line in which a record is written.
-use Rattle.std.specs.Prelude.{ℕ, ℤ, List, [], ◌∷◌, map, decimal}
+use Rattle.std.specs.Prelude.{ℕ, zero, suc, ℤ, List, [], ◌∷◌, map, decimal}
 use Rattle.std.specs.Fmt.{signed_decimal}
 use Rattle.std.specs.List.{join_with_byte}
 use Rattle.hu_kind.specs.Record.{total}
@@ -11,3 +11,8 @@ canonical_line cells = join_with_byte 58 (
     ∷ signed_decimal (total cells)
     ∷ join_with_byte 32 (map (λ cell. signed_decimal cell.1) cells)
     ∷ [])
+
+-- what stands in front of the number at a place of a list
+abbrev pub gap : ℕ → List ℕ
+gap zero = []
+gap (suc k) = 32 ∷ []

@@ -1,6 +1,5 @@
 -- Worked lines, by computation.
-use Rattle.std.specs.Prelude.{◌≡◌, ℤ, pos, negsuc, Ok, Err, List, [], ◌∷◌, codes, refl}
-use Rattle.hu_trans.specs.declared.fault.Fault.{Fault}
+use Rattle.std.specs.Prelude.{◌≡◌, pos, negsuc, Ok, Err, [], ◌∷◌, codes, refl}
 use Rattle.hu_trans.specs.declared.fault.Fault.TheVariants.{NotThreeParts, BadNumber, NoItems, CountsDiffer, ItemOutOfRange, DuplicateItem, SumTooLarge, TotalDisagrees}
 use Rattle.hu_trans.specs.Reading.{reading}
 

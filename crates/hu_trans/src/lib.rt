@@ -3,10 +3,15 @@
 //! What a line says is defined in `specs/Reading.antt`.
 #![tactic(auto)]
 
+mod checks;
 mod fault;
+mod judge;
 mod numbers;
 mod parts;
 mod read;
+mod sums;
+#[cfg(test)]
+mod tests;
 mod write;
 
 pub use fault::Fault;

@@ -15,6 +15,7 @@ use std::alloc::Global;
 pub fn read_items(alloc: Global, part: &[u8]) -> Result<Vec<u128>, Fault>
     requires { length part.now ≤ 1048576 }
     ensures value { IfOk result (λ items. items.items ≡ map unsigned_abs (numbers number (tokens part.now))) }
+    ensures few { IfOk result (λ items. length items.items ≤ 1048576) }
     ensures good { OnOk result (bad_token number (tokens part.now) ≡ None) }
     ensures bad { IfErr result (λ fault. (fault ≡ Fault.NoMemory)
         ⊎ (option_map (BadNumber 1) (bad_token number (tokens part.now)) ≡ Some fault)) }
@@ -54,6 +55,7 @@ pub fn read_total(part: &[u8]) -> Result<i128, Fault>
 pub fn read_utilities(alloc: Global, part: &[u8]) -> Result<Vec<i128>, Fault>
     requires { length part.now ≤ 1048576 }
     ensures value { IfOk result (λ values. values.items ≡ numbers signed_number (tokens part.now)) }
+    ensures few { IfOk result (λ values. length values.items ≤ 1048576) }
     ensures good { OnOk result (bad_token signed_number (tokens part.now) ≡ None) }
     ensures bad { IfErr result (λ fault. (fault ≡ Fault.NoMemory)
         ⊎ (option_map (BadNumber 3) (bad_token signed_number (tokens part.now)) ≡ Some fault)) }

@@ -26,7 +26,11 @@ impl<'a> Parts<'a> {
         let (total, utilities) = cut(rest)?;
         match cut(utilities) {
             Some(_) => None,
-            None => Some(Parts { items, total, utilities }),
+            None => Some(Parts {
+                items,
+                total,
+                utilities,
+            }),
         }
     }
 }

@@ -4,6 +4,9 @@ ghost use Rattle.std.specs.Prelude.{◌≡◌, ◌≢◌, ◌≤◌, ◌⊎◌, 
 ghost use Rattle.hu_trans.specs.Reading.{reading};
 
 use crate::fault::Fault;
+use crate::judge::judge;
+use crate::numbers::{read_items, read_total, read_utilities};
+use crate::parts::Parts;
 use hu_kind::Record;
 use std::alloc::Global;
 
@@ -14,5 +17,11 @@ pub fn read_record(alloc: Global, line: &[u8]) -> Result<Record, Fault>
     ensures err { IfErr result (λ fault. (fault ≡ Fault.NoMemory) ⊎ (reading line.now ≡ Err fault)) }
     ensures always { reading line.now ≢ Err Fault.NoMemory }
 {
-    Err(Fault::NoMemory)
+    let Some(parts) = Parts::of(line) else {
+        return Err(Fault::NotThreeParts);
+    };
+    let items = read_items(alloc, parts.items)?;
+    let stated = read_total(parts.total)?;
+    let utilities = read_utilities(alloc, parts.utilities)?;
+    judge(alloc, &items, stated, &utilities)
 }

@@ -1,5 +1,4 @@
-use Rattle.std.proofs.Common.{◌≡◌, ◌≤◌, length, rules, ◌∙◌, sym}
-use Rattle.std.specs.Int.{int_max}
+use Rattle.std.proofs.Common.{◌≡◌, ◌≤◌, length, rules}
 use Rattle.hu_collect.specs.Rule.{last_utility}
 use Rattle.hu_collect.proofs.Bodies.{last_utility-at_end}
 use Rattle.hu_collect.proofs.Floor.{floor_by-full}

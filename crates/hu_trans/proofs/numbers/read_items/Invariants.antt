@@ -11,5 +11,6 @@ invariant-loop-token l = record {
   finite : (goal.iterator-loop-token).is_finite l.token-iterator;
   so_far : l.items.items ++ map unsigned_abs (numbers number l.token-iterator) ≡ map unsigned_abs (numbers number (tokens l.part));
   place : bad_from number 0 (tokens l.part) ≡ bad_from number l.at l.token-iterator;
+  count : length l.items.items ≡ l.at;
   few : l.at + length l.token-iterator ≤ 1048576;
 }

@@ -11,5 +11,6 @@ invariant-loop-token l = record {
   finite : (goal.iterator-loop-token).is_finite l.token-iterator;
   so_far : l.utilities.items ++ numbers signed_number l.token-iterator ≡ numbers signed_number (tokens l.part);
   place : bad_from signed_number 0 (tokens l.part) ≡ bad_from signed_number l.at l.token-iterator;
+  count : length l.utilities.items ≡ l.at;
   few : l.at + length l.token-iterator ≤ 1048576;
 }

@@ -1,4 +1,4 @@
-use Rattle.std.proofs.Common.{◌≡◌, ◌<ℤ◌, ◌≤ℤ◌, None, sym, ◌∙◌, rules}
+use Rattle.std.proofs.Common.{◌<ℤ◌, ◌≤ℤ◌, None, sym, rules}
 use Rattle.hu_kind.specs.Order.{entry_cmp, ranking}
 use Rattle.hu_collect.proofs.Bodies.{made-pushed, made-low, kept-ranking}
 use Rattle.hu_collect.proofs.all.AllCollect.offer.Goals as goal

@@ -1,4 +1,4 @@
-use Rattle.std.proofs.Common.{refl, sym, ap, ◌∙◌, arith}
+use Rattle.std.proofs.Common.{sym, ◌∙◌, arith}
 use Rattle.hu_lines.proofs.HeldLemmas.{held_grown}
 use Rattle.hu_lines.proofs.lines.Lines.grow.Goals as goal
 

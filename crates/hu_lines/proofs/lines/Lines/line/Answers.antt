@@ -1,4 +1,3 @@
-use Rattle.std.proofs.Common.{◌≤◌, length, arith}
 use Rattle.hu_lines.specs.Held.{state_of}
 use Rattle.hu_lines.proofs.HeldLemmas.{held_short}
 use Rattle.hu_lines.proofs.lines.Lines.line.Goals as goal

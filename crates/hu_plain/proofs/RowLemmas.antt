@@ -1,0 +1,127 @@
+-- Rows, by their places.
+use Rattle.std.proofs.Common.{◌≡◌, ℕ, zero, suc, ◌<◌, ◌≤◌, ◌+◌, ◌^◌, true, ℤ, ◌+ℤ◌, unsigned_abs, List, [], ◌∷◌, ◌++◌, map, length, get_or, take, refl, sym, ap, ◌∙◌, subst, arith, sum_by, flat_map, nat_eq, Contains, IsPermutation}
+use Rattle.std.specs.List.{AllByRecursion, AllAdjacentBelow, dedup}
+use Rattle.std.specs.List.Retain.{IsFiltered, DiffersFromLast}
+use Rattle.std.specs.Ordering.{on}
+use Rattle.std.proofs.lemmas.Int.{ints}
+use Rattle.std.proofs.lemmas.Bool.{eqb-true}
+use Rattle.std.proofs.lemmas.Cmp.{on_equiv, nat_eq_equiv}
+use Rattle.std.proofs.lemmas.List.{map-append}
+use Rattle.std.proofs.lemmas.List.Sums.{sum_by-cons}
+use Rattle.std.proofs.lemmas.List.Filters.{dedup_is}
+use Rattle.std.proofs.lemmas.List.Kept.{Contains-dedup, Contains-from_dedup}
+use Rattle.std.proofs.lemmas.List.Sorted.{Contains-permutation, IsPermutation-sym}
+use Rattle.hu_kind.specs.declared.item.Item.{Item}
+use Rattle.hu_kind.specs.declared.item.Cell.{Cell}
+use Rattle.hu_kind.specs.Cell.{pairs_of}
+use Rattle.hu_kind.specs.Record.{items_in, absolute_of, IsRecord}
+use Rattle.hu_plain.specs.declared.row.Row.{Row}
+use Rattle.hu_plain.specs.Row.{earned, tails, weight_of, Ascend, AreRows}
+use Rattle.hu_plain.specs.View.{row_of, rows_of, first_row, item_of, numbers_of, AreLaterItems}
+use Rattle.hu_plain.proofs.Occurring.{above_all}
+use Rattle.hu_plain.proofs.Members.{Member, Member-map, Member-from_map, Contains-from_member, Member-from_contains}
+
+-- what holds of each row holds of the row at a place
+pub row_at : (P : ℤ × List (ℕ × ℤ) → Type 0) (rows : List Row) (i : ℕ) (d : Row) → AllByRecursion P (rows_of rows) → i < length rows → P (row_of (get_or rows i d))
+row_at P [] i d all within = absurd (omega arith)
+row_at P (row ∷ rows) zero d all within = all.0
+row_at P (row ∷ rows) (suc i) d all within = row_at P rows i d all.1 (omega arith)
+
+-- a row's weight is within the sum
+weight-at : (rows : List Row) (i : ℕ) (d : Row) → i < length rows → weight_of (row_of (get_or rows i d)) ≤ sum_by weight_of (rows_of rows)
+weight-at [] i d within = absurd (omega arith)
+weight-at (row ∷ rows) zero d within = omega (arith, sum_by-cons weight_of (row_of row) (rows_of rows))
+weight-at (row ∷ rows) (suc i) d within = omega (arith, sum_by-cons weight_of (row_of row) (rows_of rows), weight-at rows i d (omega arith))
+
+pub weight-below : (rows : List Row) (i : ℕ) (d : Row) (bound : ℕ) → sum_by weight_of (rows_of rows) < bound → i < length rows → weight_of (row_of (get_or rows i d)) < bound
+weight-below rows i d bound below within = omega (arith, weight-at rows i d within)
+
+-- one more row, and what the prefix earns in the rows so far
+pub earned-more : (rows : List Row) (i : ℕ) (d : Row) → i < length rows → earned (rows_of (take (suc i) rows)) [] ≡ earned (rows_of (take i rows)) [] +ℤ (get_or rows i d).earned
+earned-more [] i d within = absurd (omega arith)
+earned-more (row ∷ rows) zero d within = omega (arith, ints)
+earned-more (row ∷ rows) (suc i) d within = let ih = earned-more rows i d (omega arith) in omega (arith, ints)
+
+-- what a prefix earns is within the weights
+earned-within : (rows : List Row) (i : ℕ) → unsigned_abs (earned (rows_of (take i rows)) []) ≤ sum_by weight_of (rows_of rows)
+earned-within [] zero = omega arith
+earned-within [] (suc i) = omega arith
+earned-within (row ∷ rows) zero = omega arith
+earned-within (row ∷ rows) (suc i) = let ih = earned-within rows i in omega (arith, ints, sum_by-cons weight_of (row_of row) (rows_of rows))
+
+pub sum-within : (rows : List Row) (i : ℕ) (d : Row) → i < length rows → unsigned_abs (earned (rows_of (take i rows)) [] +ℤ (get_or rows i d).earned) ≤ sum_by weight_of (rows_of rows)
+sum-within rows i d within = rw (← earned-more rows i d within) (earned-within rows (suc i))
+
+-- the items of rows are the numbers in their cells
+numbers-cells : (cells : List Cell) → numbers_of (map item_of cells) ≡ items_in (pairs_of cells)
+numbers-cells [] = refl
+numbers-cells (cell ∷ cells) = ap (λ xs. cell.item.0 ∷ xs) (numbers-cells cells)
+
+numbers-rows : (rows : List Row) → numbers_of (flat_map (λ (row : Row). map item_of row.tail.now) rows) ≡ flat_map items_in (tails (rows_of rows))
+numbers-rows [] = refl
+numbers-rows (row ∷ rows) =
+    map-append (λ (item : Item). item.0) (map item_of row.tail.now) (flat_map (λ (row : Row). map item_of row.tail.now) rows)
+    ∙ ap (λ xs. xs ++ numbers_of (flat_map (λ (row : Row). map item_of row.tail.now) rows)) (numbers-cells row.tail.now)
+    ∙ ap (λ xs. items_in (pairs_of row.tail.now) ++ xs) (numbers-rows rows)
+
+exact_item : (x y : Item) → on (λ (item : Item). item.0) nat_eq x y ≡ true → x ≡ y
+exact_item x y h = let item : ℕ → Item = λ n. record { 0 = n } in ap item (eqb-true x.0 y.0 h)
+
+-- sorting and dropping repeats keeps which items there are
+pub AreLaterItems-from : (rows : List Row) (items sorted kept : List Item) → items ≡ flat_map (λ (row : Row). map item_of row.tail.now) rows
+    → IsPermutation items sorted → IsFiltered (DiffersFromLast (on (λ (item : Item). item.0) nat_eq)) [] sorted kept → AreLaterItems (rows_of rows) kept
+AreLaterItems-from rows items sorted kept is moved filtered number = (to, from)
+  where
+    same : numbers_of items ≡ flat_map items_in (tails (rows_of rows))
+    same = ap numbers_of is ∙ numbers-rows rows
+
+    kept_is : kept ≡ dedup (on (λ (item : Item). item.0) nat_eq) sorted
+    kept_is = dedup_is (on (λ (item : Item). item.0) nat_eq) sorted kept filtered
+
+    to : Contains (numbers_of kept) number → Contains (flat_map items_in (tails (rows_of rows))) number
+    to c =
+        let found = Member-from_map (λ (item : Item). item.0) number kept (Member-from_contains number (numbers_of kept) c) in
+        let in_kept = Contains-from_member found.0 kept found.1 in
+        let in_sorted = Contains-from_dedup (on (λ (item : Item). item.0) nat_eq) sorted found.0 (subst (λ xs. Contains xs found.0) kept_is in_kept) in
+        let in_items = Contains-permutation sorted items found.0 (IsPermutation-sym items sorted moved) in_sorted in
+        let m = Member-map (λ (item : Item). item.0) found.0 items (Member-from_contains found.0 items in_items) in
+        let m' = subst (λ n. Member n (numbers_of items)) found.2 m in
+        Contains-from_member number (flat_map items_in (tails (rows_of rows))) (subst (λ xs. Member number xs) same m')
+
+    from : Contains (flat_map items_in (tails (rows_of rows))) number → Contains (numbers_of kept) number
+    from c =
+        let m = subst (λ xs. Member number xs) (sym same) (Member-from_contains number (flat_map items_in (tails (rows_of rows))) c) in
+        let found = Member-from_map (λ (item : Item). item.0) number items m in
+        let in_sorted = Contains-permutation items sorted found.0 moved (Contains-from_member found.0 items found.1) in
+        let in_kept = Contains-dedup (on_equiv (λ (item : Item). item.0) nat_eq_equiv) exact_item sorted found.0 in_sorted in
+        let m' = Member-map (λ (item : Item). item.0) found.0 kept (Member-from_contains found.0 kept (subst (λ xs. Contains xs found.0) (sym kept_is) in_kept)) in
+        Contains-from_member number (numbers_of kept) (subst (λ n. Member n (numbers_of kept)) found.2 m')
+
+-- the cells of a record ascend
+Ascend-from : (first : ℕ × ℤ) (cells : List (ℕ × ℤ)) → AllAdjacentBelow (λ a b. a.0 < b.0) (first ∷ cells) (length (first ∷ cells)) → Ascend (items_in (first ∷ cells))
+Ascend-from first [] up = (tt, tt)
+Ascend-from first (next ∷ cells) up =
+    let up' : AllAdjacentBelow (λ (a b : ℕ × ℤ). a.0 < b.0) (next ∷ cells) (length (next ∷ cells)) =
+    λ k d within. let e : suc k + 1 ≡ suc (k + 1) = omega arith in subst (λ j. (get_or (next ∷ cells) k d).0 < (get_or (first ∷ next ∷ cells) j d).0) e (up (suc k) d (omega arith)) in
+    let rest = Ascend-from next cells up' in
+    let before : first.0 < next.0 = up 0 first (omega arith) in
+    ((before, above_all first.0 next.0 (items_in cells) before rest.0), rest)
+
+pub Ascend-record : (cells : List (ℕ × ℤ)) → IsRecord cells → Ascend (items_in cells)
+Ascend-record [] is = tt
+Ascend-record (first ∷ cells) is = Ascend-from first cells is.itemset.ascending
+
+-- one more row whose cells ascend
+pub ascending_push : (rows : List Row) (row : Row) (cells : List (ℕ × ℤ)) → AllByRecursion (λ r. Ascend (items_in r.1)) (rows_of rows) → IsRecord cells → pairs_of row.tail.now ≡ cells
+    → AllByRecursion (λ r. Ascend (items_in r.1)) (rows_of (rows ++ row ∷ []))
+ascending_push [] row cells all is same = (subst (λ cs. Ascend (items_in cs)) (sym same) (Ascend-record cells is), tt)
+ascending_push (r ∷ rows) row cells all is same = (all.0, ascending_push rows row cells all.1 is same)
+
+-- the rows of the empty prefix weigh as much as the records
+weights-first : (records : List (List (ℕ × ℤ))) → sum_by weight_of (map first_row records) ≡ sum_by absolute_of records
+weights-first [] = refl
+weights-first (r ∷ records) = omega (arith, sum_by-cons weight_of (first_row r) (map first_row records), sum_by-cons absolute_of r records, weights-first records)
+
+pub AreRows-first : (rows : List Row) (records : List (List (ℕ × ℤ))) → rows_of rows ≡ map first_row records → AllByRecursion (λ r. Ascend (items_in r.1)) (rows_of rows)
+    → sum_by absolute_of records < 2 ^ 127 → AreRows (rows_of rows)
+AreRows-first rows records is up fits = record { ascending = up; sum_fits = omega (arith, ap (sum_by weight_of) is, weights-first records, fits) }

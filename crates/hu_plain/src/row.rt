@@ -1,0 +1,117 @@
+//! Rows: the records that hold a prefix.
+
+ghost use Rattle.std.specs.Prelude.{◌≡◌, ◌<◌, ◌≤◌, ◌^◌, [], ◌++◌, map, length, IfOk, OnOk, option_map, option_to_list};
+ghost use Rattle.std.specs.List.{sum_by};
+ghost use Rattle.std.specs.List.Sorted.{IsPartitionPoint};
+ghost use Rattle.hu_kind.specs.Cell.{pairs_of};
+ghost use Rattle.hu_kind.specs.Record.{items_in, absolute_of};
+ghost use Rattle.hu_plain.specs.Row.{earned, grown_row, grown_rows, weight_of, Ascend, AreRows};
+ghost use Rattle.hu_plain.specs.View.{row_of, rows_of, first_row, item_of, AreLaterItems};
+
+use hu_kind::{Cell, Item, NoMemory, Record};
+use std::alloc::Global;
+
+/// A record that holds a prefix: what the prefix earns there, and the cells after it.
+#[derive(Clone, Copy)]
+pub(crate) struct Row<'a> {
+    pub earned: i128,
+    pub tail: &'a [Cell],
+}
+
+impl<'a> Row<'a> {
+    /// The row of the prefix with an item more, where the tail holds it.
+    fn grown(&self, item: Item) -> Option<Row<'a>>
+        requires ascending { Ascend (items_in (pairs_of self.now.tail.now)) }
+        requires sum_fits { weight_of (row_of self.now) < 2 ^ 127 }
+        ensures { option_to_list (option_map row_of result) ≡ grown_row item.0 self.now.earned (pairs_of self.now.tail.now) }
+    {
+        let place = place_of(self.tail, item);
+        let cell = self.tail.get(place)?;
+        if cell.item != item {
+            return None;
+        }
+        Some(Row {
+            earned: self.earned + cell.value,
+            tail: &self.tail[place + 1..],
+        })
+    }
+}
+
+/// How many cells stand before an item's place.
+fn place_of(cells: &[Cell], item: Item) -> usize
+    requires { Ascend (items_in (pairs_of cells.now)) }
+    ensures within { result ≤ length cells.now }
+    ensures splits { IsPartitionPoint (λ cell. cell.item.0 < item.0) (λ cell. item.0 ≤ cell.item.0) cells.now result }
+{
+    cells.partition_point(|cell| cell.item.0 < item.0)
+}
+
+/// The rows of the empty prefix: each record with all its cells.
+pub(crate) fn first_rows(alloc: Global, records: &[Record]) -> Result<Vec<Row<'_>>, NoMemory>
+    requires { sum_by absolute_of records.now < 2 ^ 127 }
+    ensures value { IfOk result (λ rows. rows_of rows.items ≡ map first_row records.now) }
+    ensures rules { IfOk result (λ rows. AreRows (rows_of rows.items)) }
+{
+    let mut rows = Vec::new(alloc);
+    for record in records {
+        rows.push(Row {
+            earned: 0,
+            tail: record.cells(),
+        })?;
+    }
+    Ok(rows)
+}
+
+/// The rows of the prefix with an item more. Each row is looked through by halves.
+pub(crate) fn grown_rows<'a>(
+    alloc: Global,
+    rows: &[Row<'a>],
+    item: Item,
+) -> Result<Vec<Row<'a>>, NoMemory>
+    requires { AreRows (rows_of rows.now) }
+    ensures value { IfOk result (λ grown. rows_of grown.items ≡ grown_rows item.0 (rows_of rows.now)) }
+    ensures rules { IfOk result (λ grown. AreRows (rows_of grown.items)) }
+{
+    let mut grown = Vec::new(alloc);
+    for row in rows {
+        if let Some(next) = row.grown(item) {
+            grown.push(next)?;
+        }
+    }
+    Ok(grown)
+}
+
+/// The items that stand after the prefix, ascending and each once.
+pub(crate) fn later_items(alloc: Global, rows: &[Row<'_>]) -> Result<Vec<Item>, NoMemory>
+    ensures { IfOk result (λ items. AreLaterItems (rows_of rows.now) items.items) }
+{
+    let mut items = Vec::new(alloc);
+    for row in rows {
+        push_items(&mut items, row.tail)?;
+    }
+    items.sort_unstable();
+    items.dedup();
+    Ok(items)
+}
+
+/// Appends the items of cells.
+fn push_items(items: &mut Vec<Item>, cells: &[Cell]) -> Result<(), NoMemory>
+    ensures { OnOk result (items.new.items ≡ items.old.items ++ map item_of cells.now) }
+{
+    for cell in cells {
+        items.push(cell.item)?;
+    }
+    Ok(())
+}
+
+/// What the prefix earns in all rows.
+pub(crate) fn total_earned(rows: &[Row<'_>]) -> i128
+    requires { AreRows (rows_of rows.now) }
+    ensures { result ≡ earned (rows_of rows.now) [] }
+{
+    let mut sum = 0;
+    for row in rows {
+        sum += row.earned;
+    }
+    sum
+}

@@ -1,0 +1,12 @@
+//! The text of an answer.
+//!
+//! `write_entries` puts a line for each entry to a sink of hu_io. It takes no memory, and puts some 4,096 bytes at a
+//! time. Where the sink fails, a proper front of the text has gone out.
+#![tactic(auto)]
+
+mod page;
+#[cfg(test)]
+mod tests;
+mod text;
+
+pub use text::write_entries;

@@ -1,0 +1,7 @@
+mod InputLemmas
+mod IntakeLemmas
+mod FrontLemmas
+mod FileLemmas
+pub mod NamesLemmas
+mod PartLemmas
+mod TopLemmas

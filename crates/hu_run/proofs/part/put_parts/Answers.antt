@@ -1,0 +1,22 @@
+use Rattle.std.proofs.Common.{◌+◌, ◌++◌, sym, subst, take, drop, Err}
+use Rattle.std.specs.Prelude.{flat_map}
+use Rattle.hu_io.specs.Sink.{PutsAll}
+use Rattle.hu_report.proofs.PutLemmas.{PutsAll-append, PutsAll-longer}
+use Rattle.hu_run.specs.Part.{part_text}
+use Rattle.hu_run.proofs.InputLemmas.{err_is}
+use Rattle.hu_run.proofs.PartLemmas.{flat_map-split}
+use Rattle.hu_run.proofs.part.put_parts.Goals as goal
+
+pub returns-in_err-put_part-clause-bytes : goal.returns-in_err-put_part-clause-bytes
+returns-in_err-put_part-clause-bytes g c =
+    let old = g.S.Sink.bytes c.args.sink.now in
+    let now = g.S.Sink.bytes c.loop-part.sink in
+    let new = g.S.Sink.bytes c.put_part.new.sink in
+    let parts = c.args.parts.now in
+    let i = c.loop-part.part-index in
+    let failed = c.in_err-put_part.field-0.0 in
+    let rest = flat_map part_text (drop (i + 1) parts) in
+    subst (λ r. PutsAll old new r (flat_map part_text parts)) (sym (err_is _ _ c.from_residual.ensures.1))
+    (subst (PutsAll old new (Err failed)) (flat_map-split part_text parts i _ c.loop-part-test.true)
+    (PutsAll-append old now new (Err failed) (flat_map part_text (take i parts)) (_ ++ rest) c.loop-part.invariant.0
+    (PutsAll-longer now new failed _ rest c.in_err-put_part.ensures.bytes)))

@@ -1,0 +1,9 @@
+pub mod Words
+pub mod Jobs
+pub mod Input
+pub mod Intake
+pub mod Reading
+pub mod Formats
+pub mod Part
+pub mod Stop
+pub mod Run

@@ -1,0 +1,8 @@
+use Rattle.std.proofs.Common.{◌≡◌, ◌++◌, map, take}
+use Rattle.std.specs.Fmt.{signed_decimal}
+use Rattle.std.specs.List.{join_with_byte}
+use Rattle.hu_kind.specs.Cell.{pairs_of}
+use Rattle.hu_trans.proofs.write.push_values.Given as goal
+
+abbrev pub invariant-loop-at : goal.invariant-loop-at
+invariant-loop-at l = l.line.items ≡ l.initial.line.items ++ join_with_byte 32 (map (λ cell. signed_decimal cell.1) (pairs_of (take l.at l.cells)))

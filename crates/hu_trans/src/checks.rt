@@ -1,0 +1,68 @@
+//! What may be wrong with the numbers of a line.
+
+ghost use Rattle.std.specs.Prelude.{◌≡◌, ◌≤◌, [], ◌∷◌, length, nat_lt, position};
+ghost use Rattle.hu_kind.specs.Cell.{pairs_of};
+ghost use Rattle.hu_trans.specs.Reading.{first_some, no_items, too_many_items, counts_differ, item_out_of_range, sum_too_large, total_disagrees};
+
+use crate::fault::Fault;
+use crate::sums::Sums;
+use hu_kind::{Cell, Item, Record};
+
+/// The first thing that is wrong with the items, but for one that stands twice.
+pub fn item_fault(items: &[u128], utilities: &[i128]) -> Option<Fault>
+    requires few_items { length items.now ≤ 1048576 }
+    requires few_utilities { length utilities.now ≤ 1048576 }
+    ensures { result ≡ first_some (
+        no_items items.now
+        ∷ too_many_items items.now
+        ∷ counts_differ items.now utilities.now
+        ∷ item_out_of_range items.now
+        ∷ []) }
+{
+    if items.is_empty() {
+        return Some(Fault::NoItems);
+    }
+    if items.len() > Record::MOST_CELLS {
+        return Some(Fault::TooManyItems {
+            count: items.len() as u32,
+        });
+    }
+    if items.len() != utilities.len() {
+        return Some(Fault::CountsDiffer {
+            items: items.len() as u32,
+            utilities: utilities.len() as u32,
+        });
+    }
+    let place = great_item_place(items)?;
+    Some(Fault::ItemOutOfRange {
+        at: place as u32 + 1,
+    })
+}
+
+/// Where the first item above [`Item::GREATEST`] stands.
+fn great_item_place(items: &[u128]) -> Option<usize>
+    ensures { result ≡ position (λ item. nat_lt 2147483647 item) items.now }
+{
+    items
+        .iter()
+        .position(|item| *item > u128::from(Item::GREATEST))
+}
+
+/// What is wrong with the sums of the cells, or with a total that is stated for them.
+pub fn total_fault(stated: i128, cells: &[Cell]) -> Option<Fault>
+    ensures { result ≡ first_some (
+        sum_too_large (pairs_of cells.now)
+        ∷ total_disagrees stated (pairs_of cells.now)
+        ∷ []) }
+{
+    let Some(sums) = Sums::of(cells) else {
+        return Some(Fault::SumTooLarge);
+    };
+    if stated != sums.plain && stated != sums.positive {
+        return Some(Fault::TotalDisagrees {
+            stated,
+            summed: sums.plain,
+        });
+    }
+    None
+}
