@@ -1,15 +1,16 @@
 -- The cells of tokens, one after another, and cells in order.
-use Rattle.std.proofs.Common.{◌≡◌, ℕ, ◌+◌, ◌<◌, ◌≤◌, ℤ, pos, Option, None, Some, List, [], ◌∷◌, ◌++◌, map, sym, ap, ◌∙◌, length, take, get_or, arith, suc, zero}
+use Rattle.std.proofs.Common.{◌≡◌, ℕ, ◌+◌, ◌<◌, ◌≤◌, ℤ, Option, None, Some, List, [], ◌∷◌, ◌++◌, map, sym, ap, ◌∙◌, length, take, get_or, arith, suc, zero}
 use Rattle.std.specs.List.{All, AllAdjacentBelow, AllZip, cons_option, slice_split}
 use Rattle.std.specs.Option.{option_map}
 use Rattle.std.specs.List.Sorted.{IsPermutation}
 use Rattle.std.proofs.lemmas.List.{append-nil, map-append, take_more, get_or-map, length-map}
-use Rattle.std.proofs.lemmas.List.Elements.{filter_map-append, All-map, AllZip-push}
+use Rattle.std.proofs.lemmas.List.Elements.{filter_map-append, AllZip-push}
 use Rattle.std.proofs.lemmas.List.Sorted.{All-permutation, length_permutation}
 use Rattle.hu_kind.specs.declared.item.Cell.{Cell}
 use Rattle.hu_kind.specs.Cell.{pair_of, pairs_of}
 use Rattle.hu_kind.specs.Cells.{twice}
 use Rattle.hu_kind.specs.Record.{IsItemset, items_in}
+use Rattle.hu_kind.proofs.RecordLemmas.{IsItemset-from_cells}
 use Rattle.hu_seq.specs.declared.fault.SeqFault.{SeqFault}
 use Rattle.hu_seq.specs.declared.token.Token.{Token}
 use Rattle.hu_seq.specs.Token.{is_itemset_end, pair_in}
@@ -37,28 +38,14 @@ cells-skip items told i d within is so_far =
     ∙ ap (λ last. cells (take i told) ++ cons_option last []) is
     ∙ sym (cells-more told i d within)
 
--- a cell that stands past the end
-no_cell : Cell
-no_cell = record { item = record { 0 = 0 }; value = pos 0 }
-
-item_at : (ordered : List Cell) (k : ℕ) (d : ℕ × ℤ) → k < length ordered → (get_or (pairs_of ordered) k d).0 ≡ (get_or ordered k no_cell).item.0
-item_at ordered k d within = ap (λ pair. pair.0) (get_or-map pair_of ordered k no_cell d within)
-
--- cells that ascend are an itemset
+-- cells in order are an itemset
 pub IsItemset-ordered : (read ordered : List Cell) → IsPermutation read ordered → AllAdjacentBelow (λ a b. a.item.0 < b.item.0) ordered (length ordered)
     → 0 < length (pairs_of read) → All (λ cell. cell.item.0 ≤ 2147483647) read → IsItemset (pairs_of ordered)
-IsItemset-ordered read ordered same ascending some in_range =
-    let count : length (pairs_of ordered) ≡ length ordered = length-map ordered pair_of in
-    record {
-      some = omega (arith, length-map read pair_of, length_permutation read ordered same);
-      ascending = λ k d within. omega (
-        arith,
-        item_at ordered k d (omega arith),
-        item_at ordered (k + 1) d (omega arith),
-        ascending k no_cell (omega arith),
-      );
-      in_range = All-map (λ pair. pair.0 ≤ 2147483647) pair_of ordered (All-permutation (λ cell. cell.item.0 ≤ 2147483647) read ordered same in_range);
-    }
+IsItemset-ordered read ordered same ascending some in_range = IsItemset-from_cells ordered (record {
+  some = omega (arith, length-map read pair_of, length_permutation read ordered same);
+  ascending = ascending;
+  in_range = All-permutation (λ cell. cell.item.0 ≤ 2147483647) read ordered same in_range;
+})
 
 set_at : (told : List Token) (n : ℕ) (part : List Token) → n < length (slice_split is_itemset_end told) → part ≡ get_or (slice_split is_itemset_end told) n part
     → get_or (itemsets told) n (cells part) ≡ cells part

@@ -1,8 +1,9 @@
 -- Worked lines, by computation.
-use Rattle.std.specs.Prelude.{◌≡◌, pos, Ok, Err, [], ◌∷◌, codes, refl}
-use Rattle.hu_seq.specs.declared.fault.SeqFault.TheVariants.{BadToken, NoEnd, AfterEnd, OpenItemset, EmptyItemset, NoItems, ItemOutOfRange, DuplicateItem, Negative, SumTooLarge, TotalDisagrees}
+use Rattle.std.specs.Prelude.{◌≡◌, pos, None, Some, Ok, Err, [], ◌∷◌, codes, refl, replicate}
+use Rattle.hu_seq.specs.declared.fault.SeqFault.TheVariants.{BadToken, NoEnd, AfterEnd, OpenItemset, EmptyItemset, NoItems, TooManyItems, ItemOutOfRange, DuplicateItem, Negative, SumTooLarge, TotalDisagrees}
+use Rattle.hu_seq.specs.declared.token.Token.TheVariants.{Cell}
 use Rattle.hu_seq.specs.Token.{token_of}
-use Rattle.hu_seq.specs.Reading.{reading}
+use Rattle.hu_seq.specs.Reading.{reading, too_many_items}
 
 pub one_element : reading (codes "3[1] 1[2] -1 -2 SUtility:3") ≡ Ok (((1, pos 2) ∷ (3, pos 1) ∷ []) ∷ [])
 unfolding reading token_of
@@ -15,6 +16,10 @@ no_total = refl
 pub two_elements : reading (codes "1[2] -1 1[3] -1 -2 SUtility:5") ≡ Ok (((1, pos 2) ∷ []) ∷ ((1, pos 3) ∷ []) ∷ [])
 unfolding reading token_of
 two_elements = refl
+
+pub spaces_and_zeros : reading (codes "  07[1]  2[004]   -1 -2 SUtility:05 ") ≡ Ok (((2, pos 4) ∷ (7, pos 1) ∷ []) ∷ [])
+unfolding reading token_of
+spaces_and_zeros = refl
 
 pub bad_cell : reading (codes "1[x] -1 -2 SUtility:2") ≡ Err (BadToken 1)
 unfolding reading token_of
@@ -47,6 +52,12 @@ second_empty = refl
 pub nothing_told : reading (codes "-2 SUtility:0") ≡ Err NoItems
 unfolding reading token_of
 nothing_told = refl
+
+pub one_cell_more : too_many_items (replicate 4097 (Cell 1 (pos 0))) ≡ Some (TooManyItems 4097)
+one_cell_more = refl
+
+pub most_cells : too_many_items (replicate 4096 (Cell 1 (pos 0))) ≡ None
+most_cells = refl
 
 pub great_item : reading (codes "2147483648[1] -1 -2 SUtility:1") ≡ Err (ItemOutOfRange 1)
 unfolding reading token_of

@@ -13,7 +13,8 @@ use crate::token::{Token, token_of};
 use hu_kind::{Absolute, SeqRecord, Tokens};
 use std::alloc::Global;
 
-/// The sequence of a line, or its first fault. A line of c tokens takes c log c steps; no token is copied.
+/// The sequence of a line, or its first fault. A line of c tokens takes c log c steps, and memory for what they say; no
+/// token is copied.
 pub fn read_sequence(alloc: Global, line: &[u8]) -> Result<SeqRecord, SeqFault>
     requires { length line.now ≤ 1048576 }
     ensures ok { IfOk result (λ one. reading line.now ≡ Ok one) }
