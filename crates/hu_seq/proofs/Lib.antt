@@ -1,0 +1,6 @@
+mod ReadingLemmas
+mod TokensLemmas
+mod ItemsetLemmas
+mod ShapeLemmas
+mod SumLemmas
+mod FaultLemmas

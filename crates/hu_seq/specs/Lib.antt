@@ -1,0 +1,4 @@
+pub mod Token
+pub mod Reading
+pub mod Itemset
+pub mod Rows
