@@ -11,6 +11,8 @@ mod mine;
 mod part;
 mod reason;
 mod stop;
+#[cfg(test)]
+mod tests;
 mod top;
 mod words;
 
