@@ -110,7 +110,7 @@ module _ (job : Result Mining WordFault) (contents : Option (List ℕ → Option
   written_not_refused (Ok mining) None writes refused = refused
   written_not_refused (Ok mining) (Some told) writes refused =
       err_and_no_ok (transactions told names) (λ unread. OfRefusedLine unread (λ _ _. ⊤)) refused
-        (ok_of_mapped (answer_to mining) (transactions told names) (ok_of_ok_and (output mining told names) (λ text. Appends old new text) writes))
+      (ok_of_mapped (answer_to mining) (transactions told names) (ok_of_ok_and (output mining told names) (λ text. Appends old new text) writes))
 
   pub done_not_refused : EndsWith (Ok tt) → IsOk job → HasRefused contents names → NoneRose before now names → ¬ Rose faults faults_now → (◌≡◌ {A = ℕ} 0 1) ⊎ (◌≡◌ {A = ℕ} 0 5)
   done_not_refused ends ok refused none kept = absurd (written_not_refused job contents ends refused)

@@ -7,14 +7,24 @@ use std::alloc::Global;
 use std::process::Abort;
 use std::test::Fail;
 
-const BASE_A: &str = "3 5 1 2 4 6:30:1 3 5 10 6 5\n3 5 2 4:20:3 3 8 6\n3 1 4:8:1 5 2\n3 5 1 7:27:6 6 10 5\n3 5 2 7:11:2 3 4 2\n";
+const BASE_A: &str =
+    "3 5 1 2 4 6:30:1 3 5 10 6 5\n3 5 2 4:20:3 3 8 6\n3 1 4:8:1 5 2\n3 5 1 7:27:6 6 10 5\n3 5 2 7:11:2 3 4 2\n";
+
 const WRONG_TOTAL: &str = "3 5 1 2 4 6:30:1 3 5 10 6 5\n3 5 2 4:21:3 3 8 6\n3 1 4:8:1 5 2\n";
-const WITH_HEADERS: &str = "@CONVERTED_FROM_TEXT\r\n@ITEM=1=apple\r\n# shop 7\r\n\r\n3 5 1 2 4 6:30:1 3 5 10 6 5\r\n3 5 2 4:20:3 3 8 6\r\n3 1 4:8:1 5 2\r\n3 5 1 7:27:6 6 10 5\r\n  3 5 2 7:11:2 3 4 2";
+
+const WITH_HEADERS: &str =
+    "@CONVERTED_FROM_TEXT\r\n@ITEM=1=apple\r\n# shop 7\r\n\r\n3 5 1 2 4 6:30:1 3 5 10 6 5\r\n3 5 2 4:20:3 3 8 6\r\n3 1 4:8:1 5 2\r\n3 5 1 7:27:6 6 10 5\r\n  3 5 2 7:11:2 3 4 2";
+
 const SIGNED: &str = "1 2:-7:-10 3\n1 2 3:11:4 1 6\n2 3:5:2 3\n";
+
 const GREATEST: &str =
     "1:170141183460469231731687303715884105727:170141183460469231731687303715884105727\n";
-const BASE_A_AT_30: &str = "2 3 4 5 #UTIL: 40\n2 3 5 #UTIL: 37\n2 4 5 #UTIL: 36\n2 3 4 #UTIL: 34\n1 3 5 #UTIL: 31\n2 5 #UTIL: 31\n1 2 3 4 5 6 #UTIL: 30\n2 4 #UTIL: 30\n";
-const BASE_A_TWICE_AT_60: &str = "2 3 4 5 #UTIL: 80\n2 3 5 #UTIL: 74\n2 4 5 #UTIL: 72\n2 3 4 #UTIL: 68\n1 3 5 #UTIL: 62\n2 5 #UTIL: 62\n1 2 3 4 5 6 #UTIL: 60\n2 4 #UTIL: 60\n";
+
+const BASE_A_AT_30: &str =
+    "2 3 4 5 #UTIL: 40\n2 3 5 #UTIL: 37\n2 4 5 #UTIL: 36\n2 3 4 #UTIL: 34\n1 3 5 #UTIL: 31\n2 5 #UTIL: 31\n1 2 3 4 5 6 #UTIL: 30\n2 4 #UTIL: 30\n";
+
+const BASE_A_TWICE_AT_60: &str =
+    "2 3 4 5 #UTIL: 80\n2 3 5 #UTIL: 74\n2 4 5 #UTIL: 72\n2 3 4 #UTIL: 68\n1 3 5 #UTIL: 62\n2 5 #UTIL: 62\n1 2 3 4 5 6 #UTIL: 60\n2 4 #UTIL: 60\n";
 
 /// These texts as words.
 fn words_of(alloc: Global, texts: &[&str]) -> Result<Vec<String>, NoMemory> {
@@ -156,7 +166,10 @@ fn refused_words(rt: HostRuntime) -> Result<(), Fail> {
             &["seq", "lists", "1", "all", "f"],
             "hupm: engine not offered\n",
         ),
-        (&["items", "lists", "1", "all", "f"], "hupm: not built yet\n"),
+        (
+            &["items", "lists", "1", "all", "f"],
+            "hupm: not built yet\n",
+        ),
         (&["seq", "plain", "1", "all", "f"], "hupm: not built yet\n"),
     ];
     for (texts, told) in cases {
@@ -189,7 +202,12 @@ fn failing_reads(rt: HostRuntime) -> Result<(), Fail> {
     // The pieces of a file, the call that fails, and the end of the run.
     let wrong = (1, "", "hupm: wrong:2: total 21 but sum 20\n");
     let failed = (3, "", "hupm: read failed: wrong\n");
-    let cases = [(47, 2, wrong), (46, 2, failed), (65_536, 2, wrong), (65_536, 1, failed)];
+    let cases = [
+        (47, 2, wrong),
+        (46, 2, failed),
+        (65_536, 2, wrong),
+        (65_536, 1, failed),
+    ];
     for (most, call, ending) in cases {
         let mut files = files(rt.alloc())?;
         files.give_at_most(most);
@@ -231,7 +249,11 @@ fn small_rooms(rt: HostRuntime) -> Result<(), Fail> {
         assert_eq!(rt; status, if room < 132 { 4 } else { 0 });
         let front = BASE_A_AT_30.get(..room).ok_or("short")?;
         assert_eq!(rt; out.bytes(), front.as_bytes());
-        let told = if room < 132 { "hupm: write failed\n" } else { "" };
+        let told = if room < 132 {
+            "hupm: write failed\n"
+        } else {
+            ""
+        };
         assert_eq!(rt; err.bytes(), told.as_bytes());
     }
     Ok(())
@@ -251,7 +273,10 @@ fn a_status_stays_where_nothing_can_be_told(rt: HostRuntime) -> Result<(), Fail>
         let mut out = MemorySink::new(rt.alloc(), room)?;
         let mut err = MemorySink::new(rt.alloc(), 100)?;
         err.fail_at(1)?;
-        assert_eq!(rt; run(rt.alloc(), &words, &mut files, &mut out, &mut err), status);
+        assert_eq!(rt;
+            run(rt.alloc(), &words, &mut files, &mut out, &mut err),
+            status
+        );
         assert_eq!(rt; err.bytes(), b"".as_slice());
     }
     Ok(())

@@ -16,5 +16,5 @@ returns-in_err-put_part-clause-bytes g c =
     let rest = flat_map part_text (drop (i + 1) parts) in
     let result = c.from_residual.result in
     subst (PutsAll old new result) (flat_map-split part_text parts i _ c.loop-part-test.true)
-      (PutsAll-append old now new result (flat_map part_text (take i parts)) (_ ++ rest) c.loop-part.invariant.0
-        (PutsAll-longer now new c.in_err-put_part.field-0.0 result _ rest c.from_residual.ensures.0 c.in_err-put_part.ensures.bytes))
+    (PutsAll-append old now new result (flat_map part_text (take i parts)) (_ ++ rest) c.loop-part.invariant.0
+    (PutsAll-longer now new c.in_err-put_part.field-0.0 result _ rest c.from_residual.ensures.0 c.in_err-put_part.ensures.bytes))
