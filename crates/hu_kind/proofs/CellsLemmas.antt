@@ -226,6 +226,7 @@ by_item-ordered cells ordered same ascending =
   where
     at : (k : ℕ) (d : ℕ × ℤ) → k < length ordered → (get_or (pairs_of ordered) k d).0 ≡ (get_or ordered k no_cell).item.0
     at k d within = ap (λ pair. pair.0) (get_or-map pair_of ordered k no_cell d within)
+
     rises : AllAdjacentBelow (λ a b. a.0 < b.0) (pairs_of ordered) (length (pairs_of ordered))
     rises k d within =
         let inside : k + 1 < length ordered = omega (arith, length-map ordered pair_of) in

@@ -16,12 +16,15 @@ parts line = slice_split (λ byte. byte == 58) line
 abbrev pub tokens_of_part : ℕ → List ℕ → List (List ℕ)
 tokens_of_part k line = tokens (unwrap_or (slice_get (parts line) k) [])
 
+-- the tokens of part 1
 abbrev pub item_tokens : List ℕ → List (List ℕ)
 item_tokens line = tokens_of_part 0 line
 
+-- the tokens of part 2
 abbrev pub total_tokens : List ℕ → List (List ℕ)
 total_tokens line = tokens_of_part 1 line
 
+-- the tokens of part 3
 abbrev pub value_tokens : List ℕ → List (List ℕ)
 value_tokens line = tokens_of_part 2 line
 

@@ -15,7 +15,7 @@ pub fn read_record(alloc: Global, line: &[u8]) -> Result<Record, Fault>
     requires { length line.now ≤ 1048576 }
     ensures ok { IfOk result (λ one. reading line.now ≡ Ok one) }
     ensures err { IfErr result (λ fault. (fault ≡ Fault.NoMemory) ⊎ (reading line.now ≡ Err fault)) }
-    ensures always { reading line.now ≢ Err Fault.NoMemory }
+    ensures never_memory { reading line.now ≢ Err Fault.NoMemory }
 {
     let Some(parts) = Parts::of(line) else {
         return Err(Fault::NotThreeParts);
