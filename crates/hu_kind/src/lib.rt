@@ -10,6 +10,8 @@ mod number;
 mod record;
 mod sequence;
 mod task;
+#[cfg(test)]
+mod tests;
 mod token;
 
 pub use cells::ordered_cells;
