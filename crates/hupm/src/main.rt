@@ -4,10 +4,9 @@
 
 use hu_io::{DiskFiles, StreamSink};
 use hu_run::run;
-use std::env;
-use std::io;
 use std::process::ExitCode;
 use std::rt::Env;
+use std::{env, io};
 
 /// The status where the words find no memory.
 const OUT_OF_MEMORY: u8 = 5;
