@@ -1,9 +1,13 @@
 //! Runs over files and sinks in memory.
 
+ghost use Rattle.std.specs.Prelude.{None};
+ghost use Rattle.hu_io.specs.MemoryFiles.{FilesView, faults_at};
+
 use crate::run;
-use hu_io::{MemoryFiles, MemorySink, SureFiles, SureSink};
+use hu_io::{Failed, Files, MemoryFiles, MemorySink, SureFiles, SureSink};
 use hu_kind::NoMemory;
 use std::alloc::Global;
+use std::marker::Model;
 use std::process::Abort;
 use std::test::Fail;
 
@@ -290,6 +294,54 @@ fn sure_files_and_sinks(rt: HostRuntime) -> Result<(), Fail> {
     let mut out = SureSink::new();
     let mut err = SureSink::new();
     assert_eq!(rt; run(rt.alloc(), &words, &mut files, &mut out, &mut err), 0);
+    assert_eq!(rt; out.count(), 132);
+    Ok(())
+}
+
+/// Files that note how many bytes the last call gave, and whether a file was left before a call gave none.
+#[derive(Drop)]
+struct Noting {
+    files: MemoryFiles,
+    last: usize,
+    left: bool,
+}
+
+impl Model for Noting {
+    ghost Value = { FilesView };
+
+    ghost view = { λ n. n.files };
+}
+
+impl Files for Noting {
+    ghost contents = { λ _. None };
+
+    ghost faults = { faults_at };
+
+    ghost plan = { λ n. n.plan.failing };
+
+    fn get(&mut self, name: &str, at: u64, into: &mut [u8]) -> Result<usize, Failed> {
+        self.left = self.left || (at == 0 && self.last != 0);
+        let count = self.files.get(name, at, into)?;
+        self.last = count;
+        Ok(count)
+    }
+}
+
+#[test]
+fn each_file_is_read_to_its_end(rt: HostRuntime) -> Result<(), Fail> {
+    let words = words_of(
+        rt.alloc(),
+        &["items", "plain", "60", "all", "a", "empty", "a"],
+    )?;
+    let mut files = Noting {
+        files: files(rt.alloc())?,
+        last: 0,
+        left: false,
+    };
+    let mut out = SureSink::new();
+    let mut err = SureSink::new();
+    assert_eq!(rt; run(rt.alloc(), &words, &mut files, &mut out, &mut err), 0);
+    assert!(rt; !files.left && files.last == 0);
     assert_eq!(rt; out.count(), 132);
     Ok(())
 }
