@@ -1,11 +1,10 @@
 -- What the end of a file, and the reading of one, make of the outcome.
-use Rattle.std.proofs.Common.{◌≡◌, ℕ, ◌+◌, ◌-◌, ◌<◌, ◌≤◌, ◌↔◌, Bool, true, false, List, [], ◌∷◌, ◌++◌, length, take, drop, Result, Ok, Err, Option, Some, None, MatchOption, refl, sym, ap, ◌∙◌, subst, arith, length-take, length-drop, take-append-drop}
+use Rattle.std.proofs.Common.{◌≡◌, ℕ, ◌+◌, ◌<◌, ◌≤◌, false, List, [], ◌∷◌, ◌++◌, length, take, drop, Result, Ok, Err, Option, Some, None, MatchOption, refl, sym, ap, ◌∙◌, subst, arith, length-take, length-drop, take-append-drop}
 use Rattle.std.specs.Prelude.{IfSome}
 use Rattle.std.proofs.lemmas.List.{drop_all, drop-drop}
-use Rattle.hu_base.specs.Base.{records_of}
 use Rattle.hu_io.specs.Files.{Gives, GetsTold}
 use Rattle.hu_io.specs.declared.failed.Failed.{Failed}
-use Rattle.hu_lines.specs.Lines.{State, begun, at_end, IsHeld}
+use Rattle.hu_lines.specs.Lines.{State, begun, at_end}
 use Rattle.hu_run.specs.declared.reason.Reason.{Reason}
 use Rattle.hu_run.specs.declared.intake.LineStop.{LineStop}
 use Rattle.hu_run.specs.declared.intake.LineStop.TheVariants.{Refused, NoMemory}

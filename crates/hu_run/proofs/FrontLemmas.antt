@@ -1,18 +1,17 @@
 -- What taking in a front of a piece makes of the states of lines.
-use Rattle.std.proofs.Common.{◌≡◌, ℕ, ◌+◌, ◌<◌, Bool, true, false, cond, List, [], ◌∷◌, ◌++◌, length, take, drop, Result, Ok, Err, Option, Some, None, refl, sym, ap, ◌∙◌, subst, arith, append_assoc, take-append-drop}
-use Rattle.std.specs.Option.{option_to_list, option_or}
-use Rattle.hu_base.specs.Base.{carried_of, records_of, sum_of}
+use Rattle.std.proofs.Common.{◌≡◌, ℕ, ◌+◌, ◌<◌, Bool, true, false, cond, List, [], ◌++◌, length, take, drop, Result, Ok, Err, Some, None, refl, sym, ap, ◌∙◌, subst, append_assoc, take-append-drop}
+use Rattle.std.specs.Option.{option_or}
 use Rattle.hu_lines.specs.declared.limits.LineFault.{LineFault}
 use Rattle.hu_lines.specs.declared.limits.LineFault.TheVariants as limit
-use Rattle.hu_lines.specs.Pieces.{first_piece, has_line_feed, line_of}
+use Rattle.hu_lines.specs.Pieces.{first_piece, has_line_feed}
 use Rattle.hu_lines.specs.Limits.{refusal}
 use Rattle.hu_lines.specs.Lines.{State, begun, grown, refusal_of, IsHeld}
 use Rattle.hu_run.specs.declared.reason.Reason.{Reason}
 use Rattle.hu_run.specs.declared.intake.LineStop.{LineStop}
 use Rattle.hu_run.specs.declared.intake.LineStop.TheVariants.{Refused, NoMemory}
-use Rattle.hu_run.specs.Input.{Refusal, limit_reason, line_record}
-use Rattle.hu_run.specs.Intake.{limit_stop, IsOpen, outcome, outcome_at, TakesFront, Judges, Finishes}
-use Rattle.hu_run.proofs.IntakeLemmas.{outcome_held, outcome_accepted, outcome_refused, outcome_limited, outcome_empty, outcome_last, outcome_last_refused}
+use Rattle.hu_run.specs.Input.{limit_reason}
+use Rattle.hu_run.specs.Intake.{limit_stop, IsOpen, outcome, outcome_at, TakesFront, Judges}
+use Rattle.hu_run.proofs.IntakeLemmas.{outcome_held, outcome_accepted, outcome_refused, outcome_limited}
 
 -- a limit names the line that passes it
 limit_by_tests : (long large : Bool) (number : ℕ) (fault : LineFault) → cond long (Some (limit.LineTooLong number)) (cond large (Some (limit.InputTooLarge number)) None) ≡ Some fault

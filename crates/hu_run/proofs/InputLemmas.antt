@@ -1,5 +1,5 @@
 -- What a line, a piece and the pieces of a file say.
-use Rattle.std.proofs.Common.{◌≡◌, ℕ, ◌+◌, ◌^◌, ◌<◌, Bool, true, false, cond, nat_lt, List, Result, Ok, Err, Option, Some, None, refl, ap, IsErrAnd, sym, ◌∙◌, arith}
+use Rattle.std.proofs.Common.{◌≡◌, ℕ, ◌+◌, ◌^◌, ◌<◌, true, false, cond, nat_lt, List, Result, Ok, Err, Some, None, ap, IsErrAnd, sym, ◌∙◌, arith}
 use Rattle.std.specs.Result.{result_err}
 use Rattle.std.proofs.lemmas.Bool.Decides.{nat_tests}
 use Rattle.hu_lines.specs.Skipped.{is_skipped_line}

@@ -1,11 +1,9 @@
 -- What taking in bytes makes of the outcome.
-use Rattle.std.proofs.Common.{◌≡◌, ℕ, ◌+◌, ◌<◌, Bool, true, false, cond, List, [], ◌∷◌, ◌++◌, length, take, drop, Result, Ok, Err, Option, Some, None, refl, sym, ap, ◌∙◌, subst, arith, append_assoc, append-nil, length-append}
+use Rattle.std.proofs.Common.{◌≡◌, ℕ, ◌+◌, ◌<◌, true, false, List, [], ◌∷◌, ◌++◌, length, drop, Result, Ok, Err, Option, Some, None, refl, sym, ap, ◌∙◌, arith, append_assoc, append-nil, length-append}
 use Rattle.std.specs.Option.{option_to_list, option_map_or}
-use Rattle.std.specs.List.{sum_by}
 use Rattle.std.proofs.lemmas.List.Sums.{sum_by_push}
 use Rattle.hu_base.specs.Base.{carried_of, records_of, sum_of}
 use Rattle.hu_lines.specs.declared.limits.LineFault.{LineFault}
-use Rattle.hu_lines.specs.declared.limits.LineFault.TheVariants as limit
 use Rattle.hu_lines.specs.Pieces.{pieces, first_piece, has_line_feed, line_of}
 use Rattle.hu_lines.specs.Limits.{refusal}
 use Rattle.hu_lines.proofs.PieceLemmas.{whole_piece_first, first_piece_first, first_piece-append, one_piece_of}

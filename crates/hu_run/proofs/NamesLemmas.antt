@@ -11,10 +11,8 @@ use Rattle.std.proofs.lemmas.List.{take_more, get_or-map, length-map}
 use Rattle.std.proofs.lemmas.List.Sums.{sum_by-append}
 use Rattle.hu_base.specs.Base.{carried_of, records_of, sum_of}
 use Rattle.hu_io.specs.Count.{Rose}
-use Rattle.hu_lines.specs.Pieces.{pieces}
 use Rattle.hu_lines.specs.Lines.{State}
 use Rattle.hu_run.specs.declared.reason.Reason.{Reason}
-use Rattle.hu_run.specs.declared.intake.LineStop.{LineStop}
 use Rattle.hu_run.specs.declared.intake.LineStop.TheVariants as line
 use Rattle.hu_run.specs.declared.intake.FileStop.{FileStop}
 use Rattle.hu_run.specs.declared.intake.FileStop.TheVariants as file
@@ -22,8 +20,8 @@ use Rattle.hu_run.specs.declared.input.InputStop.{InputStop}
 use Rattle.hu_run.specs.declared.input.InputStop.TheVariants.{Refused, ReadFailed, NoMemory}
 use Rattle.hu_run.specs.Input.{Refusal, Unread, refused_line, with_front, records_from, after_file, content_length, input_from, input}
 use Rattle.hu_run.specs.Input as spec
-use Rattle.hu_run.specs.Intake.{IsAtStart, outcome, outcome_at, bytes_in, ReadsFile}
-use Rattle.hu_run.specs.Reading.{ReadsAll, FailsAt, FailsRead, IsStopAt}
+use Rattle.hu_run.specs.Intake.{IsAtStart, outcome, outcome_at, ReadsFile}
+use Rattle.hu_run.specs.Reading.{ReadsAll, FailsRead, IsStopAt}
 use Rattle.hu_run.proofs.IntakeLemmas.{with_front-append}
 use Rattle.hu_run.proofs.FrontLemmas.{begun_same}
 

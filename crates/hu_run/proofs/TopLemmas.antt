@@ -1,5 +1,5 @@
 -- What the end of an attempt says of the status.
-use Rattle.std.proofs.Common.{◌≡◌, ◌↔◌, ℕ, List, [], ◌∷◌, Bool, true, false, Result, Ok, Err, Option, Some, None, refl, sym, ap, ◌∙◌, subst, arith}
+use Rattle.std.proofs.Common.{◌≡◌, ℕ, List, Result, Ok, Err, Option, Some, None, refl, sym, subst, arith}
 use Rattle.std.proofs.Common.{inl, inr}
 use Rattle.std.specs.Prelude.{◌⊎◌, IsOk, IsErr, IsOkAnd, IfErr, IsErrAnd, slice_get, ⊤}
 use Rattle.std.specs.Result.{result_map_both}

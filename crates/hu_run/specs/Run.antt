@@ -1,5 +1,5 @@
 -- What a run does with its words, files and streams.
-use Rattle.std.specs.Prelude.{◌≡◌, ℕ, ◌<◌, ◌⊎◌, ℤ, Option, Some, None, Result, Ok, Err, List, length, take, IsOk, IfOk, IsOkAnd, IsErrAnd, IsSomeAnd, IfSome, ⊤}
+use Rattle.std.specs.Prelude.{◌≡◌, ℕ, ◌<◌, ℤ, Option, Result, Ok, Err, List, length, take, IsOk, IsOkAnd, IsErrAnd, IsSomeAnd, IfSome, ⊤}
 use Rattle.std.specs.Result.{result_map_both}
 use Rattle.std.specs.List.{Contains}
 use Rattle.std.specs.Io.KnownBytes.{Appends}
@@ -12,8 +12,6 @@ use Rattle.hu_run.specs.declared.words.WordFault.{WordFault}
 use Rattle.hu_run.specs.Formats.{transaction_reading}
 use Rattle.hu_run.specs.Input.{Refusal, Unread, refused_line, missing_file, input}
 use Rattle.hu_run.specs.Reading.{FailsAt}
-use Rattle.hu_run.specs.Part.{Tells}
-use Rattle.hu_run.specs.Stop.{refusal_line, read_failed_line}
 use Rattle.hu_run.specs.declared.stop.Stop.{Stop}
 use Rattle.hu_run.specs.declared.stop.Stop.TheVariants.{Words, Refused, ReadFailed, WriteFailed, NoMemory}
 

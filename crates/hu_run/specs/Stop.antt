@@ -1,5 +1,5 @@
 -- Why a run stops short of its answer: the status, and the line that tells of it.
-use Rattle.std.specs.Prelude.{ℕ, pos, List, [], ◌∷◌, ◌++◌, codes, decimal, flat_map}
+use Rattle.std.specs.Prelude.{ℕ, List, [], ◌∷◌, codes, decimal, flat_map}
 use Rattle.std.specs.Fmt.{signed_decimal}
 use Rattle.hu_trans.specs.declared.fault.Fault.{Fault}
 use Rattle.hu_trans.specs.declared.fault.Fault.TheVariants as fault

@@ -1,5 +1,5 @@
 -- The words of the command line as a job: TASK ENGINE MIN TOP FILE [BATCH ..].
-use Rattle.std.specs.Prelude.{ℕ, ◌-◌, nat_lt, nat_le, Bool, true, false, not, ◌&&◌, ◌||◌, ℤ, pos, int_le, unsigned_abs, Option, None, Some, is_some, is_none, Result, Ok, Err, List, [], ◌∷◌, map, length, drop, codes, slice_index_or, if◌then◌else◌}
+use Rattle.std.specs.Prelude.{ℕ, nat_lt, Bool, true, false, not, ◌&&◌, ℤ, pos, int_le, unsigned_abs, Option, None, Some, Result, Ok, Err, List, [], map, length, drop, codes, slice_index_or, if◌then◌else◌}
 use Rattle.std.specs.Option.{option_and_then, option_map}
 use Rattle.std.specs.Result.{result_ok}
 use Rattle.std.specs.Str.{bytes_eq}

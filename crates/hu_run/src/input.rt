@@ -1,6 +1,6 @@
 //! The input of a job: all its files, taken in one after the other.
 
-ghost use Rattle.std.specs.Prelude.{◌≡◌, ◌<◌, ◌≤◌, ℕ, List, length, IfOk, IfErr, IfSome, vec_len};
+ghost use Rattle.std.specs.Prelude.{◌≡◌, ◌<◌, ◌≤◌, ℕ, List, IfOk, IfErr, IfSome, vec_len};
 ghost use Rattle.hu_run.specs.Words.{texts_of};
 ghost use Rattle.hu_run.specs.Reading.{ReadsAll, FailsRead, IsStopAt};
 

@@ -1,11 +1,9 @@
 //! The taking in of files: bytes to lines, lines to records, records to a base.
 
-ghost use Rattle.std.specs.Prelude.{◌≡◌, ℕ, ◌+◌, ◌<◌, ◌≤◌, List, [], ◌∷◌, ◌++◌, length, true, false, None, OnOk, IfOk, IfErr, IfSome, Result};
+ghost use Rattle.std.specs.Prelude.{◌≡◌, ℕ, ◌+◌, ◌<◌, ◌≤◌, List, [], length, OnOk, IfOk, IfSome, Result};
 ghost use Rattle.hu_base.specs.Base.{carried_of};
 ghost use Rattle.hu_io.specs.Count.{Rose};
-ghost use Rattle.hu_lines.specs.Pieces.{line_of};
 ghost use Rattle.hu_lines.specs.Lines.{HasLine, at_end};
-ghost use Rattle.hu_run.specs.Input.{line_record};
 ghost use Rattle.hu_run.specs.Intake.{IsOpen, Judges, IsAtStart, TakesFront, TakesIn, Finishes, ReadsPiece, ReadsFile, bytes_in};
 ghost use Rattle.hu_run.specs.declared.reason.Reason.{Reason};
 

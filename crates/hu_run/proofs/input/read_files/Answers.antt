@@ -1,4 +1,4 @@
-use Rattle.std.proofs.Common.{◌≡◌, ◌∙◌, ◌<◌, ◌≤◌, Ok, Err, length, refl, sym, ap, subst, rules, arith, take}
+use Rattle.std.proofs.Common.{◌∙◌, ◌≤◌, Ok, Err, length, refl, sym, ap, subst, rules, arith}
 use Rattle.std.specs.Prelude.{IfSome}
 use Rattle.std.specs.String.{string_bytes}
 use Rattle.std.proofs.lemmas.List.{take_all, length-map}

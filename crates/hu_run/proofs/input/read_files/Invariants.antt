@@ -1,5 +1,4 @@
 use Rattle.std.proofs.Common.{◌≡◌, ◌<◌, ◌≤◌, ℕ, List, take, vec_len}
-use Rattle.hu_base.specs.Base.{carried_of}
 use Rattle.hu_run.specs.Words.{texts_of}
 use Rattle.hu_run.specs.Intake.{IsAtStart}
 use Rattle.hu_run.proofs.NamesLemmas.{SoFar}

@@ -1,4 +1,3 @@
-use Rattle.std.proofs.Common.{ℕ, List, sym, subst, ap, ◌≡◌, ◌⊎◌}
 use Rattle.hu_run.specs.Words.{job, texts_of, names_of}
 use Rattle.hu_run.specs.Part.{Tells}
 use Rattle.hu_run.specs.Stop.{told_line, word_text}

@@ -1,4 +1,4 @@
-use Rattle.std.proofs.Common.{◌≡◌, Some, Ok, false, sym, ap, ◌∙◌, subst}
+use Rattle.std.proofs.Common.{◌≡◌, Some, Ok, false, sym, ap, ◌∙◌}
 use Rattle.hu_lines.specs.Pieces.{line_of}
 use Rattle.hu_lines.specs.Skipped.{is_skipped_line}
 use Rattle.hu_run.proofs.InputLemmas.{line_accepted}

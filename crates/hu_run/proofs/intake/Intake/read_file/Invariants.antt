@@ -1,4 +1,4 @@
-use Rattle.std.proofs.Common.{◌≡◌, ℕ, ◌+◌, ◌-◌, ◌<◌, ◌≤◌, List, length, drop}
+use Rattle.std.proofs.Common.{◌≡◌, ℕ, ◌+◌, ◌-◌, ◌≤◌, List, length, drop}
 use Rattle.std.specs.Prelude.{IfSome}
 use Rattle.hu_lines.specs.declared.limits.TheConstants.{LARGEST_INPUT}
 use Rattle.hu_base.specs.Base.{carried_of}

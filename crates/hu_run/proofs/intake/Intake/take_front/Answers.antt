@@ -1,5 +1,5 @@
 use Rattle.std.proofs.Common.{◌≡◌, ◌∙◌, true, sym, ap, subst, drop, ◌++◌, Err, Ok}
-use Rattle.hu_lines.specs.Lines.{begun, grown, IsHeld}
+use Rattle.hu_lines.specs.Lines.{IsHeld}
 use Rattle.hu_lines.specs.Pieces.{first_piece, has_line_feed}
 use Rattle.hu_run.specs.Intake.{TakesFront, Judges, outcome}
 use Rattle.hu_run.proofs.InputLemmas.{err_is}
