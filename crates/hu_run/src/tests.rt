@@ -24,6 +24,9 @@ const SIGNED: &str = "1 2:-7:-10 3\n1 2 3:11:4 1 6\n2 3:5:2 3\n";
 const GREATEST: &str =
     "1:170141183460469231731687303715884105727:170141183460469231731687303715884105727\n";
 
+const PAST_THE_GREATEST: &str =
+    "1:170141183460469231731687303715884105727:170141183460469231731687303715884105727\n2:1:1\n";
+
 const BASE_A_AT_30: &str =
     "2 3 4 5 #UTIL: 40\n2 3 5 #UTIL: 37\n2 4 5 #UTIL: 36\n2 3 4 #UTIL: 34\n1 3 5 #UTIL: 31\n2 5 #UTIL: 31\n1 2 3 4 5 6 #UTIL: 30\n2 4 #UTIL: 30\n";
 
@@ -50,6 +53,7 @@ fn files(alloc: Global) -> Result<MemoryFiles, NoMemory> {
         ("headers", WITH_HEADERS),
         ("signed", SIGNED),
         ("greatest", GREATEST),
+        ("past", PAST_THE_GREATEST),
         ("empty", ""),
         ("comments", "# shop 7\n# shop 8\n"),
         ("zero", "1 2:5:5 0\n"),
@@ -128,6 +132,7 @@ fn refused_lines(rt: HostRuntime) -> Result<(), Fail> {
         ("a", "wrong", "hupm: wrong:2: total 21 but sum 20\n"),
         ("a", "unlawful", "hupm: unlawful:1: total 6 but sum 5\n"),
         ("greatest", "one", "hupm: one:1: sum too large\n"),
+        ("past", "a", "hupm: past:2: sum too large\n"),
         ("a", "twice", "hupm: twice:1: item 1 twice\n"),
         ("a", "counts", "hupm: counts:1: 2 items but 1 utilities\n"),
         ("a", "parts", "hupm: parts:1: not three parts\n"),
