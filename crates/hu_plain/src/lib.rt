@@ -10,4 +10,4 @@ mod row;
 #[cfg(test)]
 mod tests;
 
-pub use items::mine_items;
+pub use items::{mine_items, mine_sequences};

@@ -5,5 +5,6 @@ pub mod Intake
 pub mod Reading
 pub mod Formats
 pub mod Part
+pub mod Reason
 pub mod Stop
 pub mod Run

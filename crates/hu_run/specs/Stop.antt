@@ -1,40 +1,13 @@
 -- Why a run stops short of its answer: the status, and the line that tells of it.
-use Rattle.std.specs.Prelude.{ℕ, List, [], ◌∷◌, codes, decimal, flat_map}
-use Rattle.std.specs.Fmt.{signed_decimal}
-use Rattle.hu_trans.specs.declared.fault.Fault.{Fault}
-use Rattle.hu_trans.specs.declared.fault.Fault.TheVariants as fault
+use Rattle.std.specs.Prelude.{ℕ, List, [], ◌∷◌, codes, decimal}
 use Rattle.hu_run.specs.declared.reason.Reason.{Reason}
-use Rattle.hu_run.specs.declared.reason.Reason.TheVariants as reason
+use Rattle.hu_run.specs.Reason.{joined, reason_text}
 use Rattle.hu_run.specs.declared.words.WordFault.{WordFault}
 use Rattle.hu_run.specs.declared.words.WordFault.TheVariants as word
 use Rattle.hu_run.specs.declared.input.InputStop.{InputStop}
 use Rattle.hu_run.specs.declared.input.InputStop.TheVariants as input
 use Rattle.hu_run.specs.declared.stop.Stop.{Stop}
 use Rattle.hu_run.specs.declared.stop.Stop.TheVariants.{Words, Refused, ReadFailed, WriteFailed, NoMemory}
-
--- texts one after the other
-abbrev pub joined : List (List ℕ) → List ℕ
-joined texts = flat_map (λ text. text) texts
-
--- the reason of a line that is no transaction
-abbrev pub fault_text : Fault → List ℕ
-fault_text fault.NotThreeParts = joined (codes "not three parts" ∷ [])
-fault_text (fault.BadNumber part at) = joined (codes "bad number in part " ∷ decimal part ∷ codes " at " ∷ decimal at ∷ [])
-fault_text fault.NoItems = joined (codes "no items" ∷ [])
-fault_text (fault.TooManyItems count) = joined (codes "too many items: " ∷ decimal count ∷ [])
-fault_text (fault.CountsDiffer items utilities) = joined (decimal items ∷ codes " items but " ∷ decimal utilities ∷ codes " utilities" ∷ [])
-fault_text (fault.ItemOutOfRange at) = joined (codes "item out of range at " ∷ decimal at ∷ [])
-fault_text (fault.DuplicateItem item) = joined (codes "item " ∷ decimal item.0 ∷ codes " twice" ∷ [])
-fault_text fault.SumTooLarge = joined (codes "sum too large" ∷ [])
-fault_text (fault.TotalDisagrees stated summed) = joined (codes "total " ∷ signed_decimal stated ∷ codes " but sum " ∷ signed_decimal summed ∷ [])
-fault_text fault.NoMemory = joined (codes "out of memory" ∷ [])
-
--- the reason of a refused line
-abbrev pub reason_text : Reason → List ℕ
-reason_text reason.LineTooLong = joined (codes "line too long" ∷ [])
-reason_text reason.InputTooLarge = joined (codes "input too large" ∷ [])
-reason_text reason.SumTooLarge = joined (codes "sum too large" ∷ [])
-reason_text (reason.Transaction fault) = fault_text fault
 
 -- the reason of refused words
 abbrev pub word_text : WordFault → List ℕ

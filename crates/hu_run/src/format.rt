@@ -4,7 +4,8 @@ ghost use Rattle.std.specs.Prelude.{◌≡◌, ℕ, ◌≤◌, List, length, IfO
 ghost use Rattle.hu_run.specs.declared.reason.Reason.{Reason};
 
 use crate::reason::Reason;
-use hu_kind::{Absolute, NoMemory, Record};
+use hu_kind::{Absolute, NoMemory, Record, SeqRecord};
+use hu_seq::{SeqFault, read_sequence};
 use hu_trans::{Fault, read_record};
 use std::alloc::Global;
 
@@ -35,6 +36,25 @@ impl Format for Transactions {
             Ok(one) => Ok(Ok(one)),
             Err(Fault::NoMemory) => Err(NoMemory),
             Err(fault) => Ok(Err(Reason::Transaction(fault))),
+        }
+    }
+}
+
+/// Sequence lines.
+pub(crate) struct Sequences;
+
+impl Format for Sequences {
+    ghost use Rattle.hu_run.specs.Formats.{sequence_reading};
+
+    type Record = SeqRecord;
+
+    ghost reading = { sequence_reading };
+
+    fn read(alloc: Global, line: &[u8]) -> Result<Result<SeqRecord, Reason>, NoMemory> {
+        match read_sequence(alloc, line) {
+            Ok(one) => Ok(Ok(one)),
+            Err(SeqFault::NoMemory) => Err(NoMemory),
+            Err(fault) => Ok(Err(Reason::Sequence(fault))),
         }
     }
 }

@@ -1,17 +1,15 @@
 //! Why a run stops short of its answer.
 
-ghost use Rattle.std.specs.Prelude.{◌≡◌, [], ◌++◌, flat_map};
-ghost use Rattle.std.specs.Fmt.{signed_decimal};
-ghost use Rattle.hu_run.specs.Part.{part_text, Tells};
-ghost use Rattle.hu_run.specs.Stop.{status_of, stop_line, told_line, refusal_line, reason_text, fault_text, word_text};
+ghost use Rattle.std.specs.Prelude.{◌≡◌};
+ghost use Rattle.hu_run.specs.Part.{Tells};
+ghost use Rattle.hu_run.specs.Stop.{status_of, stop_line, told_line, refusal_line, word_text};
 
 use crate::input::InputStop;
 use crate::part::{Part, tell};
 use crate::reason::Reason;
 use crate::words::WordFault;
 use hu_io::{Failed, Sink};
-use hu_kind::{Item, NoMemory};
-use hu_trans::Fault;
+use hu_kind::NoMemory;
 
 /// Why a run stops short of its answer.
 #[derive(Clone, Copy)]
@@ -90,7 +88,7 @@ fn tell_refusal<E: Sink>(err: &mut E, name: &str, number: u64, reason: Reason)
     ensures told { Tells (E.bytes err.old) (E.bytes err.new) (E.faults err.old) (E.faults err.new) (refusal_line name.now number reason) }
     ensures plan { E.plan err.new ≡ E.plan err.old }
 {
-    let [first, second, third, fourth] = reason_parts(reason);
+    let [first, second, third, fourth] = reason.parts();
     tell(
         err,
         &[
@@ -121,95 +119,6 @@ fn word_text(fault: WordFault) -> &'static str
         WordFault::TooManyFiles => "too many files",
         WordFault::NotBuilt => "not built yet",
     }
-}
-
-/// The reason of a refused line, in four parts, some of them empty.
-fn reason_parts(reason: Reason) -> [Part<'static>; 4]
-    ensures { flat_map part_text result ≡ reason_text reason }
-{
-    match reason {
-        Reason::LineTooLong => text_parts("line too long"),
-        Reason::InputTooLarge => text_parts("input too large"),
-        Reason::SumTooLarge => text_parts("sum too large"),
-        Reason::Transaction(fault) => fault_parts(fault),
-    }
-}
-
-/// The reason of a line that is no transaction, in four parts.
-fn fault_parts(fault: Fault) -> [Part<'static>; 4]
-    ensures { flat_map part_text result ≡ fault_text fault }
-{
-    match fault {
-        Fault::NotThreeParts => text_parts("not three parts"),
-        Fault::BadNumber { part, at } => number_parts(
-            "bad number in part ",
-            i128::from(part),
-            " at ",
-            i128::from(at),
-        ),
-        Fault::NoItems => text_parts("no items"),
-        Fault::TooManyItems { count } => [
-            Part::Text("too many items: "),
-            Part::Number(i128::from(count)),
-            Part::Text(""),
-            Part::Text(""),
-        ],
-        Fault::CountsDiffer { items, utilities } => [
-            Part::Number(i128::from(items)),
-            Part::Text(" items but "),
-            Part::Number(i128::from(utilities)),
-            Part::Text(" utilities"),
-        ],
-        Fault::ItemOutOfRange { at } => [
-            Part::Text("item out of range at "),
-            Part::Number(i128::from(at)),
-            Part::Text(""),
-            Part::Text(""),
-        ],
-        Fault::DuplicateItem { item: Item(item) } => [
-            Part::Text("item "),
-            Part::Number(i128::from(item)),
-            Part::Text(" twice"),
-            Part::Text(""),
-        ],
-        Fault::SumTooLarge => text_parts("sum too large"),
-        Fault::TotalDisagrees { stated, summed } => number_parts(
-            "total ",
-            stated,
-            " but sum ",
-            summed,
-        ),
-        Fault::NoMemory => text_parts("out of memory"),
-    }
-}
-
-/// A text alone, in four parts.
-fn text_parts(text: &'static str) -> [Part<'static>; 4]
-    ensures { flat_map part_text result ≡ text.now ++ [] }
-{
-    [
-        Part::Text(text),
-        Part::Text(""),
-        Part::Text(""),
-        Part::Text(""),
-    ]
-}
-
-/// Two texts, each with a number behind it.
-fn number_parts(
-    first: &'static str,
-    one: i128,
-    second: &'static str,
-    other: i128,
-) -> [Part<'static>; 4]
-    ensures { flat_map part_text result ≡ first.now ++ (signed_decimal one ++ (second.now ++ (signed_decimal other ++ []))) }
-{
-    [
-        Part::Text(first),
-        Part::Number(one),
-        Part::Text(second),
-        Part::Number(other),
-    ]
 }
 
 impl From<WordFault> for Stop<'_> {

@@ -1,18 +1,20 @@
 //! The top call.
 
-ghost use Rattle.std.specs.Prelude.{◌≡◌, ◌≢◌, ◌↔◌, ◌≤◌, ◌⊎◌, ℕ, List, codes, IsOk, IsErr, IsOkAnd, IfErr};
+ghost use Rattle.std.specs.Prelude.{◌≡◌, ◌≢◌, ◌↔◌, ◌≤◌, ◌≤ℤ◌, ◌⊎◌, ℕ, List, pos, true, codes, IsErr, IsOkAnd, IfOk, IfErr, IfSome};
 ghost use Rattle.hu_io.specs.Count.{Rose};
 ghost use Rattle.hu_run.specs.Part.{Tells};
-ghost use Rattle.hu_run.specs.Words.{job, texts_of, names_of};
-ghost use Rattle.hu_run.specs.Run.{Ends, KeepsOut, Refuses, Writes, WritesFront, FailsReading, Accepts, HasRefused, LacksFile, NoneRose};
+ghost use Rattle.hu_run.specs.Words.{job, texts_of, names_of, is_built};
+ghost use Rattle.hu_run.specs.Jobs.{mining_of, files_of};
+ghost use Rattle.hu_run.specs.Run.{Ends, Answers, StopsMining, KeepsOut, Refuses, Writes, WritesFront, FailsReading, Accepts, HasRefused, LacksFile, NoneRose};
 ghost use Rattle.hu_run.specs.Stop.{told_line, word_text, refusal_line, read_failed_line};
 
-use crate::format::Transactions;
+use crate::format::{Sequences, Transactions};
 use crate::input::read_files;
-use crate::mine::item_entries;
+use crate::mine::{PlainItems, PlainSequences, entries};
 use crate::stop::Stop;
 use crate::words::{Job, read_words};
 use hu_io::{Files, Sink};
+use hu_kind::{Entry, Task};
 use hu_report::write_entries;
 use std::alloc::Global;
 
@@ -29,14 +31,14 @@ pub fn run<F: Files, O: Sink, E: Sink>(
 ) -> u8
     ensures status { result ≤ 5 }
 
-    // Done: the whole text of the answer to all transactions of all named files was appended, and nothing was told.
+    // Done: the whole text of the answer to all records of all named files was appended, and nothing was told.
     ensures done { result ≡ 0 → IsOkAnd (job (texts_of words.now))
         (λ mining. Writes mining (F.contents files.old) (names_of (texts_of words.now)) (O.bytes out.old) (O.bytes out.new)) }
     ensures silent { result ≡ 0 → err.new ≡ err.old }
 
     // A refused line: it is the first one, and it is the one that is told.
-    ensures refused { result ≡ 1 → Refuses (F.contents files.old) (names_of (texts_of words.now))
-        (λ name refusal. Tells (E.bytes err.old) (E.bytes err.new) (E.faults err.old) (E.faults err.new) (refusal_line name refusal.number refusal.reason)) }
+    ensures refused { result ≡ 1 → IsOkAnd (job (texts_of words.now)) (λ mining. Refuses mining (F.contents files.old) (names_of (texts_of words.now))
+        (λ name refusal. Tells (E.bytes err.old) (E.bytes err.new) (E.faults err.old) (E.faults err.new) (refusal_line name refusal.number refusal.reason))) }
 
     // Refused words: exactly where they are no job. No file was read.
     ensures no_job { (result ≡ 2) ↔ IsErr (job (texts_of words.now)) }
@@ -45,7 +47,8 @@ pub fn run<F: Files, O: Sink, E: Sink>(
     ensures unread { result ≡ 2 → files.new ≡ files.old }
 
     // A failed read: of a named file whose count rose, every file before its place being accepted.
-    ensures read_failed { result ≡ 3 → (name : List ℕ) × FailsReading (F.contents files.old) (F.faults files.old) (F.faults files.new) (names_of (texts_of words.now)) name
+    ensures read_failed { result ≡ 3 → (name : List ℕ)
+        × IsOkAnd (job (texts_of words.now)) (λ mining. FailsReading mining (F.contents files.old) (F.faults files.old) (F.faults files.new) (names_of (texts_of words.now)) name)
         × Tells (E.bytes err.old) (E.bytes err.new) (E.faults err.old) (E.faults err.new) (read_failed_line name) }
 
     // A failed write: the count rose, and a proper front of the text was appended.
@@ -57,13 +60,13 @@ pub fn run<F: Files, O: Sink, E: Sink>(
     ensures unwritten { result ≢ 0 → result ≢ 4 → out.new ≡ out.old }
 
     // Where contents are told and the words are a job, these leave no other status but want of memory.
-    ensures accepted { IsOk (job (texts_of words.now)) → Accepts (F.contents files.old) (names_of (texts_of words.now))
+    ensures accepted { IsOkAnd (job (texts_of words.now)) (λ mining. Accepts mining (F.contents files.old) (names_of (texts_of words.now)))
         → NoneRose (F.faults files.old) (F.faults files.new) (names_of (texts_of words.now)) → ¬ Rose (O.faults out.old) (O.faults out.new)
         → (result ≡ 0) ⊎ (result ≡ 5) }
-    ensures has_refused { IsOk (job (texts_of words.now)) → HasRefused (F.contents files.old) (names_of (texts_of words.now))
+    ensures has_refused { IsOkAnd (job (texts_of words.now)) (λ mining. HasRefused mining (F.contents files.old) (names_of (texts_of words.now)))
         → NoneRose (F.faults files.old) (F.faults files.new) (names_of (texts_of words.now)) → ¬ Rose (O.faults out.old) (O.faults out.new)
         → (result ≡ 1) ⊎ (result ≡ 5) }
-    ensures lacks_file { IsOk (job (texts_of words.now)) → LacksFile (F.contents files.old) (names_of (texts_of words.now))
+    ensures lacks_file { IsOkAnd (job (texts_of words.now)) (λ mining. LacksFile mining (F.contents files.old) (names_of (texts_of words.now)))
         → (result ≡ 3) ⊎ (result ≡ 5) }
 
     // What a run never changes, and counts that never fall.
@@ -100,15 +103,44 @@ fn attempt<'a, F: Files, O: Sink>(
     ensures files_later { (name : List ℕ) → F.faults files.old name ≤ F.faults files.new name }
     ensures out_later { O.faults out.old ≤ O.faults out.new }
 {
+    let job = read_words(words)?;
+    let entries = answer_entries(alloc, &job, files)?;
+    let Job::Mine { task, .. } = job;
+    write_entries(&entries, task, out)?;
+    Ok(())
+}
+
+/// The answer of a job to its files, or what stops it.
+fn answer_entries<'a, F: Files>(
+    alloc: Global,
+    job: &Job<'a>,
+    files: &mut F,
+) -> Result<Vec<Entry>, Stop<'a>>
+    requires least { pos 1 ≤ℤ (mining_of job.now).least }
+    requires some { IfSome (mining_of job.now).top (λ k. 1 ≤ k) }
+    requires built { is_built (mining_of job.now).task (mining_of job.now).engine ≡ true }
+    ensures ok { IfOk result (λ entries. Answers (mining_of job.now) (F.contents files.old) (texts_of (files_of job.now)) entries.items) }
+    ensures err { IfErr result (λ stop. StopsMining (mining_of job.now) (F.contents files.old) (F.faults files.old) (F.faults files.new) (texts_of (files_of job.now)) stop) }
+    ensures contents { F.contents files.new ≡ F.contents files.old }
+    ensures plan { F.plan files.new ≡ F.plan files.old }
+    ensures later { (name : List ℕ) → F.faults files.old name ≤ F.faults files.new name }
+{
     let Job::Mine {
         task,
         least,
         top,
         names,
         ..
-    } = read_words(words)?;
-    let base = read_files::<Transactions, F>(alloc, files, names)?;
-    let entries = item_entries(alloc, &base, least, top)?;
-    write_entries(&entries, task, out)?;
-    Ok(())
+    } = *job;
+    match task {
+        Task::Items => {
+            let base = read_files::<Transactions, F>(alloc, files, names)?;
+            Ok(entries::<PlainItems>(alloc, &base, least, top)?)
+        }
+        Task::Closed => unreachable!(),
+        Task::Sequences => {
+            let base = read_files::<Sequences, F>(alloc, files, names)?;
+            Ok(entries::<PlainSequences>(alloc, &base, least, top)?)
+        }
+    }
 }

@@ -1,6 +1,6 @@
 //! The words of the command line.
 
-ghost use Rattle.std.specs.Prelude.{◌≡◌, ◌≤◌, pos, ◌≤ℤ◌, Some, drop, IfOk, IfSome};
+ghost use Rattle.std.specs.Prelude.{◌≡◌, ◌≤◌, pos, ◌≤ℤ◌, true, Some, drop, IfOk, IfSome};
 ghost use Rattle.std.specs.Result.{result_err};
 ghost use Rattle.hu_run.specs.Words.{task_of, engine_of, offered_engine, least_of, top_of, offers, is_built, job, texts_of};
 ghost use Rattle.hu_run.specs.Jobs.{mining_of, files_of};
@@ -61,6 +61,7 @@ pub fn read_words(words: &[String]) -> Result<Job<'_>, WordFault>
     ensures names { IfOk result (λ found. files_of found ≡ drop 4 words.now) }
     ensures least { IfOk result (λ found. pos 1 ≤ℤ (mining_of found).least) }
     ensures top { IfOk result (λ found. IfSome (mining_of found).top (λ k. 1 ≤ k)) }
+    ensures built { IfOk result (λ found. is_built (mining_of found).task (mining_of found).engine ≡ true) }
 {
     if words.len() < 5 {
         return Err(WordFault::TooFewWords);
@@ -134,7 +135,10 @@ fn offers(task: Task, engine: Engine) -> bool
 fn is_built(task: Task, engine: Engine) -> bool
     ensures { result ≡ is_built task engine }
 {
-    matches!((task, engine), (Task::Items, Engine::Plain))
+    matches!(
+        (task, engine),
+        (Task::Items | Task::Sequences, Engine::Plain)
+    )
 }
 
 /// The least utility that a word says.

@@ -1,7 +1,7 @@
 use Rattle.hu_run.specs.Words.{job, texts_of, names_of}
 use Rattle.hu_run.specs.Part.{Tells}
 use Rattle.hu_run.specs.Stop.{told_line, word_text}
-use Rattle.hu_run.proofs.TopLemmas.{done_no_fault, done_tells_nothing, done_not_refused, stop_of_words, stop_tells_words, stop_at_read, stop_accepted, stop_refused}
+use Rattle.hu_run.proofs.TopLemmas.{done_no_fault, done_tells_nothing, done_not_refused, done_not_lacking, stop_of_words, stop_tells_words, stop_at_read, stop_at_line, stop_accepted, stop_refused, stop_lacking}
 use Rattle.hu_run.proofs.top.run.Goals as goal
 
 pub returns-in-Ok-clause-no_job : goal.returns-in-Ok-clause-no_job
@@ -39,4 +39,18 @@ returns-in-Err-clause-accepted g c = rw c.status.ensures (stop_accepted (job (te
 
 pub returns-in-Err-clause-has_refused : goal.returns-in-Err-clause-has_refused
 returns-in-Err-clause-has_refused g c = rw c.status.ensures (stop_refused (job (texts_of c.args.words.now)) (g.F.Files.contents c.args.files.now) (g.F.Files.faults c.args.files.now) (g.F.Files.faults c.attempt.new.files)
+    (names_of (texts_of c.args.words.now)) (g.O.Sink.bytes c.args.out.now) (g.O.Sink.bytes c.attempt.new.out) (g.O.Sink.faults c.args.out.now) (g.O.Sink.faults c.attempt.new.out) c.in-Err.stop c.in-Err.ensures.ends)
+
+pub returns-in-Ok-clause-lacks_file : goal.returns-in-Ok-clause-lacks_file
+returns-in-Ok-clause-lacks_file g c = done_not_lacking (job (texts_of c.args.words.now)) (g.F.Files.contents c.args.files.now) (g.F.Files.faults c.args.files.now) (g.F.Files.faults c.attempt.new.files)
+    (names_of (texts_of c.args.words.now)) (g.O.Sink.bytes c.args.out.now) (g.O.Sink.bytes c.attempt.new.out) (g.O.Sink.faults c.args.out.now) (g.O.Sink.faults c.attempt.new.out) c.in-Ok.ensures.ends
+
+pub returns-in-Err-clause-refused : goal.returns-in-Err-clause-refused
+returns-in-Err-clause-refused g c = rw c.status.ensures
+    (stop_at_line (job (texts_of c.args.words.now)) (g.F.Files.contents c.args.files.now) (g.F.Files.faults c.args.files.now) (g.F.Files.faults c.attempt.new.files)
+    (names_of (texts_of c.args.words.now)) (g.O.Sink.bytes c.args.out.now) (g.O.Sink.bytes c.attempt.new.out) (g.O.Sink.faults c.args.out.now) (g.O.Sink.faults c.attempt.new.out) (λ line. Tells (g.E.Sink.bytes c.args.err.now) (g.E.Sink.bytes c.tell.new.err) (g.E.Sink.faults c.args.err.now) (g.E.Sink.faults c.tell.new.err) line)
+    c.in-Err.stop c.in-Err.ensures.ends c.tell.ensures.told)
+
+pub returns-in-Err-clause-lacks_file : goal.returns-in-Err-clause-lacks_file
+returns-in-Err-clause-lacks_file g c = rw c.status.ensures (stop_lacking (job (texts_of c.args.words.now)) (g.F.Files.contents c.args.files.now) (g.F.Files.faults c.args.files.now) (g.F.Files.faults c.attempt.new.files)
     (names_of (texts_of c.args.words.now)) (g.O.Sink.bytes c.args.out.now) (g.O.Sink.bytes c.attempt.new.out) (g.O.Sink.faults c.args.out.now) (g.O.Sink.faults c.attempt.new.out) c.in-Err.stop c.in-Err.ensures.ends)
