@@ -3,6 +3,8 @@
 ghost use Rattle.std.specs.Prelude.{None};
 ghost use Rattle.hu_io.specs.MemoryFiles.{FilesView, faults_at};
 
+mod sequences;
+
 use crate::run;
 use hu_io::{Failed, Files, MemoryFiles, MemorySink, SureFiles, SureSink};
 use hu_kind::NoMemory;
@@ -179,7 +181,10 @@ fn refused_words(rt: HostRuntime) -> Result<(), Fail> {
             &["items", "lists", "1", "all", "f"],
             "hupm: not built yet\n",
         ),
-        (&["seq", "plain", "1", "all", "f"], "hupm: not built yet\n"),
+        (
+            &["closed", "plain", "1", "all", "f"],
+            "hupm: not built yet\n",
+        ),
     ];
     for (texts, told) in cases {
         let mut files = MemoryFiles::new(rt.alloc());

@@ -1,0 +1,100 @@
+//! Runs over sequences.
+
+use super::ends;
+use hu_io::MemoryFiles;
+use hu_kind::NoMemory;
+use std::alloc::Global;
+use std::test::Fail;
+
+const LATER: &str = "1[2] -1 1[5] -1 2[3] -1 -2 SUtility:10\n";
+
+const PLACES: &str = "1[9] -1 2[1] -1 1[2] -1 3[8] -1 -2 SUtility:20\n";
+
+const FOUR: &str =
+    "1[1] 2[4] -1 3[10] -1 6[9] -1 7[2] -1 5[1] -1 -2 SUtility:27\n1[1] 4[12] -1 3[20] -1 2[4] -1 5[1] 7[2] -1 -2 SUtility:40\n1[1] -1 2[4] -1 6[9] -1 5[1] -1 -2 SUtility:15\n1[3] 2[4] 3[5] -1 6[3] 7[1] -1 -2 SUtility:16\n";
+
+/// A file of this name with this content.
+fn file(alloc: Global, name: &str, text: &str) -> Result<MemoryFiles, NoMemory> {
+    let mut files = MemoryFiles::new(alloc);
+    files.add(name, text.as_bytes())?;
+    Ok(files)
+}
+
+#[test]
+fn answers(rt: HostRuntime) -> Result<(), Fail> {
+    let cases = [
+        (
+            "7",
+            "all",
+            LATER,
+            "1 -1 1 -1 2 -1 #UTIL: 10\n1 -1 2 -1 #UTIL: 8\n1 -1 1 -1 #UTIL: 7\n",
+        ),
+        (
+            "17",
+            "all",
+            PLACES,
+            "1 -1 2 -1 1 -1 3 -1 #UTIL: 20\n1 -1 1 -1 3 -1 #UTIL: 19\n1 -1 2 -1 3 -1 #UTIL: 18\n1 -1 3 -1 #UTIL: 17\n",
+        ),
+        (
+            "40",
+            "all",
+            FOUR,
+            "1 4 -1 3 -1 2 -1 5 7 -1 #UTIL: 40\n3 -1 7 -1 #UTIL: 40\n",
+        ),
+        ("1", "1", FOUR, "1 4 -1 3 -1 2 -1 5 7 -1 #UTIL: 40\n"),
+        (
+            "1",
+            "all",
+            "3[1] 1[2] -1 -2\n",
+            "1 3 -1 #UTIL: 3\n1 -1 #UTIL: 2\n3 -1 #UTIL: 1\n",
+        ),
+        ("1", "all", "", ""),
+        ("1", "all", "# shop 7\n# shop 8\n", ""),
+    ];
+    for (least, top, text, written) in cases {
+        let mut files = file(rt.alloc(), "f", text)?;
+        let texts = ["seq", "plain", least, top, "f"];
+        ends(&rt, rt.alloc(), &texts, &mut files, (0, written, ""))?;
+    }
+    Ok(())
+}
+
+#[test]
+fn refused_lines(rt: HostRuntime) -> Result<(), Fail> {
+    let cases = [
+        ("1[x] -1 -2\n", "hupm: f:1: bad token at 1\n"),
+        ("1:5:5\n", "hupm: f:1: bad token at 1\n"),
+        ("# f\n1[2] -1\n", "hupm: f:2: no end\n"),
+        (
+            "1[2] -1 -2 -1\n",
+            "hupm: f:1: a total alone may follow the end\n",
+        ),
+        ("1[2] -2\n", "hupm: f:1: itemset left open\n"),
+        ("-1 1[2] -1 -2\n", "hupm: f:1: empty itemset\n"),
+        ("-2\n", "hupm: f:1: no items\n"),
+        (
+            "2147483648[1] -1 -2\n",
+            "hupm: f:1: item out of range at 1\n",
+        ),
+        ("1[2] 1[3] -1 -2\n", "hupm: f:1: item 1 twice\n"),
+        (
+            "1[1] -1 2[-2] -1 -2\n",
+            "hupm: f:1: negative utility at 3\n",
+        ),
+        (
+            "1[170141183460469231731687303715884105727] 2[1] -1 -2\n",
+            "hupm: f:1: sum too large\n",
+        ),
+        (
+            "1[170141183460469231731687303715884105727] -1 -2\n1[1] -1 -2\n",
+            "hupm: f:2: sum too large\n",
+        ),
+        ("1[2] -1 -2 SUtility:3\n", "hupm: f:1: total 3 but sum 2\n"),
+    ];
+    for (text, told) in cases {
+        let mut files = file(rt.alloc(), "f", text)?;
+        let texts = ["seq", "plain", "1", "all", "f"];
+        ends(&rt, rt.alloc(), &texts, &mut files, (1, "", told))?;
+    }
+    Ok(())
+}
