@@ -5,3 +5,4 @@ pub mod RankingLemmas
 pub mod CellsLemmas
 pub mod Members
 pub mod Occurring
+pub mod FirstLemmas

@@ -9,3 +9,4 @@ pub mod Number
 pub mod Rows
 pub mod Token
 pub mod Cells
+pub mod First

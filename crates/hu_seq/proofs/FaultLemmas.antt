@@ -11,6 +11,8 @@ use Rattle.std.proofs.lemmas.List.Folds.{list_any-append, list_any_none}
 use Rattle.std.proofs.lemmas.List.Splits.{length-slice_split}
 use Rattle.std.proofs.lemmas.List.Sums.{fails_before_first}
 use Rattle.hu_kind.specs.Cells.{by_item}
+use Rattle.hu_kind.specs.First.{first_some}
+use Rattle.hu_kind.proofs.FirstLemmas.{first_skip, first_here, first_alone, first_later, first_before}
 use Rattle.hu_kind.specs.Record.{total, absolute_of, any_negative}
 use Rattle.hu_kind.specs.Sequence.{IsSequence}
 use Rattle.hu_kind.specs.Token.{tokens}
@@ -19,32 +21,10 @@ use Rattle.hu_seq.specs.declared.fault.SeqFault.TheVariants.{TooManyItems, ItemO
 use Rattle.hu_seq.specs.declared.token.Token.{Token}
 use Rattle.hu_seq.specs.declared.token.Token.TheVariants.{ItemsetEnd, SequenceEnd}
 use Rattle.hu_seq.specs.Token.{is_cell, is_itemset_end, is_out_of_range, is_negative, pair_in, sum_in}
-use Rattle.hu_seq.specs.Reading.{first_some, known, cells, body, itemsets, bad_token, too_many_items, item_out_of_range, duplicate_item, negative, sum_too_large, total_disagrees, order_faults, cell_faults, reading}
+use Rattle.hu_seq.specs.Reading.{known, cells, body, itemsets, bad_token, too_many_items, item_out_of_range, duplicate_item, negative, sum_too_large, total_disagrees, order_faults, cell_faults, reading}
 use Rattle.hu_seq.specs.Itemset.{IsSound, IsOrdered}
 use Rattle.hu_seq.proofs.ShapeLemmas.{IsShaped, IsShaped-full, neither, not_any, then_none}
 use Rattle.hu_seq.proofs.SumLemmas.{any-parts, end_in_range, ordered-length, ordered-absolute, ordered-negative, ordered-some, length-cells, any_negative-cells, total-absolute, cells-after}
-
--- ---- the first of options
-
-first_skip : {A : Type 0} (o : Option A) (os : List (Option A)) → o ≡ None → first_some (o ∷ os) ≡ first_some os
-first_skip o os h = rw h refl
-
-first_here : {A : Type 0} (o : Option A) (os : List (Option A)) (x : A) → o ≡ Some x → first_some (o ∷ os) ≡ Some x
-first_here o os x h = rw h refl
-
-first_alone : {A : Type 0} (o : Option A) → first_some (o ∷ []) ≡ o
-first_alone None = refl
-first_alone (Some x) = refl
-
-first_later : {A : Type 0} (os more : List (Option A)) → first_some os ≡ None → first_some (os ++ more) ≡ first_some more
-first_later [] more h = refl
-first_later (None ∷ os) more h = first_later os more h
-first_later (Some x ∷ os) more h = cc
-
-first_before : {A : Type 0} (os more : List (Option A)) (x : A) → first_some os ≡ Some x → first_some (os ++ more) ≡ Some x
-first_before [] more x h = cc
-first_before (None ∷ os) more x h = first_before os more x h
-first_before (Some y ∷ os) more x h = h
 
 -- ---- the faults of known tokens, one group of checks after another
 

@@ -11,10 +11,11 @@ use Rattle.hu_kind.specs.Cell.{pair_of, pairs_of}
 use Rattle.hu_kind.specs.Cells.{twice}
 use Rattle.hu_kind.specs.Record.{IsItemset, items_in}
 use Rattle.hu_kind.proofs.RecordLemmas.{IsItemset-from_cells}
+use Rattle.hu_kind.specs.First.{first_some}
 use Rattle.hu_seq.specs.declared.fault.SeqFault.{SeqFault}
 use Rattle.hu_seq.specs.declared.token.Token.{Token}
 use Rattle.hu_seq.specs.Token.{is_itemset_end, pair_in}
-use Rattle.hu_seq.specs.Reading.{cells, duplicate_item, first_some, itemsets}
+use Rattle.hu_seq.specs.Reading.{cells, duplicate_item, itemsets}
 use Rattle.hu_seq.specs.Itemset.{IsOrdered}
 
 cells-more : (told : List Token) (i : ℕ) (d : Token) → i < length told → cells (take (i + 1) told) ≡ cells (take i told) ++ cons_option (pair_in (get_or told i d)) []

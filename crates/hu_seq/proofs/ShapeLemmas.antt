@@ -11,12 +11,13 @@ use Rattle.std.proofs.lemmas.List.Sums.{fails_before_first, list_all-from_AllPas
 use Rattle.std.proofs.lemmas.List.Elements.{All-from_recursion}
 use Rattle.std.proofs.lemmas.List.Splits.{slice_split-cons_yes, slice_split-cons_no}
 use Rattle.std.proofs.lemmas.Option.{slice_get-get_or}
+use Rattle.hu_kind.specs.First.{first_some}
 use Rattle.hu_seq.specs.declared.fault.SeqFault.{SeqFault}
 use Rattle.hu_seq.specs.declared.fault.SeqFault.TheVariants.{NoEnd, AfterEnd, OpenItemset, EmptyItemset, NoItems}
 use Rattle.hu_seq.specs.declared.token.Token.{Token}
 use Rattle.hu_seq.specs.declared.token.Token.TheVariants.{Cell, ItemsetEnd, SequenceEnd, Total}
 use Rattle.hu_seq.specs.Token.{is_cell, is_itemset_end, is_sequence_end, is_total}
-use Rattle.hu_seq.specs.Reading.{first_some, cells, no_end, after_end, open_itemset, empty_itemset, no_items, body, first_is, last_is, has_two_ends, is_total_or_nothing, order_faults}
+use Rattle.hu_seq.specs.Reading.{cells, no_end, after_end, open_itemset, empty_itemset, no_items, body, first_is, last_is, has_two_ends, is_total_or_nothing, order_faults}
 
 -- a cell, or the end of an itemset
 abbrev pub is_inner : Token → Bool

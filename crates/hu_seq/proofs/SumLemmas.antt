@@ -9,10 +9,11 @@ use Rattle.std.proofs.lemmas.List.Splits.{slice_split-cons_yes, slice_split-cons
 use Rattle.std.proofs.lemmas.List.Sums.{sum_by-cons, sum_by-append}
 use Rattle.hu_kind.specs.Cells.{by_item, twice}
 use Rattle.hu_kind.specs.Record.{items_in, total, absolute_of, any_negative}
+use Rattle.hu_kind.specs.First.{first_some}
 use Rattle.hu_seq.specs.declared.token.Token.{Token}
 use Rattle.hu_seq.specs.declared.token.Token.TheVariants.{Cell, ItemsetEnd, SequenceEnd, Total}
 use Rattle.hu_seq.specs.Token.{is_cell, is_itemset_end, is_out_of_range, is_negative, pair_in}
-use Rattle.hu_seq.specs.Reading.{cells, first_some, itemsets, duplicate_item, is_total_or_nothing}
+use Rattle.hu_seq.specs.Reading.{cells, itemsets, duplicate_item, is_total_or_nothing}
 use Rattle.hu_seq.specs.Itemset.{IsOrdered}
 use Rattle.hu_seq.proofs.ShapeLemmas.{neither}
 

@@ -6,18 +6,13 @@ use Rattle.std.specs.Ordering.{int_eq}
 use Rattle.std.specs.List.{before_first, after_first, position_or_len, count_by, list_any, slice_split}
 use Rattle.std.specs.Option.{option_map, option_map_or}
 use Rattle.hu_kind.specs.Cells.{by_item, twice}
+use Rattle.hu_kind.specs.First.{first_some}
 use Rattle.hu_kind.specs.Record.{items_in, total}
 use Rattle.hu_kind.specs.Token.{tokens}
 use Rattle.hu_seq.specs.declared.fault.SeqFault.{SeqFault}
 use Rattle.hu_seq.specs.declared.fault.SeqFault.TheVariants.{BadToken, NoEnd, AfterEnd, OpenItemset, EmptyItemset, NoItems, TooManyItems, ItemOutOfRange, DuplicateItem, Negative, SumTooLarge, TotalDisagrees}
 use Rattle.hu_seq.specs.declared.token.Token.{Token}
 use Rattle.hu_seq.specs.Token.{token_of, is_unknown, is_cell, is_itemset_end, is_sequence_end, is_total, is_out_of_range, is_negative, pair_in, sum_in}
-
--- the first that there is
-abbrev pub first_some : {A : Type 0} → List (Option A) → Option A
-first_some [] = None
-first_some (None ∷ options) = first_some options
-first_some (Some x ∷ options) = Some x
 
 -- the tokens of a line that are of one of the four kinds
 abbrev pub known : List ℕ → List Token

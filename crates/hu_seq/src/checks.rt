@@ -4,8 +4,9 @@ ghost use Rattle.std.specs.Prelude.{◌≡◌, ◌≤◌, ◌<◌, [], ◌∷◌
 ghost use Rattle.std.specs.List.{count_by};
 ghost use Rattle.std.specs.Result.{result_err};
 ghost use Rattle.hu_kind.specs.Record.{total};
+ghost use Rattle.hu_kind.specs.First.{first_some};
 ghost use Rattle.hu_seq.specs.Token.{is_cell, is_out_of_range, is_negative, sum_in};
-ghost use Rattle.hu_seq.specs.Reading.{cells, first_some, too_many_items, item_out_of_range, negative, total_disagrees};
+ghost use Rattle.hu_seq.specs.Reading.{cells, too_many_items, item_out_of_range, negative, total_disagrees};
 
 use crate::fault::SeqFault;
 use crate::token::Token;

@@ -2,8 +2,9 @@
 
 ghost use Rattle.std.specs.Prelude.{◌≡◌, ◌<◌, ◌||◌, None, Some, length, position, IfSome, IfOk, IfErr, OnOk};
 ghost use Rattle.std.specs.List.{list_any};
+ghost use Rattle.hu_kind.specs.First.{first_some};
 ghost use Rattle.hu_seq.specs.Token.{is_cell, is_itemset_end, is_sequence_end, is_total};
-ghost use Rattle.hu_seq.specs.Reading.{first_some, first_is, last_is, has_two_ends, is_total_or_nothing, body, order_faults};
+ghost use Rattle.hu_seq.specs.Reading.{first_is, last_is, has_two_ends, is_total_or_nothing, body, order_faults};
 
 use crate::fault::SeqFault;
 use crate::token::Token;

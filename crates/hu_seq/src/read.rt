@@ -3,7 +3,8 @@
 ghost use Rattle.std.specs.Prelude.{◌≡◌, ◌≢◌, ◌≤◌, ◌⊎◌, ◌++◌, None, Some, length, map, vec_len, OnOk, IfOk, IfErr};
 ghost use Rattle.hu_kind.specs.Cells.{by_item};
 ghost use Rattle.hu_kind.specs.Token.{tokens};
-ghost use Rattle.hu_seq.specs.Reading.{reading, bad_token, known, first_some, order_faults, cell_faults, body, itemsets};
+ghost use Rattle.hu_kind.specs.First.{first_some};
+ghost use Rattle.hu_seq.specs.Reading.{reading, bad_token, known, order_faults, cell_faults, body, itemsets};
 
 use crate::checks::{check_items, check_total, check_values};
 use crate::fault::SeqFault;

@@ -17,10 +17,11 @@ use Rattle.hu_kind.specs.Record.{items_in, absolute_of, total, IsRecord}
 use Rattle.hu_kind.specs.Cells.{by_item}
 use Rattle.hu_kind.proofs.CellsLemmas.{by_item-ascending, twice-ascending}
 use Rattle.hu_kind.specs.Token.{tokens, has_byte}
+use Rattle.hu_kind.specs.First.{first_some}
 use Rattle.hu_trans.specs.Line.{numbers, bad_token, bad_total, parts, items}
 use Rattle.hu_trans.specs.declared.fault.Fault.{Fault}
 use Rattle.hu_trans.specs.declared.fault.Fault.TheVariants.{BadNumber}
-use Rattle.hu_trans.specs.Reading.{not_three_parts, first_some, bad_number, reading, judged}
+use Rattle.hu_trans.specs.Reading.{not_three_parts, bad_number, reading, judged}
 use Rattle.hu_trans.specs.Canonical.{canonical_line}
 use Rattle.hu_trans.proofs.JudgedLemmas.{AreFine, sum_faults, judged-sums, item_faults-none, sum_faults-none}
 use Rattle.hu_trans.proofs.NumbersLemmas.{bad_from, bad_token-bad_from}

@@ -12,9 +12,10 @@ use Rattle.std.proofs.lemmas.Bool.Decides.{nat_tests}
 use Rattle.std.proofs.lemmas.List.Sums.{fails_before_first}
 use Rattle.hu_kind.specs.Cells.{by_item, twice}
 use Rattle.hu_kind.specs.Record.{absolute_of, total}
+use Rattle.hu_kind.specs.First.{first_some}
 use Rattle.hu_trans.specs.declared.fault.Fault.{Fault}
 use Rattle.hu_trans.specs.declared.fault.Fault.TheVariants.{NoItems, TooManyItems, CountsDiffer, ItemOutOfRange, DuplicateItem, SumTooLarge}
-use Rattle.hu_trans.specs.Reading.{first_some, no_items, too_many_items, counts_differ, item_out_of_range, duplicate_item, sum_too_large, total_disagrees, number_faults, judged}
+use Rattle.hu_trans.specs.Reading.{no_items, too_many_items, counts_differ, item_out_of_range, duplicate_item, sum_too_large, total_disagrees, number_faults, judged}
 
 -- the faults of the items, but for one that stands twice, and those of the sums
 abbrev pub item_faults : List ℕ → List ℤ → List (Option Fault)

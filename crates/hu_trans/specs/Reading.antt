@@ -3,18 +3,13 @@ use Rattle.std.specs.Prelude.{ℕ, ◌+◌, ◌^◌, ◌==◌, nat_lt, ℤ, not,
 use Rattle.std.specs.Bool.{then_some}
 use Rattle.std.specs.Ordering.{int_eq}
 use Rattle.std.specs.Option.{option_map, option_map_or}
+use Rattle.hu_kind.specs.First.{first_some}
 use Rattle.hu_kind.specs.Cells.{by_item, twice}
 use Rattle.hu_kind.specs.Number.{number, signed_number}
 use Rattle.hu_kind.specs.Record.{absolute_of, total, gain}
 use Rattle.hu_trans.specs.declared.fault.Fault.{Fault}
 use Rattle.hu_trans.specs.declared.fault.Fault.TheVariants.{NotThreeParts, BadNumber, NoItems, TooManyItems, CountsDiffer, ItemOutOfRange, DuplicateItem, SumTooLarge, TotalDisagrees}
 use Rattle.hu_trans.specs.Line.{parts, item_tokens, total_tokens, value_tokens, bad_token, bad_total, items, stated, values}
-
--- the first that there is
-abbrev pub first_some : {A : Type 0} → List (Option A) → Option A
-first_some [] = None
-first_some (None ∷ options) = first_some options
-first_some (Some x ∷ options) = Some x
 
 -- the line hasn't exactly two `:`
 abbrev pub not_three_parts : List (List ℕ) → Option Fault

@@ -2,7 +2,8 @@
 
 ghost use Rattle.std.specs.Prelude.{◌≡◌, ◌≤◌, [], ◌∷◌, length, nat_lt, position};
 ghost use Rattle.hu_kind.specs.Cell.{pairs_of};
-ghost use Rattle.hu_trans.specs.Reading.{first_some, no_items, too_many_items, counts_differ, item_out_of_range, sum_too_large, total_disagrees};
+ghost use Rattle.hu_kind.specs.First.{first_some};
+ghost use Rattle.hu_trans.specs.Reading.{no_items, too_many_items, counts_differ, item_out_of_range, sum_too_large, total_disagrees};
 
 use crate::fault::Fault;
 use crate::sums::Sums;

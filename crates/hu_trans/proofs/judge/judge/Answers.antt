@@ -3,7 +3,7 @@ use Rattle.std.specs.Int.{w128}
 use Rattle.std.proofs.lemmas.Int.{to_z-of_z}
 use Rattle.hu_kind.specs.Cell.{pairs_of}
 use Rattle.hu_kind.specs.Cells.{by_item}
-use Rattle.hu_trans.specs.Reading.{first_some}
+use Rattle.hu_kind.specs.First.{first_some}
 use Rattle.hu_trans.proofs.CellLemmas.{twice-zip, IsRecord-ordered}
 use Rattle.hu_trans.proofs.JudgedLemmas.{sum_faults, judged-twice, judged-sums, AreFine-from_none, small_from_none}
 use Rattle.hu_trans.proofs.judge.judge.Goals as goal
