@@ -47,8 +47,7 @@ impl From<AllocError> for AddFault {
 }
 
 impl<R: Absolute> Model for Base<R> {
-    ghost use Rattle.std.specs.Prelude.{◌≡◌, ℕ, ◌+◌, pos, ◌+ℤ◌, ◌≤ℤ◌, unsigned_abs, List};
-    ghost use Rattle.std.specs.List.{sum_by};
+    ghost use Rattle.std.specs.Prelude.{◌≡◌, ℕ, pos, ◌≤ℤ◌, unsigned_abs, List};
     ghost use Rattle.hu_base.specs.Base.{sum_of};
 
     ghost Value = { ℕ × List R };

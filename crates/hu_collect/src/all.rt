@@ -1,8 +1,8 @@
 //! The collector that keeps all entries.
 
-ghost use Rattle.std.specs.Prelude.{◌≡◌, ◌∷◌, [], pos, ◌≤ℤ◌, true, None, IfOk, OnOk, OnErr};
+ghost use Rattle.std.specs.Prelude.{◌≡◌, [], pos, ◌≤ℤ◌, true, None, IfOk};
 ghost use Rattle.hu_kind.specs.Order.{entry_cmp, ranking};
-ghost use Rattle.hu_collect.specs.Rule.{rule_of, made};
+ghost use Rattle.hu_collect.specs.Rule.{rule_of};
 
 use crate::collect::Collect;
 use hu_kind::{Entry, Key, NoMemory};

@@ -1,6 +1,6 @@
 //! What a search offers its entries to.
 
-ghost use Rattle.std.specs.Prelude.{◌≡◌, ◌∷◌, [], ℕ, ℤ, pos, ◌≤ℤ◌, false, List, OnOk, OnErr};
+ghost use Rattle.std.specs.Prelude.{◌≡◌, ◌∷◌, [], ℤ, pos, ◌≤ℤ◌, false, List, OnOk, OnErr};
 ghost use Rattle.hu_kind.specs.declared.entry.Entry.{Entry};
 ghost use Rattle.hu_collect.specs.Rule.{Rule, made, floor_of, IsKept};
 ghost use Rattle.hu_collect.specs.Ranks.{CanOpen, IsGrown};

@@ -1,8 +1,8 @@
 //! The collector that keeps the first k entries.
 
-ghost use Rattle.std.specs.Prelude.{◌≡◌, ◌+◌, ◌≤◌, take, ◌∷◌, [], pos, ◌≤ℤ◌, true, Some, IfOk, OnOk, OnErr};
+ghost use Rattle.std.specs.Prelude.{◌≡◌, ◌+◌, ◌≤◌, take, [], pos, ◌≤ℤ◌, true, Some, IfOk};
 ghost use Rattle.std.specs.BTreeSet.{btree_set_len};
-ghost use Rattle.hu_collect.specs.Rule.{rule_of, made, floor_by};
+ghost use Rattle.hu_collect.specs.Rule.{rule_of, floor_by};
 
 use crate::collect::Collect;
 use hu_kind::{Entry, Key, NoMemory};

@@ -1,6 +1,6 @@
 //! A sink in memory with a fixed room, of which chosen calls fail.
 
-ghost use Rattle.std.specs.Prelude.{◌≡◌, ℕ, ◌-◌, min, Some, List, [], ◌∷◌, ◌++◌, length, is_err, IfOk, OnOk, OnErr};
+ghost use Rattle.std.specs.Prelude.{◌≡◌, ◌-◌, min, Some, [], ◌∷◌, length, is_err, IfOk, OnOk, OnErr};
 ghost use Rattle.std.specs.Io.KnownBytes.{WriteAppends};
 ghost use Rattle.hu_io.specs.Count.{HasCause};
 ghost use Rattle.hu_io.specs.Sink.{TakesSome};

@@ -1,7 +1,6 @@
 //! A sink that never fails.
 
-ghost use Rattle.std.specs.Prelude.{◌≡◌, ℕ, ◌+◌, ◌-◌, ◌^◌, min, List, [], None, Ok, length};
-ghost use Rattle.std.specs.Io.KnownBytes.{WriteAppends};
+ghost use Rattle.std.specs.Prelude.{◌≡◌, ℕ, ◌+◌, ◌-◌, ◌^◌, min, [], None, Ok, length};
 ghost use Rattle.hu_io.specs.Count.{HasCause};
 ghost use Rattle.hu_io.specs.Sink.{TakesSome};
 

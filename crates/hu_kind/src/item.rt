@@ -1,7 +1,5 @@
 //! Items and what they earned.
 
-ghost use Rattle.std.specs.Prelude.{◌≡◌, ◌==◌};
-
 /// An item, by its number from 0 to [`Item::GREATEST`].
 #[derive(Clone, Copy, Debug, PartialEq, Eq, PartialOrd, Ord, Hash)]
 pub struct Item(pub u32);

@@ -1,7 +1,5 @@
 //! The limits of a line and of a run.
 
-ghost use Rattle.std.specs.Prelude.{◌≡◌};
-
 /// The greatest number of bytes of a line before its line feed.
 pub const LONGEST_LINE: u64 = 1_048_576;
 

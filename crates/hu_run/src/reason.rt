@@ -1,6 +1,6 @@
 //! Why lines are refused.
 
-ghost use Rattle.std.specs.Prelude.{◌≡◌, [], ◌∷◌, ◌++◌, codes, decimal, flat_map};
+ghost use Rattle.std.specs.Prelude.{◌≡◌, [], ◌++◌, decimal, flat_map};
 ghost use Rattle.std.specs.Fmt.{signed_decimal};
 ghost use Rattle.hu_run.specs.Part.{part_text};
 ghost use Rattle.hu_run.specs.Reason.{reason_text, fault_text, seq_fault_text, total_disagrees};
