@@ -1,6 +1,9 @@
 //! Which pairs of ranks a search joins.
 
 ghost use Rattle.std.specs.Prelude.{◌≡◌, ◌<◌, ◌<ℤ◌, ℕ, ℤ, false, List};
+ghost use Rattle.std.specs.List.{Contains};
+ghost use Rattle.hu_kind.specs.Order.{Ascend};
+ghost use Rattle.hu_kind.specs.Database.{utility};
 ghost use Rattle.hu_collect.specs.Pairs.{pair_twu};
 
 /// Says of pairs of ranks whether a set may hold both. It has a floor, and says which records over ranks it is right for:
@@ -13,7 +16,9 @@ pub trait Gate {
     /// Whether a set may hold both ranks. It takes no memory.
     fn may_join(&self, a: u32, b: u32) -> bool
         requires { a < b }
-        ensures low { result ≡ false → (records : List (List (ℕ × ℤ))) → IsRightFor self.now records → pair_twu records a b <ℤ floor self.now };
+        ensures low { result ≡ false → (records : List (List (ℕ × ℤ))) → IsRightFor self.now records → pair_twu records a b <ℤ floor self.now }
+        ensures sets { result ≡ false → (records : List (List (ℕ × ℤ))) → IsRightFor self.now records
+            → (ranks : List ℕ) → Ascend ranks → Contains ranks a → Contains ranks b → utility records ranks <ℤ floor self.now };
 }
 
 /// The gate that lets every pair join. Its floor is 1, and it is right for all records.
