@@ -11,7 +11,7 @@ use Rattle.std.proofs.lemmas.List.Elements.{filter-append, filter_passes, All-fi
 use Rattle.hu_kind.specs.declared.entry.Entry.{Entry}
 use Rattle.hu_kind.specs.Order.{entry_cmp, ranking, cut}
 use Rattle.hu_collect.specs.Rule.{Rule, passes, made, IsKept, floor_of}
-use Rattle.hu_collect.specs.Laws.{MakesInTurn, MakesByMembers, LeavesBelowFloor, KeepsFloor}
+use Rattle.hu_collect.specs.Laws.{MakesInTurn, MakesByMembers, MakesByPassing, LeavesBelowFloor, KeepsFloor}
 use Rattle.hu_collect.proofs.Ranking.{ranking-append_comm, ranking-same_members, first_or_later}
 use Rattle.hu_collect.proofs.Cutting.{AllByRecursion-weaker, sorted-ranking, sorted-cut, ranking-sorted, cut-cut, cut-ranking-in_turn}
 use Rattle.hu_collect.proofs.Entries.{entry_order}
@@ -48,11 +48,12 @@ Contains-filter : {A : Type 0} (p : A → Bool) (xs : List A) (x : A) → p x �
 Contains-filter p [] x e h = absurd (omega (arith, h.1))
 Contains-filter p (y ∷ ys) x e h = Contains-filter_cons p y ys x e (Contains-filter p ys x e) (first_or_later y ys x h)
 
-passing-members : (rule : Rule) (xs ys : List Entry) → ((x : Entry) → Contains xs x → Contains ys x)
+passing-members : (rule : Rule) (xs ys : List Entry) → ((x : Entry) → passes rule x ≡ true → Contains xs x → Contains ys x)
     → (x : Entry) → Contains (filter (passes rule) xs) x → Contains (filter (passes rule) ys) x
 passing-members rule xs ys h x k =
-    Contains-filter (passes rule) ys x (All-contains (λ z. passes rule z ≡ true) (filter (passes rule) xs) x (filter_passes (passes rule) xs) k)
-    (h x (All-contains (Contains xs) (filter (passes rule) xs) x (All-filter (passes rule) (Contains xs) xs (All-contains_itself xs)) k))
+    let passed = All-contains (λ z. passes rule z ≡ true) (filter (passes rule) xs) x (filter_passes (passes rule) xs) k in
+    let member = All-contains (Contains xs) (filter (passes rule) xs) x (All-filter (passes rule) (Contains xs) xs (All-contains_itself xs)) k in
+    Contains-filter (passes rule) ys x passed (h x passed member)
 
 appended-members : (content xs ys : List Entry) → ((x : Entry) → Contains xs x → Contains ys x)
     → (x : Entry) → Contains (content ++ xs) x → Contains (content ++ ys) x
@@ -62,12 +63,16 @@ appended-members content xs ys h x k =
       | inr new ↦ Contains-append_right content ys x (h x new)
     ]
 
--- lists with the same members make the same
-pub makes_by_members : MakesByMembers
-makes_by_members rule content xs ys h =
+-- lists with the same members among those that pass make the same
+pub makes_by_passing : MakesByPassing
+makes_by_passing rule content xs ys h =
     ap (cut rule.limit)
     (ranking-same_members entry_cmp entry_order (content ++ filter (passes rule) xs) (content ++ filter (passes rule) ys)
-    (λ x. (appended-members content _ _ (passing-members rule xs ys (λ z. (h z).0)) x, appended-members content _ _ (passing-members rule ys xs (λ z. (h z).1)) x)))
+    (λ x. (appended-members content _ _ (passing-members rule xs ys (λ z p. (h z p).0)) x, appended-members content _ _ (passing-members rule ys xs (λ z p. (h z p).1)) x)))
+
+-- and so do those with the same members
+pub makes_by_members : MakesByMembers
+makes_by_members rule content xs ys h = makes_by_passing rule content xs ys (λ x passed. h x)
 
 -- a content that is kept is in order and within the limit
 pub sorted-kept : (rule : Rule) (content : List Entry) → IsKept rule content → IsStrictlySortedBy entry_cmp content

@@ -1,8 +1,8 @@
 -- The laws of what collectors make. They hold of every rule.
-use Rattle.std.specs.Prelude.{◌≡◌, ◌<ℤ◌, ◌≤ℤ◌, ◌↔◌, List, [], ◌∷◌, ◌++◌}
+use Rattle.std.specs.Prelude.{◌≡◌, true, ◌<ℤ◌, ◌≤ℤ◌, ◌↔◌, List, [], ◌∷◌, ◌++◌}
 use Rattle.std.specs.List.{Contains}
 use Rattle.hu_kind.specs.declared.entry.Entry.{Entry}
-use Rattle.hu_collect.specs.Rule.{Rule, made, IsKept, floor_of}
+use Rattle.hu_collect.specs.Rule.{Rule, passes, made, IsKept, floor_of}
 
 -- two lists have the same members
 abbrev pub SameMembers : {A : Type 0} → List A → List A → Type 0
@@ -16,6 +16,11 @@ MakesInTurn = (rule : Rule) (content first second : List Entry) →
 -- lists with the same members make the same
 abbrev pub MakesByMembers : Type 0
 MakesByMembers = (rule : Rule) (content xs ys : List Entry) → SameMembers xs ys → made rule content xs ≡ made rule content ys
+
+-- so do lists with the same members among those that pass
+abbrev pub MakesByPassing : Type 0
+MakesByPassing = (rule : Rule) (content xs ys : List Entry) → ((x : Entry) → passes rule x ≡ true → Contains xs x ↔ Contains ys x)
+    → made rule content xs ≡ made rule content ys
 
 -- an entry below the floor leaves the content
 abbrev pub LeavesBelowFloor : Type 0
