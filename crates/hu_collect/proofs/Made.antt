@@ -1,17 +1,17 @@
 -- The laws of what collectors make, for proofs above to cite.
-use Rattle.std.proofs.Common.{◌≡◌, ◌<ℤ◌, ◌≤ℤ◌, Bool, true, false, cond, ◌&&◌, ◌⊎◌, inl, inr, List, [], ◌∷◌, ◌++◌, refl, sym, ap, subst, ◌∙◌, arith, append-nil, append_assoc}
-use Rattle.std.specs.Prelude.{int_le}
+use Rattle.std.proofs.Common.{◌≡◌, ◌↔◌, ◌<ℤ◌, ◌≤ℤ◌, ℤ, Bool, true, false, not, cond, ◌&&◌, ◌⊎◌, inl, inr, List, [], ◌∷◌, ◌++◌, refl, sym, ap, subst, ◌∙◌, arith, append-nil, append_assoc}
+use Rattle.std.specs.Prelude.{int_le, T}
 use Rattle.std.specs.Int.Signed.{≤ℤ_refl}
 use Rattle.std.specs.List.{All, AllByRecursion, Contains, filter}
 use Rattle.std.specs.List.Sorted.{IsStrictlySortedBy}
 use Rattle.std.specs.BTreeSet.{insert_key}
-use Rattle.std.proofs.lemmas.Int.{ints}
+use Rattle.std.proofs.lemmas.Int.{ints, by_lt_z}
 use Rattle.std.proofs.lemmas.Float.{T_from_true}
-use Rattle.std.proofs.lemmas.List.Elements.{filter-append, filter_passes, All-filter, All-contains, All-contains_itself, recursion_from_All, Contains-append_left, Contains-append_right, Contains-append_cases}
+use Rattle.std.proofs.lemmas.List.Elements.{filter-append, filter_passes, All-filter, All-weaker, All-contains, All-contains_itself, recursion_from_All, Contains-append_left, Contains-append_right, Contains-append_cases}
 use Rattle.hu_kind.specs.declared.entry.Entry.{Entry}
 use Rattle.hu_kind.specs.Order.{entry_cmp, ranking, cut}
 use Rattle.hu_collect.specs.Rule.{Rule, passes, made, IsKept, floor_of}
-use Rattle.hu_collect.specs.Laws.{MakesInTurn, MakesByMembers, MakesByPassing, LeavesBelowFloor, KeepsFloor}
+use Rattle.hu_collect.specs.Laws.{MakesInTurn, MakesByMembers, MakesByPassing, MakesByReaching, LeavesBelowFloor, KeepsFloor}
 use Rattle.hu_collect.proofs.Ranking.{ranking-append_comm, ranking-same_members, first_or_later}
 use Rattle.hu_collect.proofs.Cutting.{AllByRecursion-weaker, sorted-ranking, sorted-cut, ranking-sorted, cut-cut, cut-ranking-in_turn}
 use Rattle.hu_collect.proofs.Entries.{entry_order}
@@ -130,6 +130,70 @@ pub made-unwanted : (rule : Rule) (content entries : List Entry) → IsKept rule
 made-unwanted rule content entries kept h =
     made-idle rule content entries kept
     (AllByRecursion-weaker _ _ (λ entry. λ (e : rule.wants entry.key ≡ false). made-not_passing rule content entry kept (rw e refl)) entries (recursion_from_All _ entries h))
+
+-- what reaches a floor, and what doesn't
+abbrev reaches : ℤ → Entry → Bool
+reaches floor entry = int_le floor entry.utility
+
+abbrev falls_short : ℤ → Entry → Bool
+falls_short floor entry = not (int_le floor entry.utility)
+
+not_both : (b : Bool) → T b → not b ≡ true → ⊥
+not_both true t h = cc
+not_both false t h = absurd t
+
+short-below : (floor : ℤ) (entry : Entry) → falls_short floor entry ≡ true → entry.utility <ℤ floor
+short-below floor entry h = by_lt_z entry.utility floor (λ below. below) (λ reached. absurd (not_both (int_le floor entry.utility) reached.le h))
+
+-- the members of a filtered list
+from_filter : (p : Entry → Bool) (xs : List Entry) (x : Entry) → Contains (filter p xs) x → Contains xs x × (p x ≡ true)
+from_filter p xs x k = (
+  All-contains (Contains xs) (filter p xs) x (All-filter p (Contains xs) xs (All-contains_itself xs)) k,
+  All-contains (λ z. p z ≡ true) (filter p xs) x (filter_passes p xs) k,
+)
+
+parted-members : (floor : ℤ) (xs : List Entry) (x : Entry) → Contains xs x ↔ Contains (filter (falls_short floor) xs ++ filter (reaches floor) xs) x
+parted-members floor xs x = (there, back)
+  where
+    there : Contains xs x → Contains (filter (falls_short floor) xs ++ filter (reaches floor) xs) x
+    there k = elim (reaches floor x) as (λ b. reaches floor x ≡ b → Contains (filter (falls_short floor) xs ++ filter (reaches floor) xs) x) [
+      | true ↦ λ e. Contains-append_right (filter (falls_short floor) xs) (filter (reaches floor) xs) x (Contains-filter (reaches floor) xs x e k)
+      | false ↦ λ e. Contains-append_left (filter (falls_short floor) xs) (filter (reaches floor) xs) x (Contains-filter (falls_short floor) xs x (ap not e) k)
+    ] refl
+
+    back : Contains (filter (falls_short floor) xs ++ filter (reaches floor) xs) x → Contains xs x
+    back k = elim (Contains-append_cases (filter (falls_short floor) xs) (filter (reaches floor) xs) x k) [
+      | inl low ↦ (from_filter (falls_short floor) xs x low).0
+      | inr high ↦ (from_filter (reaches floor) xs x high).0
+    ]
+
+-- of a list only what reaches the floor counts
+made-reaching : (rule : Rule) (content xs : List Entry) → IsKept rule content → made rule content xs ≡ made rule content (filter (reaches (floor_of rule content)) xs)
+made-reaching rule content xs kept =
+    let floor = floor_of rule content in
+    let low = filter (falls_short floor) xs in
+    let high = filter (reaches floor) xs in
+    let below : All (λ entry. entry.utility <ℤ floor) low = All-weaker _ _ (λ entry short. short-below floor entry short) low (filter_passes (falls_short floor) xs) in
+    makes_by_members rule content xs (low ++ high) (parted-members floor xs)
+    ∙ sym (makes_in_turn rule content low high)
+    ∙ ap (λ c. made rule c high) (made-below_floor rule content low kept below)
+
+-- lists with the same members among those that pass and reach the floor make the same
+pub makes_by_reaching : MakesByReaching
+makes_by_reaching rule content xs ys kept h =
+    made-reaching rule content xs kept ∙ makes_by_passing rule content _ _ same ∙ sym (made-reaching rule content ys kept)
+  where
+    floor : ℤ
+    floor = floor_of rule content
+
+    reached : (x : Entry) → reaches floor x ≡ true → floor ≤ℤ x.utility
+    reached x e = record { le = T_from_true _ e }
+
+    same : (x : Entry) → passes rule x ≡ true → Contains (filter (reaches floor) xs) x ↔ Contains (filter (reaches floor) ys) x
+    same x passed = (
+      λ k. let from = from_filter (reaches floor) xs x k in Contains-filter (reaches floor) ys x from.1 ((h x passed (reached x from.1)).0 from.0),
+      λ k. let from = from_filter (reaches floor) ys x k in Contains-filter (reaches floor) xs x from.1 ((h x passed (reached x from.1)).1 from.0),
+    )
 
 -- the floor never falls
 keeps_floor-one : (rule : Rule) (content : List Entry) (entry : Entry) → IsKept rule content

@@ -22,6 +22,12 @@ abbrev pub MakesByPassing : Type 0
 MakesByPassing = (rule : Rule) (content xs ys : List Entry) → ((x : Entry) → passes rule x ≡ true → Contains xs x ↔ Contains ys x)
     → made rule content xs ≡ made rule content ys
 
+-- and where the content is kept, lists with the same members among those that pass and reach the floor
+abbrev pub MakesByReaching : Type 0
+MakesByReaching = (rule : Rule) (content xs ys : List Entry) → IsKept rule content
+    → ((x : Entry) → passes rule x ≡ true → floor_of rule content ≤ℤ x.utility → Contains xs x ↔ Contains ys x)
+    → made rule content xs ≡ made rule content ys
+
 -- an entry below the floor leaves the content
 abbrev pub LeavesBelowFloor : Type 0
 LeavesBelowFloor = (rule : Rule) (content : List Entry) (entry : Entry) → IsKept rule content →

@@ -1,6 +1,6 @@
 //! The laws of what collectors make, for callers to bring into their proofs by a call. They do nothing.
 
-ghost use Rattle.hu_collect.specs.Laws.{MakesInTurn, MakesByMembers, MakesByPassing, LeavesBelowFloor, KeepsFloor};
+ghost use Rattle.hu_collect.specs.Laws.{MakesInTurn, MakesByMembers, MakesByPassing, MakesByReaching, LeavesBelowFloor, KeepsFloor};
 
 /// Making of one list of entries and then of another is making of both.
 #[tactic(auto, using(crate::proofs::Made::makes_in_turn))]
@@ -18,6 +18,12 @@ pub fn law_of_members()
 #[tactic(auto, using(crate::proofs::Made::makes_by_passing))]
 pub fn law_of_passing()
     ensures { MakesByPassing }
+{}
+
+/// Where the content is kept, lists with the same members among those that pass and reach the floor make the same.
+#[tactic(auto, using(crate::proofs::Made::makes_by_reaching))]
+pub fn law_of_reaching()
+    ensures { MakesByReaching }
 {}
 
 /// An entry below the floor leaves the content.
