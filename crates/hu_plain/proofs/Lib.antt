@@ -5,3 +5,11 @@ pub mod Patterns
 pub mod CellLemmas
 pub mod RowLemmas
 pub mod SearchLemmas
+pub mod Better
+pub mod PlaceGrowth
+pub mod Reach
+pub mod Steps
+pub mod Turns
+pub mod Subsequences
+pub mod PlaceLemmas
+pub mod StepSearch

@@ -19,6 +19,11 @@ Member-at x (y ∷ ys) (suc k) below e = inr (Member-at x ys k (omega arith) e)
 pub Member-from_contains : {A : Type 0} (x : A) (xs : List A) → Contains xs x → Member x xs
 Member-from_contains x xs c = Member-at x xs c.0 c.1 c.2
 
+pub Member-at_index : {A : Type 0} (xs : List A) (i : ℕ) (d : A) → i < length xs → Member (get_or xs i d) xs
+Member-at_index [] i d within = absurd (omega arith)
+Member-at_index (x ∷ xs) zero d within = inl refl
+Member-at_index (x ∷ xs) (suc i) d within = inr (Member-at_index xs i d (omega arith))
+
 pub Member-append_left : {A : Type 0} (x : A) (xs ys : List A) → Member x xs → Member x (xs ++ ys)
 Member-append_left x [] ys m = absurd m
 Member-append_left x (z ∷ xs) ys (inl e) = inl e

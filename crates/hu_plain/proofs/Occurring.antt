@@ -3,7 +3,7 @@ use Rattle.std.proofs.Common.{◌≡◌, ℕ, ◌<◌, ◌+◌, Bool, true, fals
 use Rattle.std.specs.List.{AllByRecursion}
 use Rattle.std.specs.Ordering.{match_ordering, MatchOrdering}
 use Rattle.std.specs.BTreeSet.{insert_key}
-use Rattle.std.proofs.lemmas.Bool.{and_parts, and_from, or_cases, lt-ltb, ltb-true, eqb-true}
+use Rattle.std.proofs.lemmas.Bool.{and_parts, and_from, or_cases, or_left, or_right, lt-ltb, ltb-true, eqb-true, eq-eqb}
 use Rattle.std.proofs.lemmas.Cmp.{ranked}
 use Rattle.std.proofs.lemmas.List.Sums.{sum_by-cons}
 use Rattle.hu_kind.specs.Record.{has, holds, items_in}
@@ -69,10 +69,6 @@ Member-ranking z [] m = m
 Member-ranking z (x ∷ xs) (inl e) = Member-insert_key z x (ranking nat_cmp xs) (inl e)
 Member-ranking z (x ∷ xs) (inr m) = Member-insert_key z x (ranking nat_cmp xs) (inr (Member-ranking z xs m))
 
-pub each-ranking : (P : ℕ → Type 0) (xs : List ℕ) → AllByRecursion P xs → AllByRecursion P (ranking nat_cmp xs)
-each-ranking P [] all = tt
-each-ranking P (x ∷ xs) all = each-insert_key P x (ranking nat_cmp xs) all.0 (each-ranking P xs all.1)
-
 -- the sublists of an ascending list are its ascending lists of members
 each-sublist : (P : ℕ → Type 0) (xs s : List ℕ) → AllByRecursion P xs → Member s (sublists xs) → AllByRecursion P s
 each-sublist P [] s all (inl e) = subst (AllByRecursion P) e tt
@@ -82,7 +78,7 @@ each-sublist P (x ∷ xs) s all m = elim (Member-append_cases s (sublists xs) (m
   | inr b ↦ let from = Member-from_map (λ (r : List ℕ). x ∷ r) s (sublists xs) b in subst (AllByRecursion P) from.2 (all.0, each-sublist P xs from.0 all.1 from.1)
 ]
 
-Ascend-sublist : (xs s : List ℕ) → Ascend xs → Member s (sublists xs) → Ascend s
+pub Ascend-sublist : (xs s : List ℕ) → Ascend xs → Member s (sublists xs) → Ascend s
 Ascend-sublist [] s up (inl e) = subst Ascend e tt
 Ascend-sublist [] s up (inr m) = absurd m
 Ascend-sublist (x ∷ xs) s up m = elim (Member-append_cases s (sublists xs) (map (λ r. x ∷ r) (sublists xs)) m) [
@@ -112,6 +108,11 @@ Member-sublists (x ∷ xs) (y ∷ ys) up rise (inr m, rest) =
     let low : x < y = at_member (λ w. x < w) y xs up.0 m in
     let above : AllByRecursion (λ z. x < z) (y ∷ ys) = (low, above_all x y ys low rise.0) in
     Member-append_left (y ∷ ys) (sublists xs) (map (λ r. x ∷ r) (sublists xs)) (Member-sublists xs (y ∷ ys) up.1 rise (tail_members x xs (y ∷ ys) above (inr m, rest)))
+
+-- a list whose items stand in cells that are all above an item is above it
+pub each_above : (item : ℕ) (items : List ℕ) (cells : List (ℕ × ℤ)) → AllByRecursion (λ other. item < other) (items_in cells) → AllByRecursion (λ i. Member i (items_in cells)) items → AllByRecursion (λ other. item < other) items
+each_above item [] cells all held = tt
+each_above item (x ∷ xs) cells all held = (at_member (λ other. item < other) x (items_in cells) all held.0, each_above item xs cells all held.1)
 
 -- a count above 0 has a member that passes
 counted-cons : {A : Type 0} (p : A → Bool) (x : A) (xs : List A) (b : Bool) → p x ≡ b → 0 < cond b 1 0 + count_by p xs
@@ -145,7 +146,20 @@ holds-members (item ∷ items) cells h =
     let both = and_parts (has item cells) (holds items cells) h in
     (has-member item cells both.0, holds-members items cells both.1)
 
-each-weaker : {A : Type 0} (P Q : A → Type 0) (xs : List A) → ((x : A) → P x → Q x) → AllByRecursion P xs → AllByRecursion Q xs
+-- and holds them
+pub has-from_member : (item : ℕ) (cells : List (ℕ × ℤ)) → Member item (items_in cells) → has item cells ≡ true
+has-from_member item [] m = absurd m
+has-from_member item (cell ∷ cells) (inl e) = or_left (eqb item cell.0) (has item cells) (eq-eqb item cell.0 (sym e))
+has-from_member item (cell ∷ cells) (inr m) = or_right (eqb item cell.0) (has item cells) (has-from_member item cells m)
+
+pub holds-all : (items : List ℕ) (cells : List (ℕ × ℤ)) → AllByRecursion (λ item. Member item (items_in cells)) items → holds items cells ≡ true
+holds-all [] cells all = refl
+holds-all (item ∷ items) cells all = and_from (has item cells) (holds items cells) (has-from_member item cells all.0) (holds-all items cells all.1)
+
+pub holds-one : (item : ℕ) (cells : List (ℕ × ℤ)) → Member item (items_in cells) → holds (item ∷ []) cells ≡ true
+holds-one item cells m = holds-all (item ∷ []) cells (m, tt)
+
+pub each-weaker : {A : Type 0} (P Q : A → Type 0) (xs : List A) → ((x : A) → P x → Q x) → AllByRecursion P xs → AllByRecursion Q xs
 each-weaker P Q [] w all = tt
 each-weaker P Q (x ∷ xs) w all = (w x all.0, each-weaker P Q xs w all.1)
 
