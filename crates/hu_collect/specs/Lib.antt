@@ -1,5 +1,6 @@
 pub mod Rule
 pub mod Ranks
 pub mod Laws
+pub mod Pairs
 pub mod Top
 pub mod Rows

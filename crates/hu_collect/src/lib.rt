@@ -8,11 +8,13 @@
 
 mod all;
 mod collect;
+mod gate;
 mod laws;
 mod top;
 
 pub use all::All;
 pub use collect::Collect;
+pub use gate::{Gate, NoGate};
 pub use laws::{law_of_floors, law_of_low_entries, law_of_members, law_of_turns};
 pub use top::Top;
 

@@ -1,6 +1,6 @@
 //! Offers in turn.
 
-use crate::{All, Collect, Top};
+use crate::{All, Collect, Gate, NoGate, Top};
 use hu_kind::{Entry, Key, NoMemory};
 use std::alloc::Global;
 use std::process::Abort;
@@ -77,5 +77,11 @@ fn copies(rt: HostRuntime) -> Result<(), Fail> {
     assert_eq!(rt; key.copy_in(rt.alloc())?.numbers(), [1, 2].as_slice());
     let copy = entry_of(rt.alloc(), &[2], 7)?.copy_in(rt.alloc())?;
     expect_entries(&rt, &[copy], &[(&[2], 7)]);
+    Ok(())
+}
+
+#[test]
+fn every_pair_may_join(rt: HostRuntime) -> Result<(), Fail> {
+    assert!(rt; NoGate.may_join(0, 1));
     Ok(())
 }

@@ -3,3 +3,5 @@ mod NumberLemmas
 pub mod TokenLemmas
 pub mod RankingLemmas
 pub mod CellsLemmas
+pub mod Members
+pub mod Occurring

@@ -1,6 +1,7 @@
 -- The one order of entries: greater utility first, then the smaller key, then the smaller support.
 -- Keys are compared place by place, a proper prefix first.
-use Rattle.std.specs.Prelude.{◌≡◌, ℕ, Option, None, Some, List, [], ◌∷◌, take}
+use Rattle.std.specs.Prelude.{◌≡◌, ℕ, ◌<◌, Option, None, Some, List, [], ◌∷◌, take, ⊤}
+use Rattle.std.specs.List.{AllByRecursion}
 use Rattle.std.specs.declared.cmp.Ordering.{Ordering}
 use Rattle.std.specs.declared.cmp.Ordering.TheVariants.{Less}
 use Rattle.std.specs.Ordering.{nat_cmp, int_cmp, on, then_cmp, flip_args}
@@ -33,3 +34,8 @@ ranking cmp (x ∷ xs) = insert_key cmp (ranking cmp xs) x
 abbrev pub cut : {A : Type 0} → Option ℕ → List A → List A
 cut None xs = xs
 cut (Some k) xs = take k xs
+
+-- numbers ascend strictly
+abbrev pub Ascend : List ℕ → Type 0
+Ascend [] = ⊤
+Ascend (x ∷ xs) = AllByRecursion (λ y. x < y) xs × Ascend xs
