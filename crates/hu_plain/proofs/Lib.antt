@@ -1,5 +1,4 @@
-pub mod Members
-pub mod Occurring
+pub mod Held
 pub mod Growth
 pub mod Patterns
 pub mod CellLemmas

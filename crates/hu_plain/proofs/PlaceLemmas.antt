@@ -8,18 +8,19 @@ use Rattle.hu_kind.specs.declared.item.Item.{Item}
 use Rattle.hu_kind.specs.Cell.{pairs_of}
 use Rattle.hu_kind.specs.Record.{items_in, absolute_of, IsItemset}
 use Rattle.hu_kind.specs.Sequence.{better}
+use Rattle.hu_kind.specs.Order.{Ascend}
+use Rattle.hu_kind.proofs.Members.{Member, Member-map, Member-from_map, Member-append_left, Member-append_right, Member-append_cases, Contains-from_member, Member-from_contains, Member-from_filter}
+use Rattle.hu_kind.proofs.Occurring.{at_member, by_members}
 use Rattle.hu_collect.specs.Laws.{SameMembers}
 use Rattle.hu_plain.specs.declared.places.Step.{Step}
 use Rattle.hu_plain.specs.declared.places.Step.TheVariants.{Into, After}
 use Rattle.hu_plain.specs.declared.places.Place.{Place}
-use Rattle.hu_plain.specs.Row.{grown_rows, weight_of, Ascend}
+use Rattle.hu_plain.specs.Row.{grown_rows, weight_of}
 use Rattle.hu_plain.specs.View.{numbers_of}
 use Rattle.hu_plain.specs.Growth.{closed, grown_utility}
 use Rattle.hu_plain.specs.Place.{Places, after, all_stepped, begun, best_of, best_sum, first_places, fresh, grown_best, into, itemsets_of, occurs_at, reach_of, stepped, ArePlaces, IsAscending, IsBegun}
 use Rattle.hu_plain.specs.PlaceView.{all_places, following, joining, pushed, rows_in, step_after, step_into, place_of, places_of, AreSteps}
 use Rattle.hu_plain.proofs.Growth.{Ascend-grown_rows}
-use Rattle.hu_plain.proofs.Members.{Member, Member-map, Member-from_map, Member-append_left, Member-append_right, Member-append_cases, Contains-from_member, Member-from_contains, Member-from_filter}
-use Rattle.hu_plain.proofs.Occurring.{at_member, by_members}
 use Rattle.hu_plain.proofs.Reach.{ahead, best-within, next-within, reaches-stepped}
 use Rattle.hu_plain.proofs.RowLemmas.{Ascend-from}
 use Rattle.hu_plain.proofs.SearchLemmas.{popped}

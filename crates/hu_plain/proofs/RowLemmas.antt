@@ -13,12 +13,13 @@ use Rattle.std.proofs.lemmas.List.Sorted.{Contains-permutation, IsPermutation-sy
 use Rattle.hu_kind.specs.declared.item.Item.{Item}
 use Rattle.hu_kind.specs.Cell.{pairs_of}
 use Rattle.hu_kind.specs.Record.{items_in, absolute_of, IsRecord}
+use Rattle.hu_kind.specs.Order.{Ascend}
+use Rattle.hu_kind.proofs.Occurring.{above_all}
+use Rattle.hu_kind.proofs.Members.{Member, Member-map, Member-from_map, Contains-from_member, Member-from_contains}
 use Rattle.hu_collect.specs.Laws.{SameMembers}
 use Rattle.hu_plain.specs.declared.row.Row.{Row}
-use Rattle.hu_plain.specs.Row.{earned, tails, weight_of, Ascend, AreRows}
+use Rattle.hu_plain.specs.Row.{earned, tails, weight_of, AreRows}
 use Rattle.hu_plain.specs.View.{row_of, rows_of, first_row, numbers_of, AreLaterItems}
-use Rattle.hu_plain.proofs.Occurring.{above_all}
-use Rattle.hu_plain.proofs.Members.{Member, Member-map, Member-from_map, Contains-from_member, Member-from_contains}
 
 -- what holds of each row holds of the row at a place
 pub row_at : (P : ℤ × List (ℕ × ℤ) → Type 0) (rows : List Row) (i : ℕ) (d : Row) → AllByRecursion P (rows_of rows) → i < length rows → P (row_of (get_or rows i d))

@@ -5,6 +5,7 @@ use Rattle.std.specs.Global.{Vec}
 use Rattle.std.specs.List.{AllByRecursion}
 use Rattle.hu_kind.specs.declared.entry.Entry.{Entry}
 use Rattle.hu_kind.specs.Sequence.{sequence_patterns}
+use Rattle.hu_kind.proofs.Members.{Member-from_contains, Contains-from_member}
 use Rattle.hu_collect.specs.Rule.{Rule, made, IsKept, MakesSome}
 use Rattle.hu_collect.specs.Laws.{MakesInTurn, MakesByMembers}
 use Rattle.hu_plain.specs.declared.places.Step.{Step}
@@ -13,7 +14,7 @@ use Rattle.hu_plain.specs.Makes.{MakesAllOf, MakesSomeOf}
 use Rattle.hu_plain.specs.Growth.{prefix_entry, stepped_key, Grows}
 use Rattle.hu_plain.specs.Place.{Places, all_stepped, first_places, ArePlaces, IsAscending}
 use Rattle.hu_plain.specs.PlaceView.{all_places, AreSteps}
-use Rattle.hu_plain.proofs.Members.{Member-at_index, Member-from_contains, Contains-from_member}
+use Rattle.hu_plain.proofs.Held.{Member-at_index}
 use Rattle.hu_plain.proofs.Reach.{left_in, left_in-stepped}
 use Rattle.hu_plain.proofs.PlaceLemmas.{records-ascending}
 use Rattle.hu_plain.proofs.Steps.{GrowsBy, begun-stepped, grows-from_step, grows-by_step}

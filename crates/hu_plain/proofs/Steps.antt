@@ -7,16 +7,17 @@ use Rattle.hu_kind.specs.declared.entry.Entry.{Entry}
 use Rattle.hu_kind.specs.declared.item.Item.{Item}
 use Rattle.hu_kind.specs.Record.{holds, values_of, items_in}
 use Rattle.hu_kind.specs.Sequence.{better, best_utility, sequence_key}
+use Rattle.hu_kind.specs.Order.{Ascend}
+use Rattle.hu_kind.proofs.Members.{Member, Member-append_left, Member-append_right, Member-append_cases, Member-flat_map, Member-from_flat_map, Member-from_filter, Member-from_map, Member-from_contains}
+use Rattle.hu_kind.proofs.Occurring.{at_member, by_members, counted, count-member, holds-members}
 use Rattle.hu_plain.specs.declared.places.Step.{Step}
 use Rattle.hu_plain.specs.declared.places.Step.TheVariants.{Into, After}
-use Rattle.hu_plain.specs.Row.{Ascend}
 use Rattle.hu_plain.specs.Growth.{closed, grown_support, grown_utility, growth_entry, prefix_entry, stepped_key, Grows}
 use Rattle.hu_plain.specs.Place.{Places, after, all_stepped, begun, best_from, best_of, best_sum, fresh, grown_best, into, itemsets_of, occurs_at, stepped, IsAscending, IsBegun}
 use Rattle.hu_plain.specs.PlaceView.{following, joining, AreSteps}
 use Rattle.hu_plain.proofs.Better.{some_cases, some_left, some_right}
 use Rattle.hu_plain.proofs.Growth.{above-grown_rows}
-use Rattle.hu_plain.proofs.Members.{Member, Member-append_left, Member-append_right, Member-append_cases, Member-flat_map, Member-from_flat_map, Member-from_filter, Member-from_map, Member-from_contains}
-use Rattle.hu_plain.proofs.Occurring.{at_member, each_above, by_members, counted, count-member, holds-members, holds-one}
+use Rattle.hu_plain.proofs.Held.{each_above, holds-one}
 use Rattle.hu_plain.proofs.PlaceGrowth.{grown_best-into, grown_best-after, grown_best-alone}
 
 -- the further items and itemsets that a growth has before a step, by those that it has after it

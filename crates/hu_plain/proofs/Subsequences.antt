@@ -8,12 +8,13 @@ use Rattle.hu_kind.specs.declared.entry.Entry.{Entry}
 use Rattle.hu_kind.specs.Record.{holds, values_of, items_in}
 use Rattle.hu_kind.specs.Itemsets.{sublists}
 use Rattle.hu_kind.specs.Sequence.{better, best_utility, led_by, subsequences, sequence_entry, sequence_patterns, sequence_support, sequence_utility}
-use Rattle.hu_plain.specs.Row.{Ascend}
+use Rattle.hu_kind.specs.Order.{Ascend}
+use Rattle.hu_kind.proofs.Members.{Member, Member-flat_map, Member-from_flat_map, Member-map, Member-from_map, Member-filter, Member-from_filter}
+use Rattle.hu_kind.proofs.Occurring.{Member-sublists, at_member, counted, count-member, holds-members}
 use Rattle.hu_plain.specs.Growth.{grown_support, grown_utility, growth_entry, Grows}
 use Rattle.hu_plain.specs.Place.{best_from, first_places, grown_best, itemsets_of}
 use Rattle.hu_plain.proofs.Better.{some_cases, some_left, some_right, some_map}
-use Rattle.hu_plain.proofs.Members.{Member, Member-flat_map, Member-from_flat_map, Member-map, Member-from_map, Member-filter, Member-from_filter, Member-append_cases}
-use Rattle.hu_plain.proofs.Occurring.{Ascend-sublist, Member-sublists, at_member, counted, count-member, each-weaker, holds-all, holds-members}
+use Rattle.hu_plain.proofs.Held.{members-sublist, Ascend-sublist, holds-all}
 
 -- an itemset of a pattern: some items, ascending
 abbrev pub IsSome_ascending : List ℕ → Type 0
@@ -38,17 +39,6 @@ sub-ascending (e ∷ es) pattern up m =
     (led-ascending by_set.0 rest.0 (Ascend-sublist (items_in e) by_set.0 up.0 by_set.1) (sub-ascending es rest.0 up.1 rest.1))
 
 -- each subsequence occurs
-members-sublist : (xs s : List ℕ) → Member s (sublists xs) → AllByRecursion (λ y. Member y xs) s
-members-sublist [] s (inl e) = subst (λ t. AllByRecursion (λ y. Member y []) t) e tt
-members-sublist [] s (inr m) = absurd m
-members-sublist (x ∷ xs) s m = elim (Member-append_cases s (sublists xs) (map (λ r. x ∷ r) (sublists xs)) m) [
-  | inl a ↦ later s (members-sublist xs s a)
-  | inr b ↦ let from = Member-from_map (λ (r : List ℕ). x ∷ r) s (sublists xs) b in subst (λ t. AllByRecursion (λ y. Member y (x ∷ xs)) t) from.2 (inl refl, later from.0 (members-sublist xs from.0 from.1))
-]
-  where
-    later : (t : List ℕ) → AllByRecursion (λ y. Member y xs) t → AllByRecursion (λ y. Member y (x ∷ xs)) t
-    later t all = each-weaker (λ y. Member y xs) (λ y. Member y (x ∷ xs)) t (λ y n. inr n) all
-
 some-here : (b : Bool) (v : ℤ) (u : Option ℤ) → b ≡ true → is_some u ≡ true → is_some (cond b (option_map (λ x. v +ℤ x) u) None) ≡ true
 some-here true v u e h = some_map (λ x. v +ℤ x) u ∙ h
 some-here false v u e h = cc

@@ -5,9 +5,9 @@ use Rattle.std.specs.List.{count_by, AllByRecursion}
 use Rattle.hu_kind.specs.declared.entry.Entry.{Entry}
 use Rattle.hu_kind.specs.Sequence.{sequence_key}
 use Rattle.hu_kind.specs.Rows.{later_is_greatest, sequence_entry_of}
+use Rattle.hu_kind.specs.Order.{Ascend}
 use Rattle.hu_plain.specs.declared.places.Step.{Step}
 use Rattle.hu_plain.specs.declared.places.Step.TheVariants.{Into, After}
-use Rattle.hu_plain.specs.Row.{Ascend}
 use Rattle.hu_plain.specs.Place.{Places, after, first_places, grown_best}
 
 -- the utility of a grown prefix

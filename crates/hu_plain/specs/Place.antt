@@ -7,9 +7,10 @@ use Rattle.std.specs.List.{filter, sum_by, AllByRecursion}
 use Rattle.hu_kind.specs.Record.{holds, values_of, items_in, absolute_of}
 use Rattle.hu_kind.specs.Rows.{later_is_greatest}
 use Rattle.hu_kind.specs.Sequence.{better, best_utility}
+use Rattle.hu_kind.specs.Order.{Ascend}
 use Rattle.hu_plain.specs.declared.places.Step.{Step}
 use Rattle.hu_plain.specs.declared.places.Step.TheVariants.{Into, After}
-use Rattle.hu_plain.specs.Row.{grown_rows, Ascend}
+use Rattle.hu_plain.specs.Row.{grown_rows}
 
 -- the places of a record
 abbrev pub Places : Type 0

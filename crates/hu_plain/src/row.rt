@@ -5,8 +5,9 @@ ghost use Rattle.std.specs.List.{sum_by};
 ghost use Rattle.std.specs.List.Sorted.{IsPartitionPoint};
 ghost use Rattle.hu_kind.specs.Cell.{pairs_of};
 ghost use Rattle.hu_kind.specs.Record.{items_in, absolute_of};
+ghost use Rattle.hu_kind.specs.Order.{Ascend};
 ghost use Rattle.hu_collect.specs.Laws.{SameMembers};
-ghost use Rattle.hu_plain.specs.Row.{earned, grown_row, grown_rows, weight_of, Ascend, AreRows};
+ghost use Rattle.hu_plain.specs.Row.{earned, grown_row, grown_rows, weight_of, AreRows};
 ghost use Rattle.hu_plain.specs.View.{row_of, rows_of, first_row, numbers_of, AreLaterItems};
 
 use hu_kind::{Cell, Item, NoMemory, Record};

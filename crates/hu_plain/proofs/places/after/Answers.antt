@@ -3,8 +3,9 @@ use Rattle.std.specs.List.{AllByRecursion}
 use Rattle.hu_kind.specs.Cell.{pairs_of}
 use Rattle.hu_kind.specs.Record.{items_in}
 use Rattle.hu_kind.specs.Sequence.{better}
+use Rattle.hu_kind.specs.Order.{Ascend}
 use Rattle.hu_plain.specs.declared.places.Place.{Place}
-use Rattle.hu_plain.specs.Row.{grown_rows, Ascend}
+use Rattle.hu_plain.specs.Row.{grown_rows}
 use Rattle.hu_plain.specs.Place.{IsAscending}
 use Rattle.hu_plain.specs.PlaceView.{pushed, places_of}
 use Rattle.hu_plain.proofs.PlaceLemmas.{place_at, joined-next, within-next}
