@@ -8,7 +8,8 @@ use Rattle.std.proofs.lemmas.List.Sums.{sum_by-cons}
 use Rattle.hu_kind.specs.declared.item.Cell.{Cell}
 use Rattle.hu_kind.specs.Cell.{pairs_of, pair_of}
 use Rattle.hu_kind.specs.Record.{items_in, absolute_of}
-use Rattle.hu_plain.specs.Row.{grown_row, Ascend}
+use Rattle.hu_kind.specs.Order.{Ascend}
+use Rattle.hu_plain.specs.Row.{grown_row}
 
 above-at : (x : ℕ) (cells : List Cell) (k : ℕ) (d : Cell) → AllByRecursion (λ y. x < y) (items_in (pairs_of cells)) → k < length cells → x < (get_or cells k d).item.0
 above-at x [] k d above within = absurd (omega arith)

@@ -7,25 +7,26 @@ use Rattle.std.proofs.lemmas.Bool.{eq-eqb, ne_eqb, cases_order, cases_eq}
 use Rattle.std.proofs.lemmas.List.Sums.{sum_by-cons, sum_by-append}
 use Rattle.hu_kind.specs.Record.{has, holds, values_of, items_in}
 use Rattle.hu_kind.specs.Database.{support}
-use Rattle.hu_plain.specs.Row.{earned_in, earned, tails, grown_row, grown_rows, weight_of, Ascend, AreRows}
-use Rattle.hu_plain.proofs.Members.{Member, Member-append_cases}
-use Rattle.hu_plain.proofs.Occurring.{above_all}
+use Rattle.hu_kind.specs.Order.{Ascend}
+use Rattle.hu_kind.proofs.Members.{Member, Member-append_cases}
+use Rattle.hu_kind.proofs.Occurring.{above_all}
+use Rattle.hu_plain.specs.Row.{earned_in, earned, tails, grown_row, grown_rows, weight_of, AreRows}
 
 -- a cell before all items of a set changes nothing
-holds-skip : (cell : ℕ × ℤ) (cells : List (ℕ × ℤ)) (items : List ℕ) → AllByRecursion (λ item. cell.0 < item) items → holds items (cell ∷ cells) ≡ holds items cells
+pub holds-skip : (cell : ℕ × ℤ) (cells : List (ℕ × ℤ)) (items : List ℕ) → AllByRecursion (λ item. cell.0 < item) items → holds items (cell ∷ cells) ≡ holds items cells
 holds-skip cell cells [] above = refl
 holds-skip cell cells (item ∷ items) above =
     let no : eqb item cell.0 ≡ false = ne_eqb item cell.0 (λ e. absurd (omega arith)) in
     simp (no, holds-skip cell cells items above.1)
 
-values_of-skip : (cell : ℕ × ℤ) (cells : List (ℕ × ℤ)) (items : List ℕ) → AllByRecursion (λ item. cell.0 < item) items → values_of items (cell ∷ cells) ≡ values_of items cells
+pub values_of-skip : (cell : ℕ × ℤ) (cells : List (ℕ × ℤ)) (items : List ℕ) → AllByRecursion (λ item. cell.0 < item) items → values_of items (cell ∷ cells) ≡ values_of items cells
 values_of-skip cell cells [] above = refl
 values_of-skip cell cells (item ∷ items) above =
     let no : eqb item cell.0 ≡ false = ne_eqb item cell.0 (λ e. absurd (omega arith)) in
     simp (no, values_of-skip cell cells items above.1)
 
 -- an item before all cells isn't there, and no row grows by it
-has-before : (item : ℕ) (cells : List (ℕ × ℤ)) → AllByRecursion (λ other. item < other) (items_in cells) → has item cells ≡ false
+pub has-before : (item : ℕ) (cells : List (ℕ × ℤ)) → AllByRecursion (λ other. item < other) (items_in cells) → has item cells ≡ false
 has-before item [] above = refl
 has-before item (cell ∷ cells) above =
     let no : eqb item cell.0 ≡ false = ne_eqb item cell.0 (λ e. absurd (omega arith)) in
@@ -112,7 +113,7 @@ support-grown_rows item items (row ∷ rows) up above =
     apart ∙ both ∙ ap (λ z. z + support (tails (grown_rows item rows)) items) first ∙ ap (λ z. cond (holds (item ∷ items) row.1) 1 0 + z) rest ∙ sym whole
 
 -- the cells of grown rows ascend, and come after the item
-each-append : {A : Type 0} (P : A → Type 0) (xs ys : List A) → AllByRecursion P xs → AllByRecursion P ys → AllByRecursion P (xs ++ ys)
+pub each-append : {A : Type 0} (P : A → Type 0) (xs ys : List A) → AllByRecursion P xs → AllByRecursion P ys → AllByRecursion P (xs ++ ys)
 each-append P [] ys a b = b
 each-append P (x ∷ xs) ys a b = (a.0, each-append P xs ys a.1 b)
 

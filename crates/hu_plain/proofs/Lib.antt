@@ -1,7 +1,14 @@
-pub mod Members
-pub mod Occurring
+pub mod Held
 pub mod Growth
 pub mod Patterns
 pub mod CellLemmas
 pub mod RowLemmas
 pub mod SearchLemmas
+pub mod Better
+pub mod PlaceGrowth
+pub mod Reach
+pub mod Steps
+pub mod Turns
+pub mod Subsequences
+pub mod PlaceLemmas
+pub mod StepSearch

@@ -1,15 +1,16 @@
 -- The patterns that grow a prefix are, for each item that occurs after it, the item's own and those that grow it.
-use Rattle.std.proofs.Common.{◌≡◌, ℕ, ◌<◌, Bool, true, false, cond, eqb, ℤ, pos, ◌+ℤ◌, List, [], ◌∷◌, ◌++◌, map, refl, sym, ap, ◌∙◌, subst, inl, inr, arith, flat_map, append_assoc}
+use Rattle.std.proofs.Common.{◌≡◌, ℕ, ◌<◌, Bool, true, false, cond, ℤ, pos, ◌+ℤ◌, List, [], ◌∷◌, ◌++◌, map, refl, sym, ap, ◌∙◌, subst, inl, inr, arith, flat_map, append_assoc}
 use Rattle.std.specs.List.{AllByRecursion}
 use Rattle.std.proofs.lemmas.Int.{ints}
-use Rattle.std.proofs.lemmas.Bool.{eq-eqb, or_left, or_right, and_from}
 use Rattle.hu_kind.specs.declared.entry.Entry.{Entry}
-use Rattle.hu_kind.specs.Record.{has, holds, items_in, values_of}
+use Rattle.hu_kind.specs.Record.{holds, items_in, values_of}
 use Rattle.hu_kind.specs.Database.{support, utility}
 use Rattle.hu_kind.specs.Itemsets.{occurring_sets, item_entry, item_patterns}
-use Rattle.hu_plain.specs.Row.{earned, tails, grown_entry, grown_patterns, grown_rows, Ascend}
-use Rattle.hu_plain.proofs.Members.{Member, Member-map, Member-from_map, Member-from_flat_map}
-use Rattle.hu_plain.proofs.Occurring.{Occurs, Occurs-from_member, Member-from_occurs, counted, count-member, held-members, holds-members, at_member}
+use Rattle.hu_kind.specs.Order.{Ascend}
+use Rattle.hu_kind.proofs.Members.{Member, Member-map, Member-from_map, Member-from_flat_map}
+use Rattle.hu_kind.proofs.Occurring.{Occurs, Occurs-from_member, Member-from_occurs, counted, count-member, held-members, holds-members, at_member}
+use Rattle.hu_plain.specs.Row.{earned, tails, grown_entry, grown_patterns, grown_rows}
+use Rattle.hu_plain.proofs.Held.{holds-one, each_above}
 use Rattle.hu_plain.proofs.Growth.{earned-grown_rows, support-grown_rows, above-grown_rows}
 
 -- the entries of the sets that grow a prefix and begin with an item
@@ -26,11 +27,7 @@ module _ (prefix : List ℤ) (rows : List (ℤ × List (ℕ × ℤ))) (up : AllB
       let later : AllByRecursion (λ other. item < other) (items_in row.0.1) =
       at_member (λ (r : ℤ × List (ℕ × ℤ)). AllByRecursion (λ other. item < other) (items_in r.1)) row.0 (grown_rows item rows) (above-grown_rows item rows up) row.1 in
       let after : AllByRecursion (λ other. item < other) (items_in found.0) = subst (λ t. AllByRecursion (λ other. item < other) (items_in t)) row.2 later in
-      each_above items found.0 after (holds-members items found.0 found.2)
-    where
-      each_above : (some : List ℕ) (cells : List (ℕ × ℤ)) → AllByRecursion (λ other. item < other) (items_in cells) → AllByRecursion (λ i. Member i (items_in cells)) some → AllByRecursion (λ other. item < other) some
-      each_above [] cells all held = tt
-      each_above (x ∷ xs) cells all held = (at_member (λ other. item < other) x (items_in cells) all held.0, each_above xs cells all held.1)
+      each_above item items found.0 after (holds-members items found.0 found.2)
 
   -- the entry of the grown prefix with a set is that of the prefix with the item and the set
   entry-grown : (items : List ℕ) → AllByRecursion (λ other. item < other) items
@@ -45,16 +42,11 @@ module _ (prefix : List ℤ) (rows : List (ℤ × List (ℕ × ℤ))) (up : AllB
   pub patterns_from-grown : (entry : Entry) → Member item (flat_map items_in (tails rows)) → Member entry (patterns_from prefix rows item) → Member entry (grown_patterns prefix rows)
   patterns_from-grown entry occurs (inl e) =
       let found = Member-from_flat_map items_in item (tails rows) occurs in
-      let alone : holds (item ∷ []) found.0 ≡ true = and_from (has item found.0) true (has-from_member item found.0 found.2) refl in
+      let alone = holds-one item found.0 found.2 in
       let o : Occurs (tails rows) (item ∷ []) = record { some = omega arith; ascending = (tt, tt); held = count-member (holds (item ∷ [])) found.0 (tails rows) found.1 alone } in
       let m = Member-map (grown_entry prefix rows) (item ∷ []) (occurring_sets (tails rows)) (Member-from_occurs (tails rows) (item ∷ []) o) in
       let P : Entry → Type 0 = λ x. Member x (grown_patterns prefix rows) in
       subst P (sym (entry-grown [] tt) ∙ e) m
-    where
-      has-from_member : (x : ℕ) (cells : List (ℕ × ℤ)) → Member x (items_in cells) → has x cells ≡ true
-      has-from_member x [] m = absurd m
-      has-from_member x (cell ∷ cells) (inl e) = or_left (eqb x cell.0) (has x cells) (eq-eqb x cell.0 (sym e))
-      has-from_member x (cell ∷ cells) (inr m) = or_right (eqb x cell.0) (has x cells) (has-from_member x cells m)
   patterns_from-grown entry occurs (inr m) =
       let from = Member-from_map (grown_entry (prefix ++ pos item ∷ []) (grown_rows item rows)) entry (occurring_sets (tails (grown_rows item rows))) m in
       let items = from.0 in

@@ -1,25 +1,25 @@
 -- Rows, by their places.
-use Rattle.std.proofs.Common.{◌≡◌, ℕ, zero, suc, ◌<◌, ◌≤◌, ◌+◌, ◌^◌, true, ℤ, ◌+ℤ◌, unsigned_abs, List, [], ◌∷◌, ◌++◌, map, length, get_or, take, refl, sym, ap, ◌∙◌, subst, arith, sum_by, flat_map, nat_eq, Contains, IsPermutation}
-use Rattle.std.specs.List.{AllByRecursion, AllAdjacentBelow, dedup}
+use Rattle.std.proofs.Common.{◌≡◌, ℕ, zero, suc, ◌<◌, ◌≤◌, ◌+◌, ◌^◌, true, ℤ, ◌+ℤ◌, unsigned_abs, List, [], ◌∷◌, ◌++◌, map, length, get_or, take, refl, sym, ap, subst, arith, sum_by, flat_map, nat_eq, Contains, IsPermutation}
+use Rattle.std.specs.List.{AllByRecursion, AllAdjacentBelow}
 use Rattle.std.specs.List.Retain.{IsFiltered, DiffersFromLast}
 use Rattle.std.specs.Ordering.{on}
 use Rattle.std.proofs.lemmas.Int.{ints}
 use Rattle.std.proofs.lemmas.Bool.{eqb-true}
 use Rattle.std.proofs.lemmas.Cmp.{on_equiv, nat_eq_equiv}
-use Rattle.std.proofs.lemmas.List.{map-append}
 use Rattle.std.proofs.lemmas.List.Sums.{sum_by-cons}
 use Rattle.std.proofs.lemmas.List.Filters.{dedup_is}
 use Rattle.std.proofs.lemmas.List.Kept.{Contains-dedup, Contains-from_dedup}
 use Rattle.std.proofs.lemmas.List.Sorted.{Contains-permutation, IsPermutation-sym}
 use Rattle.hu_kind.specs.declared.item.Item.{Item}
-use Rattle.hu_kind.specs.declared.item.Cell.{Cell}
 use Rattle.hu_kind.specs.Cell.{pairs_of}
 use Rattle.hu_kind.specs.Record.{items_in, absolute_of, IsRecord}
+use Rattle.hu_kind.specs.Order.{Ascend}
+use Rattle.hu_kind.proofs.Occurring.{above_all}
+use Rattle.hu_kind.proofs.Members.{Member, Member-map, Member-from_map, Contains-from_member, Member-from_contains}
+use Rattle.hu_collect.specs.Laws.{SameMembers}
 use Rattle.hu_plain.specs.declared.row.Row.{Row}
-use Rattle.hu_plain.specs.Row.{earned, tails, weight_of, Ascend, AreRows}
-use Rattle.hu_plain.specs.View.{row_of, rows_of, first_row, item_of, numbers_of, AreLaterItems}
-use Rattle.hu_plain.proofs.Occurring.{above_all}
-use Rattle.hu_plain.proofs.Members.{Member, Member-map, Member-from_map, Contains-from_member, Member-from_contains}
+use Rattle.hu_plain.specs.Row.{earned, tails, weight_of, AreRows}
+use Rattle.hu_plain.specs.View.{row_of, rows_of, first_row, numbers_of, AreLaterItems}
 
 -- what holds of each row holds of the row at a place
 pub row_at : (P : ℤ × List (ℕ × ℤ) → Type 0) (rows : List Row) (i : ℕ) (d : Row) → AllByRecursion P (rows_of rows) → i < length rows → P (row_of (get_or rows i d))
@@ -52,53 +52,35 @@ earned-within (row ∷ rows) (suc i) = let ih = earned-within rows i in omega (a
 pub sum-within : (rows : List Row) (i : ℕ) (d : Row) → i < length rows → unsigned_abs (earned (rows_of (take i rows)) [] +ℤ (get_or rows i d).earned) ≤ sum_by weight_of (rows_of rows)
 sum-within rows i d within = rw (← earned-more rows i d within) (earned-within rows (suc i))
 
--- the items of rows are the numbers in their cells
-numbers-cells : (cells : List Cell) → numbers_of (map item_of cells) ≡ items_in (pairs_of cells)
-numbers-cells [] = refl
-numbers-cells (cell ∷ cells) = ap (λ xs. cell.item.0 ∷ xs) (numbers-cells cells)
-
-numbers-rows : (rows : List Row) → numbers_of (flat_map (λ (row : Row). map item_of row.tail.now) rows) ≡ flat_map items_in (tails (rows_of rows))
-numbers-rows [] = refl
-numbers-rows (row ∷ rows) =
-    map-append (λ (item : Item). item.0) (map item_of row.tail.now) (flat_map (λ (row : Row). map item_of row.tail.now) rows)
-    ∙ ap (λ xs. xs ++ numbers_of (flat_map (λ (row : Row). map item_of row.tail.now) rows)) (numbers-cells row.tail.now)
-    ∙ ap (λ xs. items_in (pairs_of row.tail.now) ++ xs) (numbers-rows rows)
-
+-- sorting and dropping repeats keeps which items there are
 exact_item : (x y : Item) → on (λ (item : Item). item.0) nat_eq x y ≡ true → x ≡ y
 exact_item x y h = let item : ℕ → Item = λ n. record { 0 = n } in ap item (eqb-true x.0 y.0 h)
 
--- sorting and dropping repeats keeps which items there are
-pub AreLaterItems-from : (rows : List Row) (items sorted kept : List Item) → items ≡ flat_map (λ (row : Row). map item_of row.tail.now) rows
-    → IsPermutation items sorted → IsFiltered (DiffersFromLast (on (λ (item : Item). item.0) nat_eq)) [] sorted kept → AreLaterItems (rows_of rows) kept
-AreLaterItems-from rows items sorted kept is moved filtered number = (to, from)
-  where
-    same : numbers_of items ≡ flat_map items_in (tails (rows_of rows))
-    same = ap numbers_of is ∙ numbers-rows rows
+pub SameMembers-distinct : (items sorted kept : List Item) → IsPermutation items sorted → IsFiltered (DiffersFromLast (on (λ (item : Item). item.0) nat_eq)) [] sorted kept → SameMembers items kept
+SameMembers-distinct items sorted kept moved filtered item =
+    let is = dedup_is (on (λ (item : Item). item.0) nat_eq) sorted kept filtered in (
+      λ c. subst (λ xs. Contains xs item) (sym is) (Contains-dedup (on_equiv (λ (item : Item). item.0) nat_eq_equiv) exact_item sorted item (Contains-permutation items sorted item moved c)),
+      λ c. Contains-permutation sorted items item (IsPermutation-sym items sorted moved) (Contains-from_dedup (on (λ (item : Item). item.0) nat_eq) sorted item (subst (λ xs. Contains xs item) is c)),
+    )
 
-    kept_is : kept ≡ dedup (on (λ (item : Item). item.0) nat_eq) sorted
-    kept_is = dedup_is (on (λ (item : Item). item.0) nat_eq) sorted kept filtered
+-- and so which numbers there are
+Contains-numbers : (items others : List Item) → ((item : Item) → Contains items item → Contains others item) → (n : ℕ) → Contains (numbers_of items) n → Contains (numbers_of others) n
+Contains-numbers items others each n c =
+    let found = Member-from_map (λ (item : Item). item.0) n items (Member-from_contains n (numbers_of items) c) in
+    let m = Member-map (λ (item : Item). item.0) found.0 others (Member-from_contains found.0 others (each found.0 (Contains-from_member found.0 items found.1))) in
+    Contains-from_member n (numbers_of others) (subst (λ x. Member x (numbers_of others)) found.2 m)
 
-    to : Contains (numbers_of kept) number → Contains (flat_map items_in (tails (rows_of rows))) number
-    to c =
-        let found = Member-from_map (λ (item : Item). item.0) number kept (Member-from_contains number (numbers_of kept) c) in
-        let in_kept = Contains-from_member found.0 kept found.1 in
-        let in_sorted = Contains-from_dedup (on (λ (item : Item). item.0) nat_eq) sorted found.0 (subst (λ xs. Contains xs found.0) kept_is in_kept) in
-        let in_items = Contains-permutation sorted items found.0 (IsPermutation-sym items sorted moved) in_sorted in
-        let m = Member-map (λ (item : Item). item.0) found.0 items (Member-from_contains found.0 items in_items) in
-        let m' = subst (λ n. Member n (numbers_of items)) found.2 m in
-        Contains-from_member number (flat_map items_in (tails (rows_of rows))) (subst (λ xs. Member number xs) same m')
+pub numbers-distinct : (items kept : List Item) (numbers : List ℕ) → numbers_of items ≡ numbers → SameMembers items kept → SameMembers numbers (numbers_of kept)
+numbers-distinct items kept numbers is same n = (
+  λ c. Contains-numbers items kept (λ item. (same item).0) n (subst (λ xs. Contains xs n) (sym is) c),
+  λ c. subst (λ xs. Contains xs n) is (Contains-numbers kept items (λ item. (same item).1) n c),
+)
 
-    from : Contains (flat_map items_in (tails (rows_of rows))) number → Contains (numbers_of kept) number
-    from c =
-        let m = subst (λ xs. Member number xs) (sym same) (Member-from_contains number (flat_map items_in (tails (rows_of rows))) c) in
-        let found = Member-from_map (λ (item : Item). item.0) number items m in
-        let in_sorted = Contains-permutation items sorted found.0 moved (Contains-from_member found.0 items found.1) in
-        let in_kept = Contains-dedup (on_equiv (λ (item : Item). item.0) nat_eq_equiv) exact_item sorted found.0 in_sorted in
-        let m' = Member-map (λ (item : Item). item.0) found.0 kept (Member-from_contains found.0 kept (subst (λ xs. Contains xs found.0) (sym kept_is) in_kept)) in
-        Contains-from_member number (numbers_of kept) (subst (λ n. Member n (numbers_of kept)) found.2 m')
+pub AreLaterItems-from : (rows : List Row) (items kept : List Item) → numbers_of items ≡ flat_map items_in (tails (rows_of rows)) → SameMembers items kept → AreLaterItems (rows_of rows) kept
+AreLaterItems-from rows items kept is same n = let both = numbers-distinct items kept (flat_map items_in (tails (rows_of rows))) is same n in (both.1, both.0)
 
 -- the cells of a record ascend
-Ascend-from : (first : ℕ × ℤ) (cells : List (ℕ × ℤ)) → AllAdjacentBelow (λ a b. a.0 < b.0) (first ∷ cells) (length (first ∷ cells)) → Ascend (items_in (first ∷ cells))
+pub Ascend-from : (first : ℕ × ℤ) (cells : List (ℕ × ℤ)) → AllAdjacentBelow (λ a b. a.0 < b.0) (first ∷ cells) (length (first ∷ cells)) → Ascend (items_in (first ∷ cells))
 Ascend-from first [] up = (tt, tt)
 Ascend-from first (next ∷ cells) up =
     let up' : AllAdjacentBelow (λ (a b : ℕ × ℤ). a.0 < b.0) (next ∷ cells) (length (next ∷ cells)) =

@@ -9,14 +9,15 @@ use Rattle.hu_kind.specs.declared.entry.Entry.{Entry}
 use Rattle.hu_kind.specs.Record.{holds, items_in}
 use Rattle.hu_kind.specs.Database.{support}
 use Rattle.hu_kind.specs.Itemsets.{item_patterns}
+use Rattle.hu_kind.specs.Order.{Ascend}
+use Rattle.hu_kind.specs.declared.item.Item.{Item}
+use Rattle.hu_kind.proofs.Members.{Member, Member-append_cases, Member-flat_map, Member-from_flat_map, Member-from_contains, Contains-from_member}
 use Rattle.hu_collect.specs.Rule.{Rule, made, IsKept}
 use Rattle.hu_collect.specs.Laws.{MakesInTurn, MakesByMembers, SameMembers}
-use Rattle.hu_plain.specs.declared.row.Row.{Row}
-use Rattle.hu_plain.specs.Row.{earned, tails, grown_entry, grown_patterns, grown_rows, Ascend, AreRows}
-use Rattle.hu_kind.specs.declared.item.Item.{Item}
-use Rattle.hu_plain.specs.View.{rows_of, row_of, first_row, numbers_of, AreLaterItems}
 use Rattle.hu_collect.specs.Rule.{MakesSome}
-use Rattle.hu_plain.proofs.Members.{Member, Member-append_cases, Member-flat_map, Member-from_flat_map, Member-from_contains, Contains-from_member}
+use Rattle.hu_plain.specs.declared.row.Row.{Row}
+use Rattle.hu_plain.specs.Row.{earned, tails, grown_entry, grown_patterns, grown_rows, AreRows}
+use Rattle.hu_plain.specs.View.{rows_of, row_of, first_row, numbers_of, AreLaterItems}
 use Rattle.hu_plain.proofs.Patterns.{patterns_from, patterns_from-grown, grown-patterns_from, item_patterns-grown}
 
 -- all rows hold the prefix

@@ -1,11 +1,12 @@
 -- A search keeps a row for each record that holds its prefix: what the prefix earns there, and the record's cells
 -- after the prefix. A row is a pair (earned, cells).
-use Rattle.std.specs.Prelude.{◌≡◌, refl, ℕ, ◌+◌, ◌^◌, ◌<◌, ◌==◌, ℤ, pos, ◌+ℤ◌, unsigned_abs, List, [], ◌∷◌, ◌++◌, map, if◌then◌else◌, ⊤}
+use Rattle.std.specs.Prelude.{◌≡◌, refl, ℕ, ◌+◌, ◌^◌, ◌<◌, ◌==◌, ℤ, pos, ◌+ℤ◌, unsigned_abs, List, [], ◌∷◌, ◌++◌, map, if◌then◌else◌}
 use Rattle.std.specs.List.{flat_map, sum_by, AllByRecursion}
 use Rattle.hu_kind.specs.declared.entry.Entry.{Entry}
 use Rattle.hu_kind.specs.Record.{holds, values_of, items_in, absolute_of}
 use Rattle.hu_kind.specs.Database.{support}
 use Rattle.hu_kind.specs.Itemsets.{occurring_sets}
+use Rattle.hu_kind.specs.Order.{Ascend}
 use Rattle.hu_kind.specs.Rows.{base_a, entry_of}
 
 -- what a prefix and a set of later items earn in a row: 0 where its cells don't hold the set
@@ -37,11 +38,6 @@ grown_row item sum (cell ∷ cells) = if item == cell.0 then (sum +ℤ cell.1, c
 -- the rows of a prefix with one more item
 abbrev pub grown_rows : ℕ → List (ℤ × List (ℕ × ℤ)) → List (ℤ × List (ℕ × ℤ))
 grown_rows item rows = flat_map (λ row. grown_row item row.0 row.1) rows
-
--- numbers ascend strictly
-abbrev pub Ascend : List ℕ → Type 0
-Ascend [] = ⊤
-Ascend (x ∷ xs) = AllByRecursion (λ y. x < y) xs × Ascend xs
 
 -- the absolute values of a row, summed
 abbrev pub weight_of : ℤ × List (ℕ × ℤ) → ℕ

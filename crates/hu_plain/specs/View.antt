@@ -2,7 +2,6 @@
 use Rattle.std.specs.Prelude.{◌↔◌, ℕ, ℤ, pos, List, map}
 use Rattle.std.specs.List.{Contains, flat_map}
 use Rattle.hu_kind.specs.declared.item.Item.{Item}
-use Rattle.hu_kind.specs.declared.item.Cell.{Cell}
 use Rattle.hu_kind.specs.Cell.{pairs_of}
 use Rattle.hu_kind.specs.Record.{items_in}
 use Rattle.hu_plain.specs.declared.row.Row.{Row}
@@ -19,10 +18,6 @@ rows_of rows = map row_of rows
 -- the row of the empty prefix in a record
 abbrev pub first_row : List (ℕ × ℤ) → ℤ × List (ℕ × ℤ)
 first_row cells = (pos 0, cells)
-
--- the item of a cell
-abbrev pub item_of : Cell → Item
-item_of cell = cell.item
 
 -- the numbers of items
 abbrev pub numbers_of : List Item → List ℕ

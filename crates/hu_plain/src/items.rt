@@ -2,7 +2,6 @@
 
 ghost use Rattle.std.specs.Prelude.{◌≡◌, [], ◌∷◌, ◌++◌, pos, IfOk, OnOk, OnErr};
 ghost use Rattle.hu_kind.specs.Itemsets.{item_patterns};
-ghost use Rattle.hu_kind.specs.Sequence.{sequence_patterns};
 ghost use Rattle.hu_base.specs.Base.{records_of};
 ghost use Rattle.hu_collect.specs.Rule.{made, IsKept, MakesSome};
 ghost use Rattle.hu_plain.specs.Row.{grown_entry, grown_patterns, grown_rows, AreRows};
@@ -98,12 +97,4 @@ fn offer<C: Collect>(
         utility: total_earned(rows),
         support: rows.len() as u64,
     })
-}
-
-/// Stub.
-pub fn mine_sequences<C: Collect>(alloc: Global, base: &Base<hu_kind::SeqRecord>, collect: &mut C) -> Result<(), NoMemory>
-    ensures rule { C.rule collect.new ≡ C.rule collect.old }
-    ensures ok { OnOk result (C.content collect.new ≡ made (C.rule collect.old) (C.content collect.old) (sequence_patterns (records_of base.now))) }
-{
-    Err(NoMemory)
 }

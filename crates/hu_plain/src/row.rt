@@ -1,17 +1,20 @@
-//! Rows: the records that hold a prefix.
+//! Rows: the records that hold a prefix, and what one more item makes of them.
 
 ghost use Rattle.std.specs.Prelude.{◌≡◌, ◌<◌, ◌≤◌, ◌^◌, [], ◌++◌, map, length, IfOk, OnOk, option_map, option_to_list};
 ghost use Rattle.std.specs.List.{sum_by};
 ghost use Rattle.std.specs.List.Sorted.{IsPartitionPoint};
 ghost use Rattle.hu_kind.specs.Cell.{pairs_of};
 ghost use Rattle.hu_kind.specs.Record.{items_in, absolute_of};
-ghost use Rattle.hu_plain.specs.Row.{earned, grown_row, grown_rows, weight_of, Ascend, AreRows};
-ghost use Rattle.hu_plain.specs.View.{row_of, rows_of, first_row, item_of, AreLaterItems};
+ghost use Rattle.hu_kind.specs.Order.{Ascend};
+ghost use Rattle.hu_collect.specs.Laws.{SameMembers};
+ghost use Rattle.hu_plain.specs.Row.{earned, grown_row, grown_rows, weight_of, AreRows};
+ghost use Rattle.hu_plain.specs.View.{row_of, rows_of, first_row, numbers_of, AreLaterItems};
 
 use hu_kind::{Cell, Item, NoMemory, Record};
 use std::alloc::Global;
 
-/// A record that holds a prefix: what the prefix earns there, and the cells after it.
+/// A record that holds a prefix, or an itemset in which a sequence ends: what the prefix earns there, and the cells
+/// after it.
 #[derive(Clone, Copy)]
 pub(crate) struct Row<'a> {
     pub earned: i128,
@@ -20,7 +23,7 @@ pub(crate) struct Row<'a> {
 
 impl<'a> Row<'a> {
     /// The row of the prefix with an item more, where the tail holds it.
-    fn grown(&self, item: Item) -> Option<Row<'a>>
+    pub(crate) fn grown(&self, item: Item) -> Option<Row<'a>>
         requires ascending { Ascend (items_in (pairs_of self.now.tail.now)) }
         requires sum_fits { weight_of (row_of self.now) < 2 ^ 127 }
         ensures { option_to_list (option_map row_of result) ≡ grown_row item.0 self.now.earned (pairs_of self.now.tail.now) }
@@ -89,14 +92,22 @@ pub(crate) fn later_items(alloc: Global, rows: &[Row<'_>]) -> Result<Vec<Item>, 
     for row in rows {
         push_items(&mut items, row.tail)?;
     }
+    Ok(distinct(items))
+}
+
+/// The same items, ascending and each once.
+pub(crate) fn distinct(items: Vec<Item>) -> Vec<Item>
+    ensures { SameMembers items.items result.items }
+{
+    let mut items = items;
     items.sort_unstable();
     items.dedup();
-    Ok(items)
+    items
 }
 
 /// Appends the items of cells.
-fn push_items(items: &mut Vec<Item>, cells: &[Cell]) -> Result<(), NoMemory>
-    ensures { OnOk result (items.new.items ≡ items.old.items ++ map item_of cells.now) }
+pub(crate) fn push_items(items: &mut Vec<Item>, cells: &[Cell]) -> Result<(), NoMemory>
+    ensures { OnOk result (numbers_of items.new.items ≡ numbers_of items.old.items ++ items_in (pairs_of cells.now)) }
 {
     for cell in cells {
         items.push(cell.item)?;

@@ -2,7 +2,7 @@ use Rattle.std.proofs.Common.{sym, subst, arith}
 use Rattle.std.specs.List.{AllByRecursion}
 use Rattle.std.proofs.lemmas.Grind.{common_steps}
 use Rattle.hu_kind.specs.Record.{items_in}
-use Rattle.hu_plain.specs.Row.{Ascend}
+use Rattle.hu_kind.specs.Order.{Ascend}
 use Rattle.hu_plain.specs.View.{rows_of}
 use Rattle.hu_plain.proofs.RowLemmas.{ascending_push}
 use Rattle.hu_plain.proofs.row.first_rows.Goals as goal

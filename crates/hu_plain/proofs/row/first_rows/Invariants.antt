@@ -1,7 +1,7 @@
 use Rattle.std.proofs.Common.{◌≡◌, map, take}
 use Rattle.std.specs.List.{AllByRecursion}
 use Rattle.hu_kind.specs.Record.{items_in}
-use Rattle.hu_plain.specs.Row.{Ascend}
+use Rattle.hu_kind.specs.Order.{Ascend}
 use Rattle.hu_plain.specs.View.{rows_of, first_row}
 use Rattle.hu_plain.proofs.row.first_rows.Given as goal
 

@@ -1,7 +1,8 @@
 use Rattle.std.proofs.Common.{◌∙◌, ap, subst, sym}
 use Rattle.std.proofs.lemmas.List.{take_all}
 use Rattle.hu_kind.specs.Record.{items_in}
-use Rattle.hu_plain.specs.Row.{grown_rows, Ascend, AreRows}
+use Rattle.hu_kind.specs.Order.{Ascend}
+use Rattle.hu_plain.specs.Row.{grown_rows, AreRows}
 use Rattle.hu_plain.specs.View.{rows_of}
 use Rattle.hu_plain.proofs.Growth.{AreRows-grown_rows}
 use Rattle.hu_plain.proofs.RowLemmas.{row_at, weight-below}

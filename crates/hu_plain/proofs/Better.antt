@@ -1,0 +1,68 @@
+-- The greater of two utilities, and a sum before a utility.
+use Rattle.std.proofs.Common.{◌≡◌, true, ℤ, ◌+ℤ◌, Option, None, Some, is_some, option_map, refl, ap, ◌⊎◌, inl, inr, arith}
+use Rattle.std.specs.Int.{int_max}
+use Rattle.std.proofs.lemmas.Int.{ints, clamps}
+use Rattle.hu_kind.specs.Sequence.{better}
+
+int_max-assoc : (x y z : ℤ) → int_max (int_max x y) z ≡ int_max x (int_max y z)
+int_max-assoc x y z = omega (arith, ints, clamps)
+
+plus-int_max : (x y z : ℤ) → int_max x y +ℤ z ≡ int_max (x +ℤ z) (y +ℤ z)
+plus-int_max x y z = omega (arith, ints, clamps)
+
+int_max-plus : (x y z : ℤ) → x +ℤ int_max y z ≡ int_max (x +ℤ y) (x +ℤ z)
+int_max-plus x y z = omega (arith, ints, clamps)
+
+pub better-none : (a : Option ℤ) → better a None ≡ a
+better-none None = refl
+better-none (Some x) = refl
+
+pub better-assoc : (a b c : Option ℤ) → better (better a b) c ≡ better a (better b c)
+better-assoc None b c = refl
+better-assoc (Some x) None c = refl
+better-assoc (Some x) (Some y) None = refl
+better-assoc (Some x) (Some y) (Some z) = ap (λ n. Some n) (int_max-assoc x y z)
+
+-- a utility after a sum
+abbrev pub plus : Option ℤ → Option ℤ → Option ℤ
+plus None u = None
+plus (Some x) u = option_map (λ y. x +ℤ y) u
+
+pub plus-none : (a : Option ℤ) → plus a None ≡ None
+plus-none None = refl
+plus-none (Some x) = refl
+
+pub plus-better : (a b u : Option ℤ) → plus (better a b) u ≡ better (plus a u) (plus b u)
+plus-better None b u = refl
+plus-better (Some x) None u = better-none-of (plus (Some x) u)
+  where
+    better-none-of : (v : Option ℤ) → v ≡ better v None
+    better-none-of None = refl
+    better-none-of (Some y) = refl
+plus-better (Some x) (Some y) None = refl
+plus-better (Some x) (Some y) (Some z) = ap (λ n. Some n) (plus-int_max x y z)
+
+pub better-plus : (a u v : Option ℤ) → plus a (better u v) ≡ better (plus a u) (plus a v)
+better-plus None u v = refl
+better-plus (Some x) None v = refl
+better-plus (Some x) (Some y) None = refl
+better-plus (Some x) (Some y) (Some z) = ap (λ n. Some n) (int_max-plus x y z)
+
+-- where one of two utilities is some, the greater is, and no other way
+pub some_left : (a b : Option ℤ) → is_some a ≡ true → is_some (better a b) ≡ true
+some_left None b h = cc
+some_left (Some x) None h = refl
+some_left (Some x) (Some y) h = refl
+
+pub some_right : (a b : Option ℤ) → is_some b ≡ true → is_some (better a b) ≡ true
+some_right None b h = h
+some_right (Some x) None h = refl
+some_right (Some x) (Some y) h = refl
+
+pub some_cases : (a b : Option ℤ) → is_some (better a b) ≡ true → (is_some a ≡ true) ⊎ (is_some b ≡ true)
+some_cases None b h = inr h
+some_cases (Some x) b h = inl refl
+
+pub some_map : (f : ℤ → ℤ) (a : Option ℤ) → is_some (option_map f a) ≡ is_some a
+some_map f None = refl
+some_map f (Some x) = refl

@@ -1,0 +1,136 @@
+-- What a grown sequence earns in places: a growth that begins with an item is what is left of it after the step.
+use Rattle.std.proofs.Common.{◌≡◌, ℕ, ◌<◌, Bool, true, false, cond, eqb, ℤ, pos, ◌+ℤ◌, Option, None, Some, option_map, List, [], ◌∷◌, ◌++◌, refl, sym, ap, ◌∙◌, subst, inl, inr, arith}
+use Rattle.std.specs.List.{AllByRecursion}
+use Rattle.std.proofs.lemmas.Int.{ints}
+use Rattle.std.proofs.lemmas.Bool.{eq-eqb, ne_eqb, cases_order}
+use Rattle.hu_kind.specs.Record.{has, holds, values_of, items_in}
+use Rattle.hu_kind.specs.Sequence.{better, best_utility}
+use Rattle.hu_kind.specs.Order.{Ascend}
+use Rattle.hu_kind.proofs.Occurring.{above_all}
+use Rattle.hu_plain.specs.Row.{grown_row, grown_rows}
+use Rattle.hu_plain.specs.Place.{Places, after, best_from, best_of, best_sum, fresh, grown_best, into, itemsets_of, IsAscending}
+use Rattle.hu_plain.proofs.Better.{better-none, better-assoc, plus, plus-none, plus-better, better-plus}
+use Rattle.hu_plain.proofs.Growth.{holds-skip, values_of-skip, has-before}
+
+-- what a set earns in a whole row, with a utility after it
+abbrev pub row_best : List ℕ → Option ℤ → ℤ × List (ℕ × ℤ) → Option ℤ
+row_best items later row = cond (holds items row.1) (option_map (λ u. (row.0 +ℤ values_of items row.1) +ℤ u) later) None
+
+row_best-here : (sum v w : ℤ) (later : Option ℤ) (b : Bool)
+    → better (cond b (option_map (λ u. ((sum +ℤ v) +ℤ w) +ℤ u) later) None) None ≡ cond b (option_map (λ u. (sum +ℤ (v +ℤ w)) +ℤ u) later) None
+row_best-here sum v w later false = refl
+row_best-here sum v w None true = refl
+row_best-here sum v w (Some u) true = ap (λ n. Some n) (omega (arith, ints))
+
+best_from-grown_row : (item : ℕ) (items : List ℕ) (later : Option ℤ) (sum : ℤ) (cells : List (ℕ × ℤ)) → Ascend (items_in cells) → AllByRecursion (λ other. item < other) items
+    → best_from items later (grown_row item sum cells) ≡ row_best (item ∷ items) later (sum, cells)
+best_from-grown_row item items later sum [] up above = refl
+best_from-grown_row item items later sum (cell ∷ cells) up above = elim (cases_order item cell.0) [
+  | inl e ↦
+      let yes : eqb item cell.0 ≡ true = eq-eqb item cell.0 e in
+      let after : AllByRecursion (λ other. cell.0 < other) items = subst (λ x. AllByRecursion (λ other. x < other) items) e above in
+      simp (yes, holds-skip cell cells items after, values_of-skip cell cells items after) (row_best-here sum cell.1 (values_of items cells) later (holds items cells))
+  | inr (inl before) ↦
+      let no : eqb item cell.0 ≡ false = ne_eqb item cell.0 (λ e. absurd (omega arith)) in
+      let out : has item cells ≡ false = has-before item cells (above_all item cell.0 (items_in cells) before up.0) in
+      let ih = best_from-grown_row item items later sum cells up.1 above in
+      simp (no, out) (ih ∙ simp out)
+  | inr (inr past) ↦
+      let no : eqb item cell.0 ≡ false = ne_eqb item cell.0 (λ e. absurd (omega arith)) in
+      let after : AllByRecursion (λ other. cell.0 < other) items = above_all cell.0 item items past above in
+      let ih = best_from-grown_row item items later sum cells up.1 above in
+      simp (no, holds-skip cell cells items after, values_of-skip cell cells items after) ih
+]
+
+best_from-append : (items : List ℕ) (later : Option ℤ) (xs ys : List (ℤ × List (ℕ × ℤ))) → best_from items later (xs ++ ys) ≡ better (best_from items later xs) (best_from items later ys)
+best_from-append items later [] ys = refl
+best_from-append items later (x ∷ xs) ys =
+    ap (λ b. better (row_best items later x) b) (best_from-append items later xs ys)
+    ∙ sym (better-assoc (row_best items later x) (best_from items later xs) (best_from items later ys))
+
+pub best_from-grown_rows : (item : ℕ) (items : List ℕ) (later : Option ℤ) (rows : List (ℤ × List (ℕ × ℤ))) → AllByRecursion (λ row. Ascend (items_in row.1)) rows → AllByRecursion (λ other. item < other) items
+    → best_from items later (grown_rows item rows) ≡ best_from (item ∷ items) later rows
+best_from-grown_rows item items later [] up above = refl
+best_from-grown_rows item items later (row ∷ rows) up above =
+    best_from-append items later (grown_row item row.0 row.1) (grown_rows item rows)
+    ∙ ap (λ a. better a (best_from items later (grown_rows item rows))) (best_from-grown_row item items later row.0 row.1 up.0 above)
+    ∙ ap (λ b. better (row_best (item ∷ items) later row) b) (best_from-grown_rows item items later rows up.1 above)
+
+-- a step leaves the itemsets
+pub itemsets-into : (item : ℕ) (places : Places) → itemsets_of (into item places) ≡ itemsets_of places
+itemsets-into item [] = refl
+itemsets-into item (place ∷ places) = ap (λ es. place.1 ∷ es) (itemsets-into item places)
+
+pub itemsets-after : (item : ℕ) (best : Option ℤ) (places : Places) → itemsets_of (after item best places) ≡ itemsets_of places
+itemsets-after item best [] = refl
+itemsets-after item best (place ∷ places) = ap (λ es. place.1 ∷ es) (itemsets-after item (better best (best_sum place.0)) places)
+
+-- an item into the last itemset
+pub grown_best-into : (item : ℕ) (items : List ℕ) (rest : List (List ℕ)) (places : Places) → AllByRecursion IsAscending places → AllByRecursion (λ other. item < other) items
+    → grown_best items rest (into item places) ≡ grown_best (item ∷ items) rest places
+grown_best-into item items rest [] up above = refl
+grown_best-into item items rest (place ∷ places) up above =
+    let later = best_utility rest (itemsets_of places) in
+    ap (λ es. better (best_from items (best_utility rest es) (grown_rows item place.0)) (grown_best items rest (into item places))) (itemsets-into item places)
+    ∙ ap (λ a. better a (grown_best items rest (into item places))) (best_from-grown_rows item items later place.0 up.0.0 above)
+    ∙ ap (λ b. better (best_from (item ∷ items) later place.0) b) (grown_best-into item items rest places up.1 above)
+
+-- rows with nothing more in their itemset
+best_from-none : (later : Option ℤ) (rows : List (ℤ × List (ℕ × ℤ))) → best_from [] later rows ≡ plus (best_sum rows) later
+best_from-none later [] = refl
+best_from-none later (row ∷ rows) =
+    ap (λ b. better (row_best [] later row) b) (best_from-none later rows)
+    ∙ ap (λ a. better a (plus (best_sum rows) later)) (alone later)
+    ∙ sym (plus-better (Some row.0) (best_sum rows) later)
+  where
+    alone : (u : Option ℤ) → row_best [] u row ≡ plus (Some row.0) u
+    alone None = refl
+    alone (Some x) = ap (λ n. Some n) (omega (arith, ints))
+
+-- an item of a whole itemset after a sum
+best_from-fresh : (item : ℕ) (items : List ℕ) (rest : List (List ℕ)) (best : Option ℤ) (cells : List (ℕ × ℤ)) (es : List (List (ℕ × ℤ))) → Ascend (items_in cells) → AllByRecursion (λ other. item < other) items
+    → best_from items (best_utility rest es) (grown_rows item (fresh best cells)) ≡ plus best (cond (holds (item ∷ items) cells) (option_map (λ u. values_of (item ∷ items) cells +ℤ u) (best_utility rest es)) None)
+best_from-fresh item items rest None cells es up above = refl
+best_from-fresh item items rest (Some sum) cells es up above =
+    best_from-grown_rows item items (best_utility rest es) ((sum, cells) ∷ []) (up, tt) above
+    ∙ better-none (row_best (item ∷ items) (best_utility rest es) (sum, cells))
+    ∙ apart (holds (item ∷ items) cells) (values_of (item ∷ items) cells) (best_utility rest es)
+  where
+    apart : (b : Bool) (v : ℤ) (u : Option ℤ) → cond b (option_map (λ x. (sum +ℤ v) +ℤ x) u) None ≡ option_map (λ x. sum +ℤ x) (cond b (option_map (λ x. v +ℤ x) u) None)
+    apart false v u = refl
+    apart true v None = refl
+    apart true v (Some x) = ap (λ n. Some n) (omega (arith, ints))
+
+-- an item in a new itemset
+after-parts : (a x y b g : Option ℤ) → better (plus a x) (better (plus (better a b) y) g) ≡ better (plus a (better x y)) (better (plus b y) g)
+after-parts a x y b g =
+    ap (λ z. better (plus a x) (better z g)) (plus-better a b y)
+    ∙ ap (λ z. better (plus a x) z) (better-assoc (plus a y) (plus b y) g)
+    ∙ sym (better-assoc (plus a x) (plus a y) (better (plus b y) g))
+    ∙ ap (λ z. better z (better (plus b y) g)) (sym (better-plus a x y))
+
+pub grown_best-after : (item : ℕ) (items : List ℕ) (rest : List (List ℕ)) (best : Option ℤ) (places : Places) → AllByRecursion IsAscending places → AllByRecursion (λ other. item < other) items
+    → grown_best items rest (after item best places) ≡ better (plus best (best_utility ((item ∷ items) ∷ rest) (itemsets_of places))) (grown_best [] ((item ∷ items) ∷ rest) places)
+grown_best-after item items rest best [] up above = sym (better-none (plus best None) ∙ plus-none best)
+grown_best-after item items rest best (place ∷ places) up above =
+    let es = itemsets_of places in
+    let next = better best (best_sum place.0) in
+    let here = cond (holds (item ∷ items) place.1) (option_map (λ u. values_of (item ∷ items) place.1 +ℤ u) (best_utility rest es)) None in
+    let later = best_utility ((item ∷ items) ∷ rest) es in
+    let more = grown_best [] ((item ∷ items) ∷ rest) places in
+    ap (λ ds. better (best_from items (best_utility rest ds) (grown_rows item (fresh best place.1))) (grown_best items rest (after item next places))) (itemsets-after item next places)
+    ∙ ap (λ a. better a (grown_best items rest (after item next places))) (best_from-fresh item items rest best place.1 es up.0.1 above)
+    ∙ ap (λ b. better (plus best here) b) (grown_best-after item items rest next places up.1 above)
+    ∙ after-parts best here later (best_sum place.0) more
+    ∙ ap (λ b. better (plus best (better here later)) (better b more)) (sym (best_from-none later place.0))
+
+-- the prefix alone
+pub grown_best-alone : (places : Places) → grown_best [] [] places ≡ best_of places
+grown_best-alone [] = refl
+grown_best-alone (place ∷ places) =
+    ap (λ a. better a (grown_best [] [] places)) (best_from-none (Some (pos 0)) place.0 ∙ zero_after (best_sum place.0))
+    ∙ ap (λ b. better (best_sum place.0) b) (grown_best-alone places)
+  where
+    zero_after : (a : Option ℤ) → plus a (Some (pos 0)) ≡ a
+    zero_after None = refl
+    zero_after (Some x) = ap (λ n. Some n) (omega (arith, ints))

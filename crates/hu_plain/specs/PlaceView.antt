@@ -1,0 +1,54 @@
+-- How places and steps as a search keeps them are seen.
+use Rattle.std.specs.Prelude.{◌↔◌, ◌<◌, ℕ, ℤ, Option, option_map, option_to_list, List, [], ◌∷◌, ◌++◌, map, length}
+use Rattle.std.specs.Global.{Vec}
+use Rattle.std.specs.List.{Contains, flat_map}
+use Rattle.hu_kind.specs.declared.item.Item.{Item}
+use Rattle.hu_kind.specs.Cell.{pairs_of}
+use Rattle.hu_kind.specs.Record.{items_in}
+use Rattle.hu_plain.specs.declared.row.Row.{Row}
+use Rattle.hu_plain.specs.declared.places.Place.{Place}
+use Rattle.hu_plain.specs.declared.places.Step.{Step}
+use Rattle.hu_plain.specs.declared.places.Step.TheVariants.{Into, After}
+use Rattle.hu_plain.specs.View.{row_of}
+use Rattle.hu_plain.specs.Place.{Places, all_stepped, begun, itemsets_of}
+
+-- a row, if there is one
+abbrev pub rows_in : Option Row → List (ℤ × List (ℕ × ℤ))
+rows_in row = option_to_list (option_map row_of row)
+
+-- a place as a pair
+abbrev pub place_of : Place → List (ℤ × List (ℕ × ℤ)) × List (ℕ × ℤ)
+place_of place = (rows_in place.end, pairs_of place.cells.now)
+
+-- places as pairs
+abbrev pub places_of : List Place → Places
+places_of places = map place_of places
+
+-- the places of all records
+abbrev pub all_places : List (Vec Place) → List Places
+all_places rows = map (λ places. places_of places.items) rows
+
+-- places with one more, but with none before the first in which the prefix ends
+abbrev pub pushed : Places → List (ℤ × List (ℕ × ℤ)) × List (ℕ × ℤ) → Places
+pushed [] place = begun (place ∷ [])
+pushed (first ∷ places) place = (first ∷ places) ++ place ∷ []
+
+-- the items that can join the last itemset in a record
+abbrev pub joining : Places → List ℕ
+joining places = flat_map (λ place. flat_map (λ row. items_in row.1) place.0) places
+
+-- the items that can begin a new itemset in a record: those after the first place
+abbrev pub following : Places → List ℕ
+following [] = []
+following (place ∷ places) = flat_map items_in (itemsets_of places)
+
+-- the steps of an item
+abbrev pub step_into : Item → Step
+step_into item = Into item
+
+abbrev pub step_after : Item → Step
+step_after item = After item
+
+-- steps are just those that the prefix can take in some record
+abbrev pub AreSteps : List Places → List Step → Type 0
+AreSteps rows steps = (step : Step) → Contains steps step ↔ (0 < length (all_stepped step rows))

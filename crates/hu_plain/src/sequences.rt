@@ -1,0 +1,136 @@
+//! The plain engine for sequences.
+
+ghost use Rattle.std.specs.Prelude.{◌≡◌, ℤ, List, [], ◌∷◌, OnOk, OnErr};
+ghost use Rattle.hu_kind.specs.Sequence.{sequence_patterns};
+ghost use Rattle.hu_base.specs.Base.{records_of};
+ghost use Rattle.hu_collect.specs.Rule.{made, IsKept, MakesSome};
+ghost use Rattle.hu_plain.specs.Makes.{MakesAllOf, MakesSomeOf};
+ghost use Rattle.hu_plain.specs.Growth.{closed, prefix_entry, stepped_key, Grows};
+ghost use Rattle.hu_plain.specs.Place.{ArePlaces};
+ghost use Rattle.hu_plain.specs.PlaceView.{all_places};
+
+use crate::places::{Place, Step, all_stepped, first_places_of, steps_of, total_best};
+use hu_base::Base;
+use hu_collect::{Collect, law_of_members, law_of_turns};
+use hu_kind::{Entry, Key, NoMemory, SeqRecord};
+use std::alloc::Global;
+
+/// Offers each sequence that occurs in some record, with its utility and its support. Nothing is cut. A sequence is grown
+/// by one item at a time, into its last itemset or after it, over just the records in which it occurs. Of a record the
+/// search keeps the best occurrence that ends in each itemset, which is enough to know the best of all that grow, as in
+/// USpan (Yin, Zheng and Cao, 2012). So a step takes one pass over the itemsets of these records, each looked through by
+/// halves. The memory is a place for each itemset in which a sequence or one of its prefixes can go on, and the items
+/// there. After want of memory some of the sequences have been offered.
+pub fn mine_sequences<C: Collect>(
+    alloc: Global,
+    base: &Base<SeqRecord>,
+    collect: &mut C,
+) -> Result<(), NoMemory>
+    ensures rule { C.rule collect.new ≡ C.rule collect.old }
+    ensures ok { OnOk result (C.content collect.new ≡ made (C.rule collect.old) (C.content collect.old) (sequence_patterns (records_of base.now))) }
+    ensures err { OnErr result (MakesSome (C.rule collect.old) (C.content collect.old) (sequence_patterns (records_of base.now)) (C.content collect.new)) }
+{
+    // These tell the proof that the content is in order, that no sum overflows, and what collectors make of members.
+    let _floor = collect.floor();
+    let _sum = base.sum();
+    law_of_members();
+    let rows = first_places_of(alloc, base.records())?;
+    search(alloc, &rows, &mut Key::new(alloc), collect)
+}
+
+/// Offers each sequence that grows the prefix.
+fn search<C: Collect>(
+    alloc: Global,
+    rows: &[Vec<Place<'_>>],
+    prefix: &mut Key,
+    collect: &mut C,
+) -> Result<(), NoMemory>
+    requires rows { ArePlaces (all_places rows.now) }
+    requires kept { IsKept (C.rule collect.old) (C.content collect.old) }
+    ensures rule { C.rule collect.new ≡ C.rule collect.old }
+    ensures prefix { OnOk result (prefix.new ≡ prefix.old) }
+    ensures ok { OnOk result (MakesAllOf (C.rule collect.old) (C.content collect.old) (Grows prefix.old (all_places rows.now)) (C.content collect.new)) }
+    ensures err { OnErr result (MakesSomeOf (C.rule collect.old) (C.content collect.old) (Grows prefix.old (all_places rows.now)) (C.content collect.new)) }
+{
+    law_of_turns();
+    let steps = steps_of(alloc, rows)?;
+    'steps: for step in &steps {
+        let grown = all_stepped(alloc, rows, *step)?;
+        grow(alloc, &grown, *step, prefix, collect)?;
+        search(alloc, &grown, prefix, collect)?;
+        leave(prefix, *step);
+    }
+    Ok(())
+}
+
+/// Puts a step to the prefix, and offers what that makes.
+fn grow<C: Collect>(
+    alloc: Global,
+    rows: &[Vec<Place<'_>>],
+    step: Step,
+    prefix: &mut Key,
+    collect: &mut C,
+) -> Result<(), NoMemory>
+    requires { ArePlaces (all_places rows.now) }
+    ensures rule { C.rule collect.new ≡ C.rule collect.old }
+    ensures prefix { OnOk result (prefix.new ≡ stepped_key prefix.old step) }
+    ensures ok { OnOk result (C.content collect.new ≡ made (C.rule collect.old) (C.content collect.old) (prefix_entry (stepped_key prefix.old step) (all_places rows.now) ∷ [])) }
+    ensures err { OnErr result (C.content collect.new ≡ C.content collect.old) }
+{
+    enter(prefix, step)?;
+    offer(alloc, rows, prefix, collect)
+}
+
+/// Offers the prefix itself.
+fn offer<C: Collect>(
+    alloc: Global,
+    rows: &[Vec<Place<'_>>],
+    prefix: &Key,
+    collect: &mut C,
+) -> Result<(), NoMemory>
+    requires { ArePlaces (all_places rows.now) }
+    ensures rule { C.rule collect.new ≡ C.rule collect.old }
+    ensures ok { OnOk result (C.content collect.new ≡ made (C.rule collect.old) (C.content collect.old) (prefix_entry prefix.now (all_places rows.now) ∷ [])) }
+    ensures err { OnErr result (C.content collect.new ≡ C.content collect.old) }
+{
+    let mut key = prefix.copy_in(alloc)?;
+    close(&mut key)?;
+    collect.offer(Entry {
+        key,
+        utility: total_best(rows),
+        support: rows.len() as u64,
+    })
+}
+
+/// Ends the last itemset of a key, if there is one.
+fn close(key: &mut Key) -> Result<(), NoMemory>
+    ensures { OnOk result (key.new ≡ closed key.old) }
+{
+    if key.numbers().is_empty() {
+        return Ok(());
+    }
+    key.push(-1)
+}
+
+/// Puts the item of a step to a prefix.
+fn enter(prefix: &mut Key, step: Step) -> Result<(), NoMemory>
+    ensures { OnOk result (prefix.new ≡ stepped_key prefix.old step) }
+{
+    match step {
+        Step::Into(item) => prefix.push(i64::from(item.0)),
+        Step::After(item) => {
+            close(prefix)?;
+            prefix.push(i64::from(item.0))
+        }
+    }
+}
+
+/// Takes back what a step put to a prefix.
+fn leave(prefix: &mut Key, step: Step)
+    ensures { (before : List ℤ) → prefix.old ≡ stepped_key before step → prefix.new ≡ before }
+{
+    prefix.pop();
+    if let Step::After(_) = step {
+        prefix.pop();
+    }
+}
