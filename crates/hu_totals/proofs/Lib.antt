@@ -1,0 +1,9 @@
+pub mod ItemKeys
+pub mod AddingLemmas
+pub mod RoomLemmas
+pub mod RecordCells
+pub mod SortedLists
+pub mod DenseLemmas
+pub mod WeightLemmas
+pub mod RankingRules
+pub mod LawLemmas

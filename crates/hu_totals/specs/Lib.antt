@@ -1,0 +1,7 @@
+pub mod Totals
+pub mod Adding
+pub mod Ranked
+pub mod Weights
+pub mod View
+pub mod Laws
+pub mod Rows
