@@ -29,3 +29,8 @@ abbrev pub IsGrown : Option (List ℕ) → List ℤ → ℕ → List ℤ → Typ
 IsGrown None key last grown = IsTrue (is_part key grown)
 IsGrown (Some table) key last grown = (before : List ℕ) × (more : List ℕ) × IsRankSet table (before ++ last ∷ more)
     × (key ≡ key_of table (before ++ last ∷ [])) × (grown ≡ key_of table (before ++ last ∷ more))
+
+-- a collector rests on no table of ranks, or on this one
+abbrev pub RestsOn : Option (List ℕ) → List ℕ → Type 0
+RestsOn None items = ⊤
+RestsOn (Some table) items = table ≡ items
