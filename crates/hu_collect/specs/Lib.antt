@@ -3,4 +3,5 @@ pub mod Ranks
 pub mod Laws
 pub mod Pairs
 pub mod Top
+pub mod Limited
 pub mod Rows

@@ -10,6 +10,7 @@ mod all;
 mod collect;
 mod gate;
 mod laws;
+mod limited;
 mod top;
 
 pub use all::All;
@@ -19,6 +20,7 @@ pub use laws::{
     law_of_floors, law_of_low_entries, law_of_members, law_of_passing, law_of_reaching,
     law_of_turns,
 };
+pub use limited::Limited;
 pub use top::Top;
 
 #[cfg(test)]

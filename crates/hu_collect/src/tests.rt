@@ -1,6 +1,6 @@
 //! Offers in turn.
 
-use crate::{All, Collect, Gate, NoGate, Top};
+use crate::{All, Collect, Gate, Limited, NoGate, Top};
 use hu_kind::{Entry, Key, NoMemory};
 use std::alloc::Global;
 use std::process::Abort;
@@ -68,6 +68,35 @@ fn all_of_offers_in_turn(rt: HostRuntime) -> Result<(), Fail> {
     assert!(rt; all.opens(&key_of(rt.alloc(), &[3])?, 0));
     let expected: [(&[i64], i128); 5] = [(&[2], 7), (&[0], 5), (&[1], 5), (&[1, 2], 5), (&[3], 5)];
     expect_entries(&rt, &all.into_entries()?, &expected);
+    Ok(())
+}
+
+#[test]
+fn all_or_the_first_of_offers(rt: HostRuntime) -> Result<(), Fail> {
+    let cases: [(Option<u32>, i128, &[(&[i64], i128)]); 2] = [
+        (Some(2), 5, &[(&[2], 7), (&[0], 5)]),
+        (
+            None,
+            1,
+            &[
+                (&[2], 7),
+                (&[0], 5),
+                (&[1], 5),
+                (&[1, 2], 5),
+                (&[3], 5),
+                (&[4], 4),
+            ],
+        ),
+    ];
+    for (top, floor, expected) in cases {
+        let mut collect = Limited::new(rt.alloc(), top, 1);
+        for (numbers, utility, _) in &OFFERS {
+            collect.offer(entry_of(rt.alloc(), numbers, *utility)?)?;
+        }
+        assert_eq!(rt; collect.floor(), floor);
+        assert!(rt; collect.opens(&key_of(rt.alloc(), &[3])?, 0));
+        expect_entries(&rt, &collect.into_entries()?, expected);
+    }
     Ok(())
 }
 
