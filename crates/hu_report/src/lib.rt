@@ -1,7 +1,7 @@
 //! The text of an answer.
 //!
-//! `write_entries` puts a line for each entry to a sink of hu_io. It takes no memory, and puts some 4,096 bytes at a
-//! time. Where the sink fails, a proper front of the text has gone out.
+//! [`write_entries`] puts a line for each entry to a sink of hu_io, by a [`Page`] of bytes that wait. It takes no memory,
+//! and puts some 4,096 bytes at a time. Where the sink fails, a proper front of the text has gone out.
 #![tactic(auto)]
 
 mod page;
@@ -9,4 +9,5 @@ mod page;
 mod tests;
 mod text;
 
+pub use page::Page;
 pub use text::write_entries;

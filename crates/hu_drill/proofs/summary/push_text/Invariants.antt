@@ -1,0 +1,17 @@
+use Rattle.std.proofs.Common.{◌≡◌, ◌≤◌, ◌++◌, List, ℕ, length}
+use Rattle.hu_report.specs.Page.{Forwards}
+use Rattle.hu_drill.proofs.summary.push_text.Given as goal
+
+-- a front of the text went out or waits, and the rest is left
+abbrev pub invariant-loop-left : goal.invariant-loop-left
+invariant-loop-left g l = record {
+  front : List ℕ;
+  whole : front ++ l.left ≡ l.text;
+  bytes : Forwards (g.S.Sink.bytes l.initial.sink) (g.S.Sink.bytes l.sink) l.initial.page l.page front;
+  plan : g.S.Sink.plan l.sink ≡ g.S.Sink.plan l.initial.sink;
+  later : g.S.Sink.faults l.initial.sink ≤ g.S.Sink.faults l.sink;
+}
+
+-- each turn takes a byte at least
+abbrev pub decreases-loop-left : goal.decreases-loop-left
+decreases-loop-left g l = length l.left
