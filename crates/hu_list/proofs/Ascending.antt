@@ -1,0 +1,73 @@
+-- Numbers that ascend.
+use Rattle.std.proofs.Common.{◌≡◌, ℕ, suc, ◌<◌, ◌+◌, ℤ, List, [], ◌∷◌, ◌++◌, length, get_or, refl, arith, subst, inl, All}
+use Rattle.std.specs.List.{AllByRecursion, AllAdjacentBelow}
+use Rattle.hu_kind.specs.Record.{items_in}
+use Rattle.hu_kind.specs.Order.{Ascend}
+use Rattle.hu_kind.proofs.Members.{Member, Member-append_right}
+use Rattle.hu_kind.proofs.Occurring.{above_all, at_member}
+
+Ascend-adjacent-from : (first : ℕ × ℤ) (cells : List (ℕ × ℤ)) → AllAdjacentBelow (λ a b. a.0 < b.0) (first ∷ cells) (length (first ∷ cells)) → Ascend (items_in (first ∷ cells))
+Ascend-adjacent-from first [] up = (tt, tt)
+Ascend-adjacent-from first (next ∷ cells) up =
+    let up' : AllAdjacentBelow (λ (a b : ℕ × ℤ). a.0 < b.0) (next ∷ cells) (length (next ∷ cells)) =
+    λ k d within. let e : suc k + 1 ≡ suc (k + 1) = omega arith in subst (λ j. (get_or (next ∷ cells) k d).0 < (get_or (first ∷ next ∷ cells) j d).0) e (up (suc k) d (omega arith)) in
+    let rest = Ascend-adjacent-from next cells up' in
+    let before : first.0 < next.0 = up 0 first (omega arith) in
+    ((before, above_all first.0 next.0 (items_in cells) before rest.0), rest)
+
+-- cells whose neighbours ascend
+pub Ascend-adjacent : (cells : List (ℕ × ℤ)) → AllAdjacentBelow (λ a b. a.0 < b.0) cells (length cells) → Ascend (items_in cells)
+Ascend-adjacent [] up = tt
+Ascend-adjacent (first ∷ cells) up = Ascend-adjacent-from first cells up
+
+pub each-from_all : {A : Type 0} (P : A → Type 0) (xs : List A) → All P xs → AllByRecursion P xs
+each-from_all P [] all = tt
+each-from_all P (x ∷ xs) all = (all 0 x (omega arith), each-from_all P xs (λ k d within. all (suc k) d (omega arith)))
+
+pub each-weaker : {A : Type 0} (P Q : A → Type 0) (xs : List A) → ((x : A) → P x → Q x) → AllByRecursion P xs → AllByRecursion Q xs
+each-weaker P Q [] w all = tt
+each-weaker P Q (x ∷ xs) w all = (w x all.0, each-weaker P Q xs w all.1)
+
+pub each-ascending : (records : List (List (ℕ × ℤ))) → All (λ cells. AllAdjacentBelow (λ a b. a.0 < b.0) cells (length cells)) records → AllByRecursion (λ cells. Ascend (items_in cells)) records
+each-ascending records all =
+    each-weaker (λ cells. AllAdjacentBelow (λ a b. a.0 < b.0) cells (length cells)) (λ cells. Ascend (items_in cells)) records Ascend-adjacent
+    (each-from_all (λ cells. AllAdjacentBelow (λ a b. a.0 < b.0) cells (length cells)) records all)
+
+-- what holds of each element of two lists
+pub each-left : {A : Type 0} (P : A → Type 0) (xs ys : List A) → AllByRecursion P (xs ++ ys) → AllByRecursion P xs
+each-left P [] ys all = tt
+each-left P (x ∷ xs) ys all = (all.0, each-left P xs ys all.1)
+
+pub each-right : {A : Type 0} (P : A → Type 0) (xs ys : List A) → AllByRecursion P (xs ++ ys) → AllByRecursion P ys
+each-right P [] ys all = all
+each-right P (x ∷ xs) ys all = each-right P xs ys all.1
+
+pub each-append : {A : Type 0} (P : A → Type 0) (xs ys : List A) → AllByRecursion P xs → AllByRecursion P ys → AllByRecursion P (xs ++ ys)
+each-append P [] ys all more = more
+each-append P (x ∷ xs) ys all more = (all.0, each-append P xs ys all.1 more)
+
+-- the parts of ascending numbers
+pub Ascend-left : (xs ys : List ℕ) → Ascend (xs ++ ys) → Ascend xs
+Ascend-left [] ys up = tt
+Ascend-left (x ∷ xs) ys up = (each-left (λ y. x < y) xs ys up.0, Ascend-left xs ys up.1)
+
+pub Ascend-right : (xs ys : List ℕ) → Ascend (xs ++ ys) → Ascend ys
+Ascend-right [] ys up = up
+Ascend-right (x ∷ xs) ys up = Ascend-right xs ys up.1
+
+-- each number before is less than each after
+pub Ascend-across : (xs ys : List ℕ) → Ascend (xs ++ ys) → (y : ℕ) → Member y ys → AllByRecursion (λ x. x < y) xs
+Ascend-across [] ys up y m = tt
+Ascend-across (x ∷ xs) ys up y m = (at_member (λ z. x < z) y (xs ++ ys) up.0 (Member-append_right y xs ys m), Ascend-across xs ys up.1 y m)
+
+-- numbers that ascend to one, and one more
+pub Ascend-push : (xs : List ℕ) (a b : ℕ) → Ascend (xs ++ a ∷ []) → a < b → Ascend (xs ++ a ∷ b ∷ [])
+Ascend-push [] a b up below = ((below, tt), (tt, tt))
+Ascend-push (x ∷ xs) a b up below =
+    let before : x < a = at_member (λ z. x < z) a (xs ++ a ∷ []) up.0 (Member-append_right a xs (a ∷ []) (inl refl)) in
+    (each-append (λ z. x < z) xs (a ∷ b ∷ []) (each-left (λ z. x < z) xs (a ∷ []) up.0) (before, (omega arith, tt)), Ascend-push xs a b up.1 below)
+
+pub each-in_range : (n : ℕ) (records : List (List (ℕ × ℤ))) → All (λ cells. All (λ cell. cell.0 < n) cells) records → AllByRecursion (λ cells. AllByRecursion (λ cell. cell.0 < n) cells) records
+each-in_range n records all =
+    each-weaker (λ cells. All (λ cell. cell.0 < n) cells) (λ cells. AllByRecursion (λ cell. cell.0 < n) cells) records (λ cells. each-from_all (λ cell. cell.0 < n) cells)
+    (each-from_all (λ cells. All (λ cell. cell.0 < n) cells) records all)

@@ -1,0 +1,17 @@
+use Rattle.std.proofs.Common.{◌∷◌, [], ◌++◌, ◌∙◌, arith}
+use Rattle.std.proofs.lemmas.Int.{ints}
+use Rattle.std.proofs.lemmas.Result.{on_ok_weaker}
+use Rattle.hu_list.proofs.SearchLemmas.{offered-entry, support-list}
+use Rattle.hu_list.proofs.search.offer.Goals as goal
+
+pub returns-clause-ok : goal.returns-clause-ok
+returns-clause-ok g c =
+    let r = c.args.ranked.now in
+    let set = c.args.ranks.now ++ c.args.branch.now.rank ∷ [] in
+    let earned = c.sum-utility.ensures.utility r.records set c.requires.branch.is in
+    on_ok_weaker c.offer.result
+    (offered-entry r set (g.C.Collect.rule c.args.collect.now) (g.C.Collect.content c.args.collect.now) (g.C.Collect.content c.offer.new.self) _ _ _
+    c.in_ok-key.ensures
+    (omega (arith, ints, earned, c.sum-utility.type_inv))
+    (support-list c.nodes.result.now r.records set (c.nodes.ensures.value ∙ c.requires.branch.is)))
+    c.offer.ensures.ok

@@ -1,0 +1,7 @@
+pub mod Nodes
+pub mod Bounds
+pub mod Joins
+pub mod Gathered
+pub mod Level
+pub mod Makes
+pub mod Rows

@@ -1,0 +1,68 @@
+//! The lists of single ranks.
+
+ghost use Rattle.std.specs.Prelude.{◌≡◌, ◌+◌, ◌++◌, ◌<◌, ◌^◌, nat_eq, [], ◌∷◌, map, position, IfOk, option_to_list};
+ghost use Rattle.hu_kind.specs.Record.{gain, positive_part, absolute_of};
+ghost use Rattle.hu_totals.specs.View.{dense_pair, pairs_in};
+ghost use Rattle.hu_list.specs.Nodes.{list_of, nodes_from, AreRanked};
+ghost use Rattle.hu_list.specs.Gathered.{node_in};
+
+use crate::list::Node;
+use crate::merge::push_some;
+use hu_kind::NoMemory;
+use hu_totals::Dense;
+use std::alloc::Global;
+
+/// The nodes of one rank in all records.
+pub(crate) fn nodes_with(
+    alloc: Global,
+    records: &[Vec<Dense>],
+    rank: u32,
+) -> Result<Vec<Node>, NoMemory>
+    requires { AreRanked (map pairs_in records.now) }
+    ensures { IfOk result (λ nodes. nodes.items ≡ list_of (map pairs_in records.now) (rank ∷ [])) }
+{
+    let mut nodes = Vec::new(alloc);
+    for (place, cells) in records.iter().enumerate() {
+        push_some(&mut nodes, node_in(place as u64, cells, rank))?;
+    }
+    Ok(nodes)
+}
+
+/// The node of a rank in a record, where it stands there.
+fn node_in(place: u64, cells: &[Dense], rank: u32) -> Option<Node>
+    requires { absolute_of (map dense_pair cells.now) < 2 ^ 127 }
+    ensures { option_to_list result ≡ node_in place rank (map dense_pair cells.now) }
+{
+    let at = place_of(cells, rank)?;
+    Some(Node {
+        place,
+        own: cells[at].value,
+        rest: gain(&cells[at + 1..]),
+    })
+}
+
+/// The index of the cell of a rank, where it stands there.
+fn place_of(cells: &[Dense], rank: u32) -> Option<usize>
+    ensures { result ≡ position (λ cell. nat_eq cell.rank rank) cells.now }
+{
+    cells.iter().position(|cell| cell.rank == rank)
+}
+
+/// The sum of the values above 0.
+pub(crate) fn gain(cells: &[Dense]) -> i128
+    requires { absolute_of (map dense_pair cells.now) < 2 ^ 127 }
+    ensures { result ≡ gain (map dense_pair cells.now) }
+{
+    let mut sum = 0;
+    for cell in cells {
+        sum += above_none(cell);
+    }
+    sum
+}
+
+/// A cell's value where it is above 0, else 0.
+pub(crate) fn above_none(cell: &Dense) -> i128
+    ensures { result ≡ positive_part cell.now.value }
+{
+    cell.value.max(0)
+}
