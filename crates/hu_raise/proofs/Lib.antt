@@ -1,0 +1,12 @@
+pub mod GainLemmas
+pub mod SearchLemmas
+pub mod DescendingLemmas
+pub mod NumberLists
+pub mod AnswerLemmas
+pub mod EarnedLemmas
+pub mod StartLemmas
+pub mod SumLemmas
+pub mod CellLemmas
+pub mod PairLemmas
+pub mod VectorLemmas
+pub mod TableLemmas

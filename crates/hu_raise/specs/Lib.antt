@@ -1,0 +1,7 @@
+pub mod Partners
+pub mod StartFloor
+pub mod View
+pub mod Sums
+pub mod Places
+pub mod Laws
+pub mod Rows
