@@ -1,0 +1,106 @@
+-- What stands at the places of an item's holders: the records that hold it.
+use Rattle.std.proofs.Common.{◌≡◌, ◌∙◌, ℕ, ◌+◌, ◌<◌, ℤ, pos, Bool, true, false, cond, ◌||◌, List, [], ◌∷◌, ◌++◌, map, length, get_or, refl, sym, ap, subst, inl, inr, arith, filter}
+use Rattle.std.specs.List.{AllByRecursion}
+use Rattle.std.specs.Ordering.{int_eq}
+use Rattle.std.specs.declared.vec.Vec.{Vec}
+use Rattle.std.specs.declared.alloc.Global.{Global}
+use Rattle.std.proofs.lemmas.Int.{ints}
+use Rattle.std.proofs.lemmas.Bool.{and_left, and_right}
+use Rattle.std.proofs.lemmas.Bool.Decides.{Decides-int_eq}
+use Rattle.std.proofs.lemmas.List.{append_assoc, length-append, length-map, map-append}
+use Rattle.std.proofs.lemmas.List.Elements.{filter-append}
+use Rattle.std.proofs.Math.Seq.{get_or-append_seam}
+use Rattle.hu_kind.specs.declared.item.Item.{Item}
+use Rattle.hu_kind.specs.Order.{Ascend}
+use Rattle.hu_kind.specs.Record.{items_in, IsRecord}
+use Rattle.hu_kind.proofs.Members.{Member, Member-append_cases, Member-from_filter, Member-map, Member-from_map}
+use Rattle.hu_totals.specs.Weights.{numbers_of}
+use Rattle.hu_totals.proofs.RecordCells.{Ascend-record}
+use Rattle.hu_totals.proofs.RankingRules.{All-from_each}
+use Rattle.hu_closed.specs.declared.holders.Holder.{Holder}
+use Rattle.hu_closed.specs.Keys.{are_among, is_among}
+use Rattle.hu_closed.specs.Holders.{found_at, lists_of, pair_of, pairs_from, pairs_with, stands_at, AreLists, AreSets, AreWithin}
+use Rattle.hu_closed.proofs.Numbers.{is_among-above}
+
+-- the holders in one record: one where the number is among its items, else none
+pairs-of_record-cases : (g : ℕ → List ℕ) (number : ℤ) (k i : ℕ) (is : List ℕ) (b : Bool) → int_eq number (pos i) ≡ b → AllByRecursion (λ j. i < j) is
+    → map (λ pair. g pair.1) (pairs_with number (map (λ j. (j, k)) is)) ≡ cond (is_among is number) (g k ∷ []) []
+    → map (λ pair. g pair.1) (cond b ((i, k) ∷ pairs_with number (map (λ j. (j, k)) is)) (pairs_with number (map (λ j. (j, k)) is))) ≡ cond (b || is_among is number) (g k ∷ []) []
+pairs-of_record-cases g number k i is true e up ih =
+    let same = (Decides-int_eq number (pos i)).0 e in
+    let none = is_among-above i is number up (omega (arith, ints, same)) in
+    ap (λ rest. g k ∷ rest) (ih ∙ ap (λ b. cond b (g k ∷ []) []) none)
+pairs-of_record-cases g number k i is false e up ih = ih
+
+pub pairs-of_record : (g : ℕ → List ℕ) (number : ℤ) (k : ℕ) (items : List ℕ) → Ascend items → map (λ pair. g pair.1) (pairs_with number (map (λ i. (i, k)) items)) ≡ cond (is_among items number) (g k ∷ []) []
+pairs-of_record g number k [] up = refl
+pairs-of_record g number k (i ∷ is) up = pairs-of_record-cases g number k i is (int_eq number (pos i)) refl up.0 (pairs-of_record g number k is up.1)
+
+one-more : {X : Type 0} (b : Bool) (x : X) (xs : List X) → cond b (x ∷ []) [] ++ xs ≡ cond b (x ∷ xs) xs
+one-more true x xs = refl
+one-more false x xs = refl
+
+-- over all records
+pub lists-of_pairs : (number : ℤ) (before lists : List (List ℕ)) (k : ℕ) → k ≡ length before → AllByRecursion Ascend lists
+    → map (λ pair. get_or (before ++ lists) pair.1 []) (pairs_with number (pairs_from k lists)) ≡ filter (λ items. is_among items number) lists
+lists-of_pairs number before [] k many up = refl
+lists-of_pairs number before (items ∷ lists) k many up =
+    let g : ℕ → List ℕ = λ place. get_or (before ++ items ∷ lists) place [] in
+    let here : g k ≡ items = ap g many ∙ get_or-append_seam before items lists [] in
+    let joined : (before ++ items ∷ []) ++ lists ≡ before ++ items ∷ lists = append_assoc before (items ∷ []) lists in
+    let more : k + 1 ≡ length (before ++ items ∷ []) = omega (arith, length-append before (items ∷ [])) in
+    let rest = lists-of_pairs number (before ++ items ∷ []) lists (k + 1) more up.1 in
+    ap (map (λ pair. g pair.1)) (filter-append (λ (pair : ℕ × ℕ). int_eq number (pos pair.0)) (map (λ i. (i, k)) items) (pairs_from (k + 1) lists))
+    ∙ map-append (λ (pair : ℕ × ℕ). g pair.1) (pairs_with number (map (λ i. (i, k)) items)) (pairs_with number (pairs_from (k + 1) lists))
+    ∙ (λ j. pairs-of_record g number k items up.0 j ++ subst (λ ls. map (λ pair. get_or ls pair.1 []) (pairs_with number (pairs_from (k + 1) lists)) ≡ filter (λ items. is_among items number) lists) joined rest j)
+    ∙ one-more (is_among items number) (g k) (filter (λ items. is_among items number) lists)
+    ∙ ap (λ one. cond (is_among items number) (one ∷ filter (λ items. is_among items number) lists) (filter (λ items. is_among items number) lists)) here
+
+found-pairs : (lists : List (List ℕ)) (places : List Holder) → found_at lists places ≡ map (λ pair. get_or lists pair.1 []) (map pair_of places)
+found-pairs lists [] = refl
+found-pairs lists (h ∷ places) = ap (λ rest. get_or lists h.place [] ∷ rest) (found-pairs lists places)
+
+ascend-each : (records : List (List (ℕ × ℤ))) → AllByRecursion IsRecord records → AllByRecursion Ascend (map items_in records)
+ascend-each [] all = tt
+ascend-each (r ∷ records) all = (Ascend-record r all.0, ascend-each records all.1)
+
+-- the lists of record sets ascend
+pub AreLists-sets : (records : List (List (ℕ × ℤ))) (vs : List (Vec Item Global)) (holders : List Holder) → AreSets records vs holders → AreLists (lists_of vs)
+AreLists-sets records vs holders are = subst AreLists (sym are.lists) (All-from_each Ascend (map items_in records) (ascend-each records are.rules))
+
+-- at the places of an item's holders stand the records that hold it
+pub found-sets : (records : List (List (ℕ × ℤ))) (vs : List (Vec Item Global)) (holders places : List Holder) (number : ℤ) → AreSets records vs holders → places ≡ filter (stands_at number) holders
+    → found_at (lists_of vs) places ≡ filter (λ items. is_among items number) (map items_in records)
+found-sets records vs holders places number are of =
+    found-pairs (lists_of vs) places
+    ∙ (λ j. map (λ pair. get_or (are.lists j) pair.1 []) (map pair_of (of j)))
+    ∙ ap (map (λ pair. get_or (map items_in records) pair.1 [])) (are.held number)
+    ∙ lists-of_pairs number [] (map items_in records) 0 refl (ascend-each records are.rules)
+
+-- the places are those of records
+pairs-below : (place : ℕ) (lists : List (List ℕ)) (pair : ℕ × ℕ) → Member pair (pairs_from place lists) → pair.1 < place + length lists
+pairs-below place [] pair m = absurd m
+pairs-below place (items ∷ lists) pair m = elim (Member-append_cases pair (map (λ i. (i, place)) items) (pairs_from (place + 1) lists) m) [
+  | inl a ↦ let from = Member-from_map (λ (i : ℕ). (i, place)) pair items a in let at : place ≡ pair.1 = ap (λ (p : ℕ × ℕ). p.1) from.2 in omega arith
+  | inr b ↦ let later = pairs-below (place + 1) lists pair b in omega arith
+]
+
+within-members : (n : ℕ) (places : List Holder) → ((h : Holder) → Member h places → h.place < n) → AllByRecursion (λ (h : Holder). h.place < n) places
+within-members n [] each = tt
+within-members n (h ∷ places) each = (each h (inl refl), within-members n places (λ g m. each g (inr m)))
+
+pub AreWithin-sets : (records : List (List (ℕ × ℤ))) (vs : List (Vec Item Global)) (holders places : List Holder) (number : ℤ) → AreSets records vs holders → places ≡ filter (stands_at number) holders
+    → AreWithin (length vs) places
+AreWithin-sets records vs holders places number are of =
+    let many : length vs ≡ length (map items_in records) = sym (length-map vs (λ (v : Vec Item Global). numbers_of v.items)) ∙ ap length are.lists in
+    All-from_each (λ (h : Holder). h.place < length vs) places (within-members (length vs) places (λ h m.
+    let pairs = subst (Member (pair_of h)) (ap (map pair_of) of ∙ are.held number) (Member-map pair_of h places m) in
+    let from = Member-from_filter (λ (pair : ℕ × ℕ). int_eq number (pos pair.0)) (pair_of h) (pairs_from 0 (map items_in records)) pairs in
+    let below = pairs-below 0 (map items_in records) (pair_of h) from.0 in
+    omega (arith, many, below)))
+
+-- a key that is among items has each of its numbers there
+pub among-part : (items : List ℕ) (key : List ℤ) (number : ℤ) → Member number key → is_among items number ≡ false → are_among items key ≡ false
+among-part items [] number m out = absurd m
+among-part items (n ∷ ns) number (inl e) out = and_left (is_among items n) (are_among items ns) (ap (is_among items) e ∙ out)
+among-part items (n ∷ ns) number (inr m) out = and_right (is_among items n) (are_among items ns) (among-part items ns number m out)

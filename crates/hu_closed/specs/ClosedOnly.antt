@@ -1,0 +1,46 @@
+-- A collector of closed patterns is seen as the inner collector, the records and the item of each rank.
+use Rattle.std.specs.Prelude.{◌≡◌, ℕ, ℤ, false, ◌&&◌, Option, Some, List}
+use Rattle.hu_kind.specs.declared.entry.Entry.{Entry}
+use Rattle.hu_kind.specs.Itemsets.{item_patterns, closed_patterns}
+use Rattle.hu_collect.specs.Rule.{Rule, made}
+use Rattle.hu_collect.specs.Ranks.{IsGrown, RestsOn}
+use Rattle.hu_totals.specs.Ranked.{Ranking, ranked}
+use Rattle.hu_closed.specs.Keys.{is_closed_key}
+
+-- the inner collector
+abbrev pub inner_of : {C : Type 0} → C × List (List (ℕ × ℤ)) × List ℕ → C
+inner_of c = c.0
+
+-- the records
+abbrev pub records_in : {C : Type 0} → C × List (List (ℕ × ℤ)) × List ℕ → List (List (ℕ × ℤ))
+records_in c = c.1
+
+-- the item of each rank
+abbrev pub table_of : {C : Type 0} → C × List (List (ℕ × ℤ)) × List ℕ → List ℕ
+table_of c = c.2
+
+-- an inner rule that wants closed keys alone and rests on a table of ranks
+abbrev pub closed_rule : Rule → List (List (ℕ × ℤ)) → List ℕ → Rule
+closed_rule inner records table = record {
+  start = inner.start;
+  limit = inner.limit;
+  wants = λ key. inner.wants key && is_closed_key records key;
+  table = Some table;
+}
+
+-- ranks are those of records, with some floor
+abbrev pub IsRankingOf : List (List (ℕ × ℤ)) → Ranking → Type 0
+IsRankingOf records ranking = (floor : ℤ) × (ranking ≡ ranked floor records)
+
+-- ranks are those of the records, and a rule rests on them where it rests on ranks
+pub record AreOfOne (inner : Option (List ℕ)) (records : List (List (ℕ × ℤ))) (ranking : Ranking) : Type 0 where
+  pub base : IsRankingOf records ranking
+  pub rests : RestsOn inner ranking.items
+
+-- a rule wants no key that is this one, alone or grown by its table
+abbrev pub WantsNone : Rule → List ℤ → ℕ → Type 0
+WantsNone rule key last = (grown : List ℤ) → IsGrown rule.table key last grown → rule.wants grown ≡ false
+
+-- by the rule of closed keys the patterns of records make what by the inner rule the closed ones make
+abbrev pub MakesClosed : List (List (ℕ × ℤ)) → Rule → Rule → Type 0
+MakesClosed records inner closed = (content : List Entry) → made closed content (item_patterns records) ≡ made inner content (closed_patterns records)

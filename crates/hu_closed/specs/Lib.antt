@@ -1,0 +1,4 @@
+pub mod Keys
+pub mod Holders
+pub mod ClosedOnly
+pub mod Rows

@@ -1,0 +1,19 @@
+//! Closed itemsets: which records hold which items, and a collector that lets closed patterns alone into another one.
+//!
+//! [`RecordSets`] keeps for each item the records that hold it, and says of a key in how many records it stands and
+//! whether it is closed. [`ClosedOnly`] stands around a collector of hu_collect. What a key's support and its closedness
+//! are stands in `specs/Keys.antt`, what the collector makes of entries in `specs/ClosedOnly.antt`. The crate stands on
+//! hu_kind, hu_base, hu_collect and hu_totals.
+#![tactic(auto)]
+
+mod candidates;
+mod closed_only;
+mod holders;
+mod keys;
+mod sets;
+
+pub use closed_only::ClosedOnly;
+pub use sets::RecordSets;
+
+#[cfg(test)]
+mod tests;
