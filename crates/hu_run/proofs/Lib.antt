@@ -4,4 +4,5 @@ mod FrontLemmas
 mod FileLemmas
 pub mod NamesLemmas
 mod PartLemmas
+mod MineLemmas
 mod TopLemmas

@@ -7,4 +7,5 @@ pub mod Formats
 pub mod Part
 pub mod Reason
 pub mod Stop
+pub mod Start
 pub mod Run

@@ -45,6 +45,9 @@ offers Sequences engine = false
 -- whether an engine is built for a task
 abbrev pub is_built : Task → Engine → Bool
 is_built Items Plain = true
+is_built Items Lists = true
+is_built Closed Plain = true
+is_built Closed Lists = true
 is_built Sequences Plain = true
 is_built task engine = false
 

@@ -9,6 +9,7 @@ mod input;
 mod intake;
 mod mine;
 mod part;
+mod ranked;
 mod reason;
 mod stop;
 #[cfg(test)]

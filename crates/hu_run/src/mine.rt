@@ -1,13 +1,17 @@
 //! Mining a base into a collector, and what stands in it then.
 
-ghost use Rattle.std.specs.Prelude.{◌≡◌, ◌≤◌, pos, ◌≤ℤ◌, List, OnOk, IfOk, IfSome};
+ghost use Rattle.std.specs.Prelude.{◌≡◌, ◌≤◌, true, pos, ◌≤ℤ◌, List, OnOk, IfOk, IfSome};
 ghost use Rattle.hu_kind.specs.declared.entry.Entry.{Entry};
-ghost use Rattle.hu_kind.specs.Answer.{answer};
+ghost use Rattle.hu_kind.specs.declared.task.Task.TheVariants.{Items, Closed};
+ghost use Rattle.hu_kind.specs.Answer.{answer, item_answer, closed_answer};
 ghost use Rattle.hu_base.specs.Base.{records_of};
 ghost use Rattle.hu_collect.specs.Rule.{made};
+ghost use Rattle.hu_run.specs.Words.{is_built};
 
+use crate::ranked::{self, Lists, Plain};
+use crate::words::Engine;
 use hu_base::Base;
-use hu_collect::{All, Collect, Top};
+use hu_collect::{Collect, Limited};
 use hu_kind::{Absolute, Entry, NoMemory, Record, SeqRecord};
 use hu_plain::{mine_items, mine_sequences};
 use std::alloc::Global;
@@ -67,6 +71,7 @@ impl Miner for PlainSequences {
 }
 
 /// The first `top` patterns, or all of them, that earn at least `least`, in the one order.
+#[tactic(auto, using(crate::proofs::MineLemmas::made_fresh))]
 pub(crate) fn entries<M: Miner>(
     alloc: Global,
     base: &Base<M::Record>,
@@ -77,16 +82,47 @@ pub(crate) fn entries<M: Miner>(
     requires some { IfSome top (λ k. 1 ≤ k) }
     ensures { IfOk result (λ entries. entries.items ≡ answer least top (M.patterns (records_of base.now))) }
 {
-    match top {
-        None => {
-            let mut all = All::new(alloc, least);
-            M::mine(alloc, base, &mut all)?;
-            all.into_entries()
-        }
-        Some(k) => {
-            let mut first = Top::new(alloc, k, least);
-            M::mine(alloc, base, &mut first)?;
-            first.into_entries()
-        }
+    let mut collect = Limited::new(alloc, top, least);
+    M::mine(alloc, base, &mut collect)?;
+    collect.into_entries()
+}
+
+/// The first `top` itemsets, or all of them, that earn at least `least`, by an engine that is built for them.
+pub(crate) fn item_entries(
+    alloc: Global,
+    base: &Base<Record>,
+    engine: Engine,
+    least: i128,
+    top: Option<u32>,
+) -> Result<Vec<Entry>, NoMemory>
+    requires built { is_built Items engine ≡ true }
+    requires least { pos 1 ≤ℤ least }
+    requires some { IfSome top (λ k. 1 ≤ k) }
+    ensures { IfOk result (λ entries. entries.items ≡ item_answer (records_of base.now) least top) }
+{
+    match engine {
+        Engine::Plain => entries::<PlainItems>(alloc, base, least, top),
+        Engine::Lists => ranked::entries::<Lists>(alloc, base, least, top),
+        Engine::Project | Engine::Kept | Engine::Chain => unreachable!(),
+    }
+}
+
+/// The first `top` closed itemsets, or all of them, that earn at least `least`, by an engine that is built for them.
+pub(crate) fn closed_entries(
+    alloc: Global,
+    base: &Base<Record>,
+    engine: Engine,
+    least: i128,
+    top: Option<u32>,
+) -> Result<Vec<Entry>, NoMemory>
+    requires built { is_built Closed engine ≡ true }
+    requires least { pos 1 ≤ℤ least }
+    requires some { IfSome top (λ k. 1 ≤ k) }
+    ensures { IfOk result (λ entries. entries.items ≡ closed_answer (records_of base.now) least top) }
+{
+    match engine {
+        Engine::Plain => ranked::closed_entries::<Plain>(alloc, base, least, top),
+        Engine::Lists => ranked::closed_entries::<Lists>(alloc, base, least, top),
+        Engine::Project | Engine::Kept | Engine::Chain => unreachable!(),
     }
 }

@@ -10,7 +10,7 @@ ghost use Rattle.hu_run.specs.Stop.{told_line, word_text, refusal_line, read_fai
 
 use crate::format::{Sequences, Transactions};
 use crate::input::read_files;
-use crate::mine::{PlainItems, PlainSequences, entries};
+use crate::mine::{PlainSequences, closed_entries, entries, item_entries};
 use crate::stop::Stop;
 use crate::words::{Job, read_words};
 use hu_io::{Files, Sink};
@@ -127,17 +127,20 @@ fn answer_entries<'a, F: Files>(
 {
     let Job::Mine {
         task,
+        engine,
         least,
         top,
         names,
-        ..
     } = *job;
     match task {
         Task::Items => {
             let base = read_files::<Transactions, F>(alloc, files, names)?;
-            Ok(entries::<PlainItems>(alloc, &base, least, top)?)
+            Ok(item_entries(alloc, &base, engine, least, top)?)
         }
-        Task::Closed => unreachable!(),
+        Task::Closed => {
+            let base = read_files::<Transactions, F>(alloc, files, names)?;
+            Ok(closed_entries(alloc, &base, engine, least, top)?)
+        }
         Task::Sequences => {
             let base = read_files::<Sequences, F>(alloc, files, names)?;
             Ok(entries::<PlainSequences>(alloc, &base, least, top)?)

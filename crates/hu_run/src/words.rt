@@ -137,7 +137,8 @@ fn is_built(task: Task, engine: Engine) -> bool
 {
     matches!(
         (task, engine),
-        (Task::Items | Task::Sequences, Engine::Plain)
+        (Task::Items | Task::Closed, Engine::Plain | Engine::Lists)
+            | (Task::Sequences, Engine::Plain)
     )
 }
 
