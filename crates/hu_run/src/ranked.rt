@@ -110,7 +110,7 @@ fn closed_from<S: Search>(
     start: i128,
     top: Option<u32>,
 ) -> Result<Vec<Entry>, NoMemory>
-    requires ranks { IsRankingOf (records_of base.now) ranked.now }
+    requires ranks { IsRankingOf sets.now ranked.now }
     requires patterns { KeepsPatterns (records_of base.now) ranked.now }
     requires sets { sets.now ≡ records_of base.now }
     requires floor { ranked.now.floor ≤ℤ start }
