@@ -1,6 +1,7 @@
 pub mod Rule
 pub mod Ranks
 pub mod Laws
+pub mod Makes
 pub mod Pairs
 pub mod Top
 pub mod Limited

@@ -1,7 +1,7 @@
 -- Branches of a level, and what two of them make.
 use Rattle.std.proofs.Common.{◌≡◌, ℕ, zero, suc, ◌<◌, ◌≤◌, ◌+◌, ◌^◌, true, ℤ, List, [], ◌∷◌, ◌++◌, map, length, get_or, take, drop, Option, None, Some, MatchOption, refl, sym, ap, ◌∙◌, subst, inl, inr, ◌⊎◌, arith, sum_by, append_assoc, append-nil, option_to_list, Contains}
 use Rattle.std.specs.List.{AllByRecursion, range_with_len}
-use Rattle.std.proofs.lemmas.Bool.{and_parts, and_from, cases_eq}
+use Rattle.std.proofs.lemmas.Bool.{and_parts, and_from}
 use Rattle.std.proofs.lemmas.List.{length-append, length-map, map_push, take_more}
 use Rattle.std.proofs.lemmas.List.FromFn.{length-range_with_len}
 use Rattle.std.specs.declared.vec.Vec.{Vec}
@@ -17,8 +17,9 @@ use Rattle.hu_list.specs.declared.branch.Branch.{Branch}
 use Rattle.hu_list.specs.Nodes.{list_of, weight_of}
 use Rattle.hu_list.specs.Joins.{Joins}
 use Rattle.hu_list.specs.Gathered.{lists_in}
-use Rattle.hu_list.specs.Level.{branches_from, branch_of, ranks_of, IsBranch, IsLevel, IsLow, IsFork, AreJoined}
-use Rattle.hu_list.proofs.Ascending.{each-weaker, each-append, Ascend-push}
+use Rattle.hu_list.specs.Level.{branches_from, branch_of, ranks_of, IsBranch, IsLevel, IsFork, AreJoined}
+use Rattle.hu_search.specs.Growth.{IsLow}
+use Rattle.hu_search.proofs.Ascending.{each-weaker, each-append, each-get, Ascend-push}
 use Rattle.hu_list.proofs.ListLemmas.{weight-list, length-nodes, AreRanked-ranking}
 
 -- ---- the branches of the empty set
@@ -44,13 +45,6 @@ each-range low a (suc n) below = (below, each-range low (a + 1) n (omega arith))
 pub Ascend-range : (a n : ℕ) → Ascend (range_with_len a n)
 Ascend-range a zero = tt
 Ascend-range a (suc n) = (each-range (suc a) (a + 1) n (omega arith), Ascend-range (a + 1) n)
-
-pub Member-range : (a n k : ℕ) → a ≤ k → k < a + n → Member k (range_with_len a n)
-Member-range a zero k low high = absurd (omega arith)
-Member-range a (suc n) k low high = elim (cases_eq a k) [
-  | inl e ↦ inl e
-  | inr ne ↦ inr (Member-range (a + 1) n k (omega (arith, ne)) (omega arith))
-]
 
 each-first : (r : Ranking) (a n : ℕ) → a + n ≤ length r.items → AllByRecursion (IsBranch r []) (branches_from a (map (λ rank. list_of r.records (rank ∷ [])) (range_with_len a n)))
 each-first r a zero within = tt
@@ -213,11 +207,6 @@ pub each-drop : {A : Type 0} (P : A → Type 0) (i : ℕ) (xs : List A) → AllB
 each-drop P zero xs all = all
 each-drop P (suc i) [] all = tt
 each-drop P (suc i) (x ∷ xs) all = each-drop P i xs all.1
-
-pub each-get : {A : Type 0} (P : A → Type 0) (xs : List A) (i : ℕ) (d : A) → AllByRecursion P xs → i < length xs → P (get_or xs i d)
-each-get P [] i d all within = absurd (omega arith)
-each-get P (x ∷ xs) zero d all within = all.0
-each-get P (x ∷ xs) (suc i) d all within = each-get P xs i d all.1 (omega arith)
 
 pub Ascend-take : (i : ℕ) (branches : List Branch) → Ascend (ranks_of branches) → Ascend (ranks_of (take i branches))
 Ascend-take zero branches up = tt

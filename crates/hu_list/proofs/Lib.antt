@@ -1,16 +1,11 @@
 pub mod NodeSums
-pub mod Ascending
 pub mod SetLemmas
 pub mod ListLemmas
 pub mod PlaceLemmas
 pub mod MergeLemmas
 pub mod SingleLemmas
-pub mod Growth
 pub mod GatherLemmas
-pub mod KeyLemmas
 pub mod BranchLemmas
-pub mod UnrankLemmas
-pub mod Turns
-pub mod SearchLemmas
+pub mod LevelLemmas
 pub mod TurnLemmas
 pub mod Joining

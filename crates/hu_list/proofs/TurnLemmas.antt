@@ -1,26 +1,20 @@
 -- One turn of a search: a branch's set is offered, and then what grows it.
-use Rattle.std.proofs.Common.{◌≡◌, ℕ, ◌<◌, ◌+◌, ℤ, pos, ◌≤ℤ◌, Option, List, [], ◌∷◌, ◌++◌, length, get_or, take, drop, refl, sym, ap, ◌∙◌, subst, arith, Contains}
-use Rattle.std.specs.List.{range_with_len}
+use Rattle.std.proofs.Common.{◌≡◌, ℕ, ◌<◌, ◌+◌, ℤ, pos, ◌≤ℤ◌, Option, List, [], ◌∷◌, ◌++◌, length, get_or, take, drop, refl, sym, ap, ◌∙◌, subst, arith}
 use Rattle.std.proofs.lemmas.Int.{ints}
 use Rattle.std.proofs.lemmas.List.{get_or-map, length-map, drop-map}
 use Rattle.hu_kind.specs.declared.entry.Entry.{Entry}
-use Rattle.hu_kind.specs.Database.{support}
-use Rattle.hu_kind.specs.Itemsets.{item_patterns}
 use Rattle.hu_kind.specs.Order.{Ascend}
-use Rattle.hu_kind.proofs.Members.{Member-from_contains, Contains-from_member}
-use Rattle.hu_totals.specs.Ranked.{Ranking, IsRanking, unranked}
-use Rattle.hu_collect.specs.Rule.{Rule, made, floor_of, IsKept, MakesSome}
-use Rattle.hu_collect.specs.Laws.{MakesInTurn, MakesByMembers, MakesByReaching, KeepsFloor, LeavesBelowFloor}
+use Rattle.hu_totals.specs.Ranked.{Ranking}
+use Rattle.hu_collect.specs.Rule.{Rule, made, floor_of, IsKept}
+use Rattle.hu_collect.specs.Laws.{MakesInTurn, KeepsFloor, LeavesBelowFloor}
 use Rattle.hu_list.specs.declared.list.Node.{Node}
 use Rattle.hu_list.specs.declared.branch.Branch.{Branch}
-use Rattle.hu_list.specs.Level.{rank_entry, Grows, Covers, ranks_of, InTable, IsLevel, IsFork}
-use Rattle.hu_list.specs.Makes.{MakesReaching, MakesSomeOf}
-use Rattle.hu_list.proofs.Growth.{Begins}
-use Rattle.hu_list.proofs.Ascending.{each-weaker}
-use Rattle.hu_list.proofs.BranchLemmas.{Member-range}
-use Rattle.hu_list.proofs.UnrankLemmas.{InTable-occurs, pattern-grows, grows-pattern}
-use Rattle.hu_list.proofs.Turns.{made-all, MakesSome-all}
-use Rattle.hu_list.proofs.SearchLemmas.{kept-offered, floor-offered, floor-upto, next-made, some-next, some-offered, Covers-later, IsFork-at}
+use Rattle.hu_search.specs.Growth.{rank_entry, Grows, Covers}
+use Rattle.hu_list.specs.Level.{ranks_of, IsLevel, IsFork}
+use Rattle.hu_collect.specs.Makes.{MakesReaching, MakesSomeOf}
+use Rattle.hu_search.proofs.Beginnings.{Begins}
+use Rattle.hu_search.proofs.SearchLemmas.{kept-offered, floor-offered, floor-upto, next-made, some-next, some-offered, Covers-later}
+use Rattle.hu_list.proofs.LevelLemmas.{IsFork-at}
 
 module _ (r : Ranking) (prefix : Option (List Node)) (ranks : List ℕ) (branches : List Branch) (level : IsLevel r prefix ranks branches) (turns : MakesInTurn) (floors : KeepsFloor) (low : LeavesBelowFloor)
     (rule : Rule) (old : List Entry) (kept : IsKept rule old) (covers : Covers rule old r ranks (ranks_of branches))
@@ -89,26 +83,3 @@ module _ (r : Ranking) (prefix : Option (List Node)) (ranks : List ℕ) (branche
       let by_set = subst (λ s. MakesSomeOf after offered (Grows r s) new) (is_set ∙ ap (λ s. s ++ b.rank ∷ []) same_ranks ∙ sym set_is) grown in
       let by_rule = subst (λ u. MakesSomeOf u offered (Grows r (ranks ++ get_or (ranks_of branches) i 0 ∷ [])) new) (after_is ∙ same_rule) by_set in
       some-next r ranks (ranks_of branches) i 0 in_ranks turns floors low rule old content offered up so_far least_rule own_is new by_rule
-
--- ---- the whole search
-
-pub Covers-first : (r : Ranking) (rule : Rule) (content : List Entry) (branches : List Branch) (set : List ℕ) → IsRanking r → ranks_of branches ≡ range_with_len 0 (length r.items) → set ≡ [] → Covers rule content r set (ranks_of branches)
-Covers-first r rule content branches set rules all none more up occurs pass reach =
-    let within : InTable r more = InTable-occurs r rules more (subst (λ s. 0 < support r.records (s ++ more)) none occurs) in
-    each-weaker (λ rank. rank < length r.items) (Contains (ranks_of branches)) more
-    (λ rank below. subst (λ ns. Contains ns rank) (sym all) (Contains-from_member rank (range_with_len 0 (length r.items)) (Member-range 0 (length r.items) rank (omega arith) (omega (arith, below)))))
-    within
-
-module _ (r : Ranking) (rules : IsRanking r) (turns : MakesInTurn) (rule : Rule) (old new : List Entry) (set : List ℕ) (none : set ≡ []) where
-  pub all-patterns : MakesByMembers → MakesByReaching → MakesReaching rule old (Grows r set) new → new ≡ made rule old (item_patterns (unranked r))
-  all-patterns members reaching some =
-      let some' = subst (λ s. MakesReaching rule old (Grows r s) new) none some in
-      made-all turns rule members reaching {P = Grows r []} old new (item_patterns (unranked r)) some' (λ e. (
-        λ g. Contains-from_member e (item_patterns (unranked r)) (pattern-grows r rules e g),
-        λ c. grows-pattern r rules e (Member-from_contains e (item_patterns (unranked r)) c),
-      ))
-
-  pub some-patterns : MakesSomeOf rule old (Grows r set) new → MakesSome rule old (item_patterns (unranked r)) new
-  some-patterns some =
-      let some' = subst (λ s. MakesSomeOf rule old (Grows r s) new) none some in
-      MakesSome-all turns rule {P = Grows r []} old new (item_patterns (unranked r)) some' (λ e g. Contains-from_member e (item_patterns (unranked r)) (pattern-grows r rules e g))

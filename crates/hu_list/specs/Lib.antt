@@ -3,5 +3,4 @@ pub mod Bounds
 pub mod Joins
 pub mod Gathered
 pub mod Level
-pub mod Makes
 pub mod Rows

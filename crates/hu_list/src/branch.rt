@@ -5,7 +5,8 @@ ghost use Rattle.std.specs.List.{sum_by, range_with_len, AllByRecursion};
 ghost use Rattle.hu_totals.specs.Ranked.{Ranking, IsRanking};
 ghost use Rattle.hu_list.specs.Nodes.{weight_of};
 ghost use Rattle.hu_list.specs.Gathered.{lists_in};
-ghost use Rattle.hu_list.specs.Level.{branches_from, branch_of, ranks_of, IsLevel, IsLow, IsFork, AreJoined};
+ghost use Rattle.hu_list.specs.Level.{branches_from, branch_of, ranks_of, IsLevel, IsFork, AreJoined};
+ghost use Rattle.hu_search.specs.Growth.{IsLow};
 
 use crate::gather::single_lists;
 use crate::list::{Node, UtilityList};

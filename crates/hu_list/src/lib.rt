@@ -9,7 +9,6 @@
 
 mod branch;
 mod gather;
-mod key;
 mod list;
 mod merge;
 mod search;

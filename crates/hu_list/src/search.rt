@@ -5,16 +5,17 @@ ghost use Rattle.hu_kind.specs.Itemsets.{item_patterns};
 ghost use Rattle.hu_totals.specs.Ranked.{unranked, IsRanking};
 ghost use Rattle.hu_collect.specs.Rule.{made, floor_of, IsKept, MakesSome};
 ghost use Rattle.hu_collect.specs.Ranks.{RestsOn};
-ghost use Rattle.hu_list.specs.Level.{rank_entry, ranks_of, Grows, Covers, InTable, IsBranch, IsLevel, IsFork};
-ghost use Rattle.hu_list.specs.Makes.{MakesReaching, MakesSomeOf};
+ghost use Rattle.hu_search.specs.Growth.{rank_entry, Grows, Covers, InTable};
+ghost use Rattle.hu_list.specs.Level.{ranks_of, IsBranch, IsLevel, IsFork};
+ghost use Rattle.hu_collect.specs.Makes.{MakesReaching, MakesSomeOf};
 
 use crate::branch::{Branch, first_branches, joined_branches};
-use crate::key::key_of;
 use crate::list::UtilityList;
 use hu_collect::{
     Collect, Gate, law_of_floors, law_of_low_entries, law_of_members, law_of_reaching, law_of_turns,
 };
 use hu_kind::{Entry, NoMemory};
+use hu_search::key_of;
 use hu_totals::Ranked;
 use std::alloc::Global;
 

@@ -1,8 +1,9 @@
 use Rattle.std.proofs.Common.{◌∷◌, [], ◌++◌, Some}
 use Rattle.std.specs.Option.{option_copied}
 use Rattle.std.proofs.lemmas.Result.{IfOk-weaker}
-use Rattle.hu_list.specs.Level.{ranks_of, Covers, IsLevel, AreJoined}
-use Rattle.hu_list.proofs.SearchLemmas.{IsLevel-joined, Covers-joined}
+use Rattle.hu_list.specs.Level.{ranks_of, IsLevel, AreJoined}
+use Rattle.hu_search.specs.Growth.{Covers}
+use Rattle.hu_list.proofs.LevelLemmas.{IsLevel-joined, Covers-joined}
 use Rattle.hu_list.proofs.search.grown.Goals as goal
 
 pub returns-clause-level : goal.returns-clause-level

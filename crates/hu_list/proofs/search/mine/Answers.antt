@@ -1,12 +1,12 @@
 use Rattle.std.proofs.Common.{ap, ◌∙◌}
 use Rattle.std.proofs.lemmas.Result.{on_ok_weaker, on_err_weaker}
 use Rattle.hu_list.specs.Level.{ranks_of}
-use Rattle.hu_list.proofs.TurnLemmas.{Covers-first, all-patterns, some-patterns}
+use Rattle.hu_search.proofs.WholeLemmas.{Covers-first, all-patterns, some-patterns}
 use Rattle.hu_list.proofs.search.mine.Goals as goal
 
 pub search-requires-clause-covers : goal.search-requires-clause-covers
 search-requires-clause-covers g c =
-    Covers-first c.args.ranked.now (g.C.Collect.rule c.args.collect.now) (g.C.Collect.content c.args.collect.now) c.deref.result.now c.new.result.items c.first_branches.ensures.rules
+    Covers-first c.args.ranked.now (g.C.Collect.rule c.args.collect.now) (g.C.Collect.content c.args.collect.now) (ranks_of c.deref.result.now) c.new.result.items c.first_branches.ensures.rules
     (ap ranks_of c.deref.ensures.value ∙ c.in_ok-branches.ensures.all) c.new.ensures.items
 
 pub returns-clause-ok : goal.returns-clause-ok

@@ -6,7 +6,7 @@ use Rattle.hu_kind.specs.declared.entry.Entry.{Entry}
 use Rattle.hu_kind.proofs.Members.{Member-append_left, Member-append_right, Member-append_cases, Member-from_contains, Contains-from_member}
 use Rattle.hu_collect.specs.Rule.{Rule, passes, made, floor_of, IsKept, MakesSome}
 use Rattle.hu_collect.specs.Laws.{MakesInTurn, MakesByMembers, MakesByReaching, KeepsFloor}
-use Rattle.hu_list.specs.Makes.{MakesReaching, MakesSomeOf}
+use Rattle.hu_collect.specs.Makes.{MakesReaching, MakesSomeOf}
 
 pub empty-contains : {A : Type 0} (x : A) → Contains [] x → ⊥
 empty-contains x c = Member-from_contains x [] c

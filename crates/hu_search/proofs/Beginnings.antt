@@ -5,7 +5,7 @@ use Rattle.hu_kind.specs.Database.{support}
 use Rattle.hu_kind.specs.Order.{Ascend}
 use Rattle.hu_kind.proofs.Members.{Member}
 use Rattle.hu_totals.specs.Ranked.{Ranking}
-use Rattle.hu_list.specs.Level.{rank_entry}
+use Rattle.hu_search.specs.Growth.{rank_entry}
 
 -- an entry is that of a set that grows a set by one of some ranks, and then by later ones, and occurs
 pub record Begins (r : Ranking) (ranks firsts : List ℕ) (entry : Entry) : Type 0 where

@@ -4,8 +4,8 @@ use Rattle.std.proofs.lemmas.List.Sorted.{IsNonDecreasingBy-from_sort}
 use Rattle.std.proofs.lemmas.Result.{IfOk-weaker}
 use Rattle.hu_collect.specs.Ranks.{key_of}
 use Rattle.hu_kind.specs.declared.item.Item.{Item}
-use Rattle.hu_list.proofs.KeyLemmas.{numbers, slice_get-index, key-sorted}
-use Rattle.hu_list.proofs.key.key_of.Goals as goal
+use Rattle.hu_search.proofs.KeyLemmas.{numbers, slice_get-index, key-sorted}
+use Rattle.hu_search.proofs.key.key_of.Goals as goal
 
 pub returns : goal.returns
 returns c =

@@ -1,8 +1,8 @@
 use Rattle.std.proofs.Common.{◌++◌, ◌∷◌, [], ap, sym, ◌∙◌, get_or, slice_index}
 use Rattle.std.proofs.lemmas.List.{map_push, map_more}
 use Rattle.hu_kind.specs.declared.item.Item.{Item}
-use Rattle.hu_list.proofs.KeyLemmas.{numbers, slice_get-index}
-use Rattle.hu_list.proofs.key.items_of.Goals as goal
+use Rattle.hu_search.proofs.KeyLemmas.{numbers, slice_get-index}
+use Rattle.hu_search.proofs.key.items_of.Goals as goal
 
 pub loop-rank-preserved : goal.loop-rank-preserved
 loop-rank-preserved c =

@@ -18,9 +18,9 @@ use Rattle.hu_kind.proofs.Members.{Member, Member-map, Member-from_map, Member-f
 use Rattle.hu_kind.proofs.Occurring.{at_member, Ascend-ranking, Member-ranking, each-ranking, Occurs, held-members, Occurs-from_member, Member-from_occurs}
 use Rattle.hu_totals.specs.Ranked.{Ranking, IsRanking, unranked, item_at}
 use Rattle.hu_totals.proofs.SortedLists.{Once, Member-from_ranking, ranking-members}
-use Rattle.hu_list.specs.Level.{rank_entry, Grows, InTable}
-use Rattle.hu_list.proofs.Ascending.{each-in_range, each-weaker}
-use Rattle.hu_list.proofs.KeyLemmas.{items_at, Once-items_at}
+use Rattle.hu_search.specs.Growth.{rank_entry, Grows, InTable}
+use Rattle.hu_search.proofs.Ascending.{each-in_range, each-weaker}
+use Rattle.hu_search.proofs.KeyLemmas.{items_at, Once-items_at}
 
 -- ---- putting a list in order changes neither what holds it nor what it earns
 

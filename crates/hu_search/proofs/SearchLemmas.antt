@@ -1,42 +1,43 @@
--- What a search over the branches of a level makes.
-use Rattle.std.proofs.Common.{◌≡◌, ℕ, zero, suc, ◌<◌, ◌≤◌, ◌+◌, true, false, ℤ, pos, ◌≤ℤ◌, ◌<ℤ◌, Option, None, Some, List, [], ◌∷◌, ◌++◌, length, get_or, take, drop, refl, sym, ap, ◌∙◌, subst, inl, inr, ◌⊎◌, arith, append_assoc, add-one, Contains, IsTrue, Result, Ok, Err, OnErr, IsSome, ◌↔◌, option_to_list}
+-- What a search makes that takes the ranks of a list one after another.
+use Rattle.std.proofs.Common.{Bool, ◌+ℤ◌, ◌≡◌, ℕ, zero, suc, ◌<◌, ◌≤◌, ◌+◌, true, false, ℤ, pos, ◌≤ℤ◌, ◌<ℤ◌, Option, None, Some, List, [], ◌∷◌, ◌++◌, length, get_or, take, drop, refl, sym, ap, ◌∙◌, subst, inl, inr, ◌⊎◌, arith, append_assoc, add-one, Contains, IsTrue, Result, Ok, Err, OnErr, IsSome, ◌↔◌, option_to_list}
 use Rattle.std.specs.List.{AllByRecursion}
 use Rattle.std.proofs.lemmas.Bool.{and_parts, false≢true}
 use Rattle.std.proofs.lemmas.Int.{ints}
 use Rattle.std.proofs.lemmas.List.{take_all, length-append, same_from_push}
 use Rattle.hu_kind.specs.declared.entry.Entry.{Entry}
+use Rattle.std.specs.Bool.{if◌then◌else◌}
+use Rattle.hu_kind.specs.Record.{holds, values_of}
 use Rattle.hu_kind.specs.Database.{utility, support}
 use Rattle.hu_kind.specs.Order.{Ascend}
 use Rattle.hu_kind.proofs.Members.{Member, Member-append_left, Member-append_right, Member-append_cases, Member-from_contains, Contains-from_member}
-use Rattle.hu_kind.proofs.Occurring.{by_members}
+use Rattle.hu_kind.proofs.Occurring.{count-member}
 use Rattle.hu_totals.specs.Ranked.{Ranking, IsRanking}
 use Rattle.hu_collect.specs.Rule.{Rule, passes, made, floor_of, IsKept}
 use Rattle.hu_collect.specs.Laws.{MakesInTurn, KeepsFloor, LeavesBelowFloor}
 use Rattle.hu_collect.specs.Ranks.{IsRankSet, key_of, is_part, CanOpen, IsGrown, RestsOn}
-use Rattle.hu_list.specs.declared.list.Node.{Node}
-use Rattle.hu_list.specs.declared.branch.Branch.{Branch}
-use Rattle.hu_list.specs.Nodes.{list_of}
-use Rattle.hu_list.specs.Bounds.{own_sum, BoundsGrown}
-use Rattle.hu_list.specs.Level.{rank_entry, Grows, Covers, ranks_of, IsBranch, IsLevel, IsFork, AreJoined}
-use Rattle.hu_list.specs.Makes.{MakesReaching, MakesSomeOf}
-use Rattle.hu_list.proofs.Growth.{Begins}
-use Rattle.hu_list.proofs.Ascending.{Ascend-right, each-append}
-use Rattle.hu_list.proofs.ListLemmas.{own_sum-nodes, length-nodes}
-use Rattle.hu_list.proofs.KeyLemmas.{IsRankSet-from, is_part-key_of}
-use Rattle.hu_list.proofs.BranchLemmas.{each-get, each-drop, Ascend-drop}
-use Rattle.hu_list.proofs.UnrankLemmas.{InTable-occurs}
-use Rattle.hu_list.proofs.Turns.{MakesReaching-none, MakesReaching-then, MakesReaching-as, MakesSomeOf-then, MakesSomeOf-as, kept-made, empty-contains}
+use Rattle.hu_search.specs.Growth.{rank_entry, Grows, Covers}
+use Rattle.hu_collect.specs.Makes.{MakesReaching, MakesSomeOf}
+use Rattle.hu_search.proofs.Beginnings.{Begins}
+use Rattle.hu_search.proofs.Ascending.{Ascend-right, each-get}
+use Rattle.hu_search.proofs.KeyLemmas.{IsRankSet-from, is_part-key_of}
+use Rattle.hu_search.proofs.UnrankLemmas.{InTable-occurs}
+use Rattle.hu_collect.proofs.Turns.{MakesReaching-none, MakesReaching-then, MakesReaching-as, MakesSomeOf-then, MakesSomeOf-as, kept-made, empty-contains}
 
 -- ---- the set of a branch itself
 
-nil-length : {A : Type 0} (xs : List A) → length xs ≡ 0 → xs ≡ []
-nil-length [] e = refl
-nil-length (x ∷ xs) e = absurd (omega arith)
+-- a set that no record holds earns nothing
+utility-unheld : (records : List (List (ℕ × ℤ))) (set : List ℕ) → ((cells : List (ℕ × ℤ)) → Member cells records → holds set cells ≡ false) → utility records set ≡ pos 0
+utility-unheld [] set none = refl
+utility-unheld (cells ∷ records) set none =
+    ap (λ held. (if held then values_of set cells else pos 0) +ℤ utility records set) (none cells (inl refl))
+    ∙ ap (λ u. pos 0 +ℤ u) (utility-unheld records set (λ later m. none later (inr m)))
 
--- a set that occurs nowhere earns nothing
 utility-none : (records : List (List (ℕ × ℤ))) (set : List ℕ) → support records set ≡ 0 → utility records set ≡ pos 0
-utility-none records set none =
-    sym (own_sum-nodes 0 records set) ∙ ap own_sum (nil-length (list_of records set) (length-nodes 0 records set ∙ none))
+utility-none records set none = utility-unheld records set (λ cells m. by cells m (holds set cells) refl)
+  where
+    by : (cells : List (ℕ × ℤ)) → Member cells records → (held : Bool) → holds set cells ≡ held → holds set cells ≡ false
+    by cells m false is = is
+    by cells m true is = absurd (omega (arith, none, count-member (holds set) cells records m is))
 
 -- an entry is that of a set, which occurs
 pub record IsOwn (r : Ranking) (set : List ℕ) (entry : Entry) : Type 0 where
@@ -241,13 +242,6 @@ pub Covers-none : (r : Ranking) (rule : Rule) (content : List Entry) (set : List
     → (taken : List ℕ) → Covers rule content r set taken
 Covers-none r rule content set none taken more up occurs pass reach = absurd (none more up occurs pass reach)
 
-pub Covers-below : (r : Ranking) (rule : Rule) (content : List Entry) (set : List ℕ) (nodes : List Node) (bound : ℤ) → IsRanking r → nodes ≡ list_of r.records set → BoundsGrown nodes bound → bound <ℤ floor_of rule content
-    → (taken : List ℕ) → Covers rule content r set taken
-Covers-below r rule content set nodes bound rules is bounds below =
-    Covers-none r rule content set (λ more up occurs pass reach.
-    let most = bounds r.records rules.ascending set more is up in
-    absurd (omega (arith, ints, most, below, reach)))
-
 -- ---- keys that a collector doesn't open
 
 pub can_open : (table : Option (List ℕ)) (items ranks : List ℕ) (last : ℕ) (key : List ℤ) → RestsOn table items → Ascend (ranks ++ last ∷ []) → AllByRecursion (λ rank. rank < length items) (ranks ++ last ∷ [])
@@ -281,71 +275,6 @@ Covers-closed r rule content ranks last key rules rests is closed =
     let wanted = (and_parts (rule.wants (key_of r.items (ranks ++ last ∷ more))) _ (subst (λ s. passes rule (rank_entry r s) ≡ true) same pass)).0 in
     absurd (false≢true (sym unwanted ∙ wanted)))
 
--- ---- what joined branches cover
-
-pub Covers-joined : (r : Ranking) (floor : ℤ) (rule : Rule) (content : List Entry) (ranks : List ℕ) (x : Branch) (later grown : List Branch) → AreJoined r floor ranks x later grown → floor ≤ℤ floor_of rule content
-    → Covers rule content r (ranks ++ x.rank ∷ []) (ranks_of later) → Covers rule content r (ranks ++ x.rank ∷ []) (ranks_of grown)
-Covers-joined r floor rule content ranks x later grown joined low covers more up occurs pass reach =
-    each more (covers more up occurs pass reach) (λ m mem. mem)
-  where
-    set : List ℕ
-    set = ranks ++ x.rank ∷ []
-
-    part : (front : List ℕ) (m : ℕ) → Member m more → AllByRecursion (λ z. Member z ((ranks ++ x.rank ∷ []) ++ more)) front → AllByRecursion (Contains ((ranks ++ x.rank ∷ []) ++ more)) (front ++ m ∷ [])
-    part [] m mem all = (Contains-from_member m ((ranks ++ x.rank ∷ []) ++ more) (Member-append_right m (ranks ++ x.rank ∷ []) more mem), tt)
-    part (z ∷ front) m mem all = (Contains-from_member z ((ranks ++ x.rank ∷ []) ++ more) all.0, part front m mem all.1)
-
-    each : (ms : List ℕ) → AllByRecursion (Contains (ranks_of later)) ms → ((m : ℕ) → Member m ms → Member m more) → AllByRecursion (Contains (ranks_of grown)) ms
-    each [] all within = tt
-    each (m ∷ ms) all within = (one, each ms all.1 (λ z n. within z (inr n)))
-      where
-        one : Contains (ranks_of grown) m
-        one = elim (joined.others m all.0) [
-          | inl there ↦ there
-          | inr is_low ↦
-              let below = is_low ((ranks ++ x.rank ∷ []) ++ more) up (part (ranks ++ x.rank ∷ []) m (within m (inl refl)) (by_members (λ z. Member z ((ranks ++ x.rank ∷ []) ++ more)) (ranks ++ x.rank ∷ []) (λ z n. Member-append_left z (ranks ++ x.rank ∷ []) more n))) occurs in
-              absurd (omega (arith, ints, below, low, reach))
-        ]
-
-pub IsLevel-joined : (r : Ranking) (prefix : Option (List Node)) (floor : ℤ) (ranks : List ℕ) (x : Branch) (later grown : List Branch) → IsFork r prefix ranks x later → AreJoined r floor ranks x later grown
-    → IsLevel r (Some x.list) (ranks ++ x.rank ∷ []) grown
-IsLevel-joined r prefix floor ranks x later grown fork joined = record {
-  in_table = each-append (λ rank. rank < length r.items) ranks (x.rank ∷ []) fork.level.in_table (fork.here.in_table, tt);
-  prefix_is = (some ranks, fork.here.is);
-  ascending = joined.ascending;
-  each = joined.each;
-}
-  where
-    some : (xs : List ℕ) → 0 < length (xs ++ x.rank ∷ [])
-    some [] = omega arith
-    some (y ∷ ys) = omega arith
-
--- a level without branches
-pub IsLevel-none : (r : Ranking) (prefix : Option (List Node)) (ranks : List ℕ) (x : Branch) (later : List Branch) → IsFork r prefix ranks x later → IsLevel r (Some x.list) (ranks ++ x.rank ∷ []) []
-IsLevel-none r prefix ranks x later fork = record {
-  in_table = each-append (λ rank. rank < length r.items) ranks (x.rank ∷ []) fork.level.in_table (fork.here.in_table, tt);
-  prefix_is = (some ranks, fork.here.is);
-  ascending = tt;
-  each = tt;
-}
-  where
-    some : (xs : List ℕ) → 0 < length (xs ++ x.rank ∷ [])
-    some [] = omega arith
-    some (y ∷ ys) = omega arith
-
--- a branch and those after it
-pub IsFork-at : (r : Ranking) (prefix : Option (List Node)) (ranks : List ℕ) (branches : List Branch) (i : ℕ) (x : Branch) → IsLevel r prefix ranks branches → i < length branches → x ≡ get_or branches i x → IsFork r prefix ranks x (drop (i + 1) branches)
-IsFork-at r prefix ranks branches i x level within is = record {
-  level = record { in_table = level.in_table; prefix_is = level.prefix_is; ascending = Ascend-drop (i + 1) branches level.ascending; each = each-drop (IsBranch r ranks) (i + 1) branches level.each };
-  here = subst (IsBranch r ranks) (sym is) (each-get (IsBranch r ranks) branches i x level.each within);
-  after = subst (λ (b : Branch). AllByRecursion (λ rank. b.rank < rank) (ranks_of (drop (i + 1) branches))) (sym is) (after branches i level.ascending within);
-}
-  where
-    after : (bs : List Branch) (k : ℕ) → Ascend (ranks_of bs) → k < length bs → AllByRecursion (λ rank. (get_or bs k x).rank < rank) (ranks_of (drop (k + 1) bs))
-    after [] k up inside = absurd (omega arith)
-    after (b ∷ bs) zero up inside = up.0
-    after (b ∷ bs) (suc k) up inside = let ih = after bs k up.1 (omega arith) in rw add-one (rw add-one at ih)
-
 -- the entry of a set, by its parts
 pub offered-entry : (r : Ranking) (set : List ℕ) (rule : Rule) (content new : List Entry) (key : List ℤ) (earned : ℤ) (n : ℕ) → key ≡ key_of r.items set → earned ≡ utility r.records set → n ≡ support r.records set
     → new ≡ made rule content ((record { key = key; utility = earned; support = n }) ∷ []) → new ≡ made rule content (rank_entry r set ∷ [])
@@ -355,9 +284,6 @@ offered-entry r set rule content new key earned n k u s is = is ∙ (λ j. made 
 pub offered-below : LeavesBelowFloor → (r : Ranking) (set : List ℕ) (rule : Rule) (content : List Entry) (earned : ℤ) → IsKept rule content → earned ≡ utility r.records set → earned <ℤ floor_of rule content
     → content ≡ made rule content (rank_entry r set ∷ [])
 offered-below low r set rule content earned kept is below = sym (low rule content (rank_entry r set) kept (omega (arith, ints, is, below)))
-
-pub support-list : (nodes : List Node) (records : List (List (ℕ × ℤ))) (set : List ℕ) → nodes ≡ list_of records set → length nodes ≡ support records set
-support-list nodes records set is = ap length is ∙ length-nodes 0 records set
 
 -- a claim of failure holds where its fact does
 pub on_err : {T E : Type 0} (result : Result T E) (P : Type 0) → P → OnErr result P

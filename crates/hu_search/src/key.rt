@@ -5,19 +5,14 @@ ghost use Rattle.std.specs.List.{AllByRecursion};
 ghost use Rattle.hu_kind.specs.Order.{Ascend};
 ghost use Rattle.hu_totals.specs.Ranked.{IsRanking};
 ghost use Rattle.hu_collect.specs.Ranks.{key_of};
-ghost use Rattle.hu_list.specs.Level.{InTable};
+ghost use Rattle.hu_search.specs.Growth.{InTable};
 
 use hu_kind::{Item, Key, NoMemory};
 use hu_totals::Ranked;
 use std::alloc::Global;
 
 /// The key of a set of ranks and one rank more: their items, ascending.
-pub(crate) fn key_of(
-    alloc: Global,
-    ranked: &Ranked,
-    ranks: &[u32],
-    last: u32,
-) -> Result<Key, NoMemory>
+pub fn key_of(alloc: Global, ranked: &Ranked, ranks: &[u32], last: u32) -> Result<Key, NoMemory>
     requires rules { IsRanking ranked.now }
     requires table { InTable ranked.now (ranks.now ++ last ∷ []) }
     requires ascending { Ascend (ranks.now ++ last ∷ []) }

@@ -1,6 +1,7 @@
--- Numbers that ascend.
-use Rattle.std.proofs.Common.{◌≡◌, ℕ, suc, ◌<◌, ◌+◌, ℤ, List, [], ◌∷◌, ◌++◌, length, get_or, refl, arith, subst, inl, All}
-use Rattle.std.specs.List.{AllByRecursion, AllAdjacentBelow}
+-- Numbers that ascend, and facts of each element of a list.
+use Rattle.std.proofs.Common.{◌≡◌, ℕ, zero, suc, ◌<◌, ◌≤◌, ◌+◌, ℤ, List, [], ◌∷◌, ◌++◌, length, get_or, refl, arith, subst, inl, inr, All}
+use Rattle.std.specs.List.{AllByRecursion, AllAdjacentBelow, range_with_len}
+use Rattle.std.proofs.lemmas.Bool.{cases_eq}
 use Rattle.hu_kind.specs.Record.{items_in}
 use Rattle.hu_kind.specs.Order.{Ascend}
 use Rattle.hu_kind.proofs.Members.{Member, Member-append_right}
@@ -71,3 +72,17 @@ pub each-in_range : (n : ℕ) (records : List (List (ℕ × ℤ))) → All (λ c
 each-in_range n records all =
     each-weaker (λ cells. All (λ cell. cell.0 < n) cells) (λ cells. AllByRecursion (λ cell. cell.0 < n) cells) records (λ cells. each-from_all (λ cell. cell.0 < n) cells)
     (each-from_all (λ cells. All (λ cell. cell.0 < n) cells) records all)
+
+-- an element of a list has a fact of each
+pub each-get : {A : Type 0} (P : A → Type 0) (xs : List A) (i : ℕ) (d : A) → AllByRecursion P xs → i < length xs → P (get_or xs i d)
+each-get P [] i d all within = absurd (omega arith)
+each-get P (x ∷ xs) zero d all within = all.0
+each-get P (x ∷ xs) (suc i) d all within = each-get P xs i d all.1 (omega arith)
+
+-- the numbers of a range
+pub Member-range : (a n k : ℕ) → a ≤ k → k < a + n → Member k (range_with_len a n)
+Member-range a zero k low high = absurd (omega arith)
+Member-range a (suc n) k low high = elim (cases_eq a k) [
+  | inl e ↦ inl e
+  | inr ne ↦ inr (Member-range (a + 1) n k (omega (arith, ne)) (omega arith))
+]

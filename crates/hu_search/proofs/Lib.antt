@@ -1,0 +1,6 @@
+pub mod Ascending
+pub mod Beginnings
+pub mod KeyLemmas
+pub mod UnrankLemmas
+pub mod SearchLemmas
+pub mod WholeLemmas
