@@ -3,6 +3,8 @@ pub mod Growth
 pub mod Patterns
 pub mod CellLemmas
 pub mod RowLemmas
+pub mod Parts
+pub mod GrownLemmas
 pub mod SearchLemmas
 pub mod Better
 pub mod PlaceGrowth

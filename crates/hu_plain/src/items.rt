@@ -5,18 +5,20 @@ ghost use Rattle.hu_kind.specs.Itemsets.{item_patterns};
 ghost use Rattle.hu_base.specs.Base.{records_of};
 ghost use Rattle.hu_collect.specs.Rule.{made, IsKept, MakesSome};
 ghost use Rattle.hu_plain.specs.Row.{grown_entry, grown_patterns, grown_rows, AreRows};
+ghost use Rattle.hu_plain.specs.Grown.{AreGrown};
 ghost use Rattle.hu_plain.specs.View.{rows_of};
 
-use crate::row::{Row, first_rows, grown_rows, later_items, total_earned};
+use crate::grown::{Grown, all_grown, grown_rows};
+use crate::row::{Row, first_rows, later_items, total_earned};
 use hu_base::Base;
 use hu_collect::{Collect, law_of_members, law_of_turns};
 use hu_kind::{Entry, Item, Key, NoMemory, Record};
 use std::alloc::Global;
 
 /// Offers each itemset that some record holds, with its utility and its support. Nothing is cut. A set is grown over the
-/// records that hold it alone, each looked through by halves for each item that stands after the set in some of them.
-/// The memory is a row for each record that holds a set or one of its prefixes, and the items after them. After want of
-/// memory some of the sets have been offered.
+/// records that hold it alone: what each cell after the set makes of its record is sorted by item. The memory is a row for
+/// each cell after a set or one of its prefixes in the records that hold it. After want of memory some of the sets have
+/// been offered.
 pub fn mine_items<C: Collect>(
     alloc: Global,
     base: &Base<Record>,
@@ -50,8 +52,9 @@ fn search<C: Collect>(
     law_of_turns();
     law_of_members();
     let items = later_items(alloc, rows)?;
+    let all = all_grown(alloc, rows)?;
     'items: for item in &items {
-        let grown = grow(alloc, rows, *item, prefix, collect)?;
+        let grown = grow(alloc, rows, &all, *item, prefix, collect)?;
         search(alloc, &grown, prefix, collect)?;
         prefix.pop();
     }
@@ -62,11 +65,13 @@ fn search<C: Collect>(
 fn grow<'a, C: Collect>(
     alloc: Global,
     rows: &[Row<'a>],
+    all: &[Grown<'a>],
     item: Item,
     prefix: &mut Key,
     collect: &mut C,
 ) -> Result<Vec<Row<'a>>, NoMemory>
-    requires { AreRows (rows_of rows.now) }
+    requires rows { AreRows (rows_of rows.now) }
+    requires all { AreGrown (rows_of rows.now) all.now }
     ensures rule { C.rule collect.new ≡ C.rule collect.old }
     ensures rows { IfOk result (λ grown. rows_of grown.items ≡ grown_rows item.0 (rows_of rows.now)) }
     ensures rules { IfOk result (λ grown. AreRows (rows_of grown.items)) }
@@ -74,7 +79,7 @@ fn grow<'a, C: Collect>(
     ensures ok { OnOk result (C.content collect.new ≡ made (C.rule collect.old) (C.content collect.old) (grown_entry (prefix.old ++ pos item.0 ∷ []) (grown_rows item.0 (rows_of rows.now)) [] ∷ [])) }
     ensures err { OnErr result (C.content collect.new ≡ C.content collect.old) }
 {
-    let grown = grown_rows(alloc, rows, item)?;
+    let grown = grown_rows(alloc, all, item)?;
     prefix.push(i64::from(item.0))?;
     offer(alloc, &grown, prefix, collect)?;
     Ok(grown)

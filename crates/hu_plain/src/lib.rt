@@ -7,6 +7,7 @@
 //! `specs/Place.antt`.
 #![tactic(auto)]
 
+mod grown;
 mod items;
 mod places;
 mod row;

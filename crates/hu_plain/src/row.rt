@@ -65,25 +65,6 @@ pub(crate) fn first_rows(alloc: Global, records: &[Record]) -> Result<Vec<Row<'_
     Ok(rows)
 }
 
-/// The rows of the prefix with an item more. Each row is looked through by halves.
-pub(crate) fn grown_rows<'a>(
-    alloc: Global,
-    rows: &[Row<'a>],
-    item: Item,
-) -> Result<Vec<Row<'a>>, NoMemory>
-    requires { AreRows (rows_of rows.now) }
-    ensures value { IfOk result (λ grown. rows_of grown.items ≡ grown_rows item.0 (rows_of rows.now)) }
-    ensures rules { IfOk result (λ grown. AreRows (rows_of grown.items)) }
-{
-    let mut grown = Vec::new(alloc);
-    for row in rows {
-        if let Some(next) = row.grown(item) {
-            grown.push(next)?;
-        }
-    }
-    Ok(grown)
-}
-
 /// The items that stand after the prefix, ascending and each once.
 pub(crate) fn later_items(alloc: Global, rows: &[Row<'_>]) -> Result<Vec<Item>, NoMemory>
     ensures { IfOk result (λ items. AreLaterItems (rows_of rows.now) items.items) }

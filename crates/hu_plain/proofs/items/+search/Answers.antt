@@ -34,15 +34,15 @@ search-requires g t c κs within =
     let item = (get_or items i no_item).0 in
     let s = Search-from prefix rows c.in_ok-items.items.items items c.law_of_turns.ensures c.law_of_members.ensures c.requires.rows c.in_ok-items.ensures c.deref-item-items.ensures.value in
     let m = Member-item items i no_item c.items-test.true in
-    let grown = rows_from c.deref.result.now c.in_ok-grown.grown.items (grown_rows item rows) c.deref.ensures.value c.in_ok-grown.ensures.rows in
+    let grown = rows_from c.deref-in-items.result.now c.in_ok-grown.grown.items (grown_rows item rows) c.deref-in-items.ensures.value c.in_ok-grown.ensures.rows in
     let own = own_from (g.C.Collect.rule c.items.collect) rule (g.C.Collect.content c.items.collect) (g.C.Collect.content c.grow.new.collect) c.items.prefix prefix (grown_rows item rows) item
     c.items.invariant.0 c.items.invariant.1 c.in_ok-grown.ensures.ok in
     let kept' = kept-own prefix rows (numbers_of items) s rule old i item (next_item items i no_item c.items-test.true) m (g.C.Collect.content c.items.collect) (g.C.Collect.content c.grow.new.collect) c.items.invariant.2 own in
     let fewer = cells_in-grown_rows item rows (item_occurs prefix rows (numbers_of items) s rule old item m) in
-    let are : AreRows (rows_of c.deref.result.now) = subst (λ found. AreRows (rows_of found)) (sym c.deref.ensures.value) c.in_ok-grown.ensures.rules in
+    let are : AreRows (rows_of c.deref-in-items.result.now) = subst (λ found. AreRows (rows_of found)) (sym c.deref-in-items.ensures.value) c.in_ok-grown.ensures.rules in
     let same_rule : g.C.Collect.rule c.grow.new.collect ≡ rule = c.in_ok-grown.ensures.rule ∙ c.items.invariant.0 in
     let kept : IsKept (g.C.Collect.rule c.grow.new.collect) (g.C.Collect.content c.grow.new.collect) = subst (λ r. IsKept r (g.C.Collect.content c.grow.new.collect)) (sym same_rule) kept' in
-    let smaller : cells_in (rows_of c.deref.result.now) < cells_in (rows_of c.args.rows.now) = subst (λ rs. cells_in rs < cells_in rows) (sym grown) fewer in
+    let smaller : cells_in (rows_of c.deref-in-items.result.now) < cells_in (rows_of c.args.rows.now) = subst (λ rs. cells_in rs < cells_in rows) (sym grown) fewer in
     search rules
 
 pub returns-in_err-search-clause-err : goal.returns-in_err-search-clause-err
@@ -57,12 +57,12 @@ returns-in_err-search-clause-err g t c =
     let item = (get_or items i no_item).0 in
     let s = Search-from prefix rows c.in_ok-items.items.items items c.law_of_turns.ensures c.law_of_members.ensures c.requires.rows c.in_ok-items.ensures c.deref-item-items.ensures.value in
     let m = Member-item items i no_item c.items-test.true in
-    let grown = rows_from c.deref.result.now c.in_ok-grown.grown.items (grown_rows item rows) c.deref.ensures.value c.in_ok-grown.ensures.rows in
+    let grown = rows_from c.deref-in-items.result.now c.in_ok-grown.grown.items (grown_rows item rows) c.deref-in-items.ensures.value c.in_ok-grown.ensures.rows in
     let own = own_from (g.C.Collect.rule c.items.collect) rule (g.C.Collect.content c.items.collect) (g.C.Collect.content c.grow.new.collect) c.items.prefix prefix (grown_rows item rows) item
     c.items.invariant.0 c.items.invariant.1 c.in_ok-grown.ensures.ok in
     let same_rule = c.in_ok-grown.ensures.rule ∙ c.items.invariant.0 in
     let same_prefix = ends_from c.grow.new.prefix c.items.prefix prefix item c.in_ok-grown.ensures.prefix c.items.invariant.1 in
-    let some = some_from (g.C.Collect.rule c.grow.new.collect) rule (g.C.Collect.content c.grow.new.collect) (g.C.Collect.content c.search.new.collect) c.grow.new.prefix (prefix ++ pos item ∷ []) (rows_of c.deref.result.now) (grown_rows item rows)
+    let some = some_from (g.C.Collect.rule c.grow.new.collect) rule (g.C.Collect.content c.grow.new.collect) (g.C.Collect.content c.search.new.collect) c.grow.new.prefix (prefix ++ pos item ∷ []) (rows_of c.deref-in-items.result.now) (grown_rows item rows)
     same_rule same_prefix grown c.in_err-search.ensures.err in
     on_err c.from_residual-in_err-search.result _
     (MakesSome-next prefix rows (numbers_of items) s rule old i item (next_item items i no_item c.items-test.true) m (g.C.Collect.content c.items.collect) (g.C.Collect.content c.grow.new.collect) c.items.invariant.2 own
@@ -80,12 +80,12 @@ items-preserved g t c =
     let item = (get_or items i no_item).0 in
     let s = Search-from prefix rows c.in_ok-items.items.items items c.law_of_turns.ensures c.law_of_members.ensures c.requires.rows c.in_ok-items.ensures c.deref-item-items.ensures.value in
     let m = Member-item items i no_item c.items-test.true in
-    let grown = rows_from c.deref.result.now c.in_ok-grown.grown.items (grown_rows item rows) c.deref.ensures.value c.in_ok-grown.ensures.rows in
+    let grown = rows_from c.deref-in-items.result.now c.in_ok-grown.grown.items (grown_rows item rows) c.deref-in-items.ensures.value c.in_ok-grown.ensures.rows in
     let own = own_from (g.C.Collect.rule c.items.collect) rule (g.C.Collect.content c.items.collect) (g.C.Collect.content c.grow.new.collect) c.items.prefix prefix (grown_rows item rows) item
     c.items.invariant.0 c.items.invariant.1 c.in_ok-grown.ensures.ok in
     let same_rule = c.in_ok-grown.ensures.rule ∙ c.items.invariant.0 in
     let same_prefix = ends_from c.grow.new.prefix c.items.prefix prefix item c.in_ok-grown.ensures.prefix c.items.invariant.1 in
-    let more = more_from (g.C.Collect.rule c.grow.new.collect) rule (g.C.Collect.content c.grow.new.collect) (g.C.Collect.content c.search.new.collect) c.grow.new.prefix (prefix ++ pos item ∷ []) (rows_of c.deref.result.now) (grown_rows item rows)
+    let more = more_from (g.C.Collect.rule c.grow.new.collect) rule (g.C.Collect.content c.grow.new.collect) (g.C.Collect.content c.search.new.collect) c.grow.new.prefix (prefix ++ pos item ∷ []) (rows_of c.deref-in-items.result.now) (grown_rows item rows)
     same_rule same_prefix grown c.in_ok-search.ensures.ok in (
       c.in_ok-search.ensures.rule ∙ same_rule,
       popped c.pop.result c.search.new.prefix c.pop.new.self prefix (pos item) (c.in_ok-search.ensures.prefix ∙ same_prefix) c.pop.ensures.empty c.pop.ensures.last,
