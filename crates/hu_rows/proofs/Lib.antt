@@ -1,0 +1,10 @@
+pub mod CellLemmas
+pub mod ProjectionLemmas
+pub mod AddedCells
+pub mod MergingLemmas
+pub mod SortedRows
+pub mod RankOrder
+pub mod RunLemmas
+pub mod CellChecks
+pub mod BoundLemmas
+pub mod SettingLemmas

@@ -1,0 +1,74 @@
+-- Rows merged run by run, as they lie in memory.
+use Rattle.std.proofs.Common.{◌≡◌, ℕ, ◌+◌, ◌-◌, ◌<◌, ◌≤◌, List, [], ◌∷◌, ◌++◌, length, get_or, take, drop, refl, sym, ap, ◌∙◌, subst, arith, sum_by, append_assoc}
+use Rattle.std.specs.List.{fold, prefix_len}
+use Rattle.std.proofs.lemmas.List.{take_rest, drop_more, drop-drop, map-append, length-drop}
+use Rattle.std.proofs.lemmas.List.Sums.{sum_by-cons, sum_by_more_le, sum_by-take-le, sum_by-drop_more, sum_by-take-drop, prefix_len-le-length}
+use Rattle.hu_rows.specs.declared.rows.Row.{Row}
+use Rattle.hu_rows.specs.Rows.{RowOf, size_of, count_of}
+use Rattle.hu_rows.specs.Merging.{added, merged}
+use Rattle.hu_rows.specs.View.{row_of, rows_of, same_ranks}
+use Rattle.hu_rows.proofs.MergingLemmas.{size_of-fold, count_of-fold, merged-run}
+
+pub sum_by-rows_of : (f : RowOf → ℕ) (rows : List Row) → sum_by f (rows_of rows) ≡ sum_by (λ row. f (row_of row)) rows
+sum_by-rows_of f [] = refl
+sum_by-rows_of f (row ∷ rows) = omega (arith, sum_by-cons f (row_of row) (rows_of rows), sum_by-cons (λ (r : Row). f (row_of r)) row rows, sum_by-rows_of f rows)
+
+-- the rows added so far and the next are within all of them
+pub size-room : (first : RowOf) (rest : List Row) (i : ℕ) (d : Row) → i < length rest → size_of (fold added first (rows_of (take i rest))) + size_of (row_of (get_or rest i d)) ≤ size_of first + sum_by size_of (rows_of rest)
+size-room first rest i d within = omega (
+  arith,
+  size_of-fold first (rows_of (take i rest)),
+  sum_by-rows_of size_of (take i rest),
+  sum_by-rows_of size_of rest,
+  sum_by_more_le (λ (r : Row). size_of (row_of r)) rest i d within,
+)
+
+pub count-room : (first : RowOf) (rest : List Row) (i : ℕ) (d : Row) → i < length rest → count_of (fold added first (rows_of (take i rest))) + count_of (row_of (get_or rest i d)) ≤ count_of first + sum_by count_of (rows_of rest)
+count-room first rest i d within = omega (
+  arith,
+  count_of-fold first (rows_of (take i rest)),
+  sum_by-rows_of count_of (take i rest),
+  sum_by-rows_of count_of rest,
+  sum_by_more_le (λ (r : Row). count_of (row_of r)) rest i d within,
+)
+
+-- a run is within all rows
+pub run-within : (f : RowOf → ℕ) (rows : List Row) (start same : ℕ) (d : Row) → start < length rows
+    → f (row_of (get_or rows start d)) + sum_by f (rows_of (take same (take (length rows - (start + 1)) (drop (start + 1) rows)))) ≤ sum_by f (rows_of rows)
+run-within f rows start same d within =
+    rw (take_rest rows (start + 1))
+    (omega (
+      arith,
+      sum_by-rows_of f (take same (drop (start + 1) rows)),
+      sum_by-rows_of f rows,
+      sum_by-take-le (λ (r : Row). f (row_of r)) (drop (start + 1) rows) same,
+      sum_by-drop_more (λ (r : Row). f (row_of r)) rows start d within,
+      sum_by-take-drop (λ (r : Row). f (row_of r)) rows start,
+    ))
+
+pub run-end : (first : RowOf) (rows : List Row) (start : ℕ) → start < length rows → start + (1 + prefix_len (same_ranks first) (take (length rows - (start + 1)) (drop (start + 1) rows))) ≤ length rows
+run-end first rows start within =
+    rw (take_rest rows (start + 1)) (omega (arith, prefix_len-le-length (same_ranks first) (drop (start + 1) rows), length-drop (start + 1) rows))
+
+-- one run more
+pub run-step : (rows : List Row) (start same : ℕ) (d : Row) (done : List Row) (one : Row) → start < length rows
+    → same ≡ prefix_len (same_ranks (row_of (get_or rows start d))) (take (length rows - (start + 1)) (drop (start + 1) rows))
+    → row_of one ≡ fold added (row_of (get_or rows start d)) (rows_of (take same (take (length rows - (start + 1)) (drop (start + 1) rows))))
+    → rows_of done ++ merged (rows_of (drop start rows)) ≡ merged (rows_of rows)
+    → rows_of (done ++ one ∷ []) ++ merged (rows_of (drop (start + (1 + same)) rows)) ≡ merged (rows_of rows)
+run-step rows start same d done one within count is before =
+    let first = get_or rows start d in
+    let rest = drop (start + 1) rows in
+    let whole : take (length rows - (start + 1)) rest ≡ rest = take_rest rows (start + 1) in
+    let count' : same ≡ prefix_len (same_ranks (row_of first)) rest = count ∙ ap (prefix_len (same_ranks (row_of first))) whole in
+    let is' : row_of one ≡ fold added (row_of first) (rows_of (take same rest)) = is ∙ ap (λ xs. fold added (row_of first) (rows_of (take same xs))) whole in
+    let run : merged (rows_of (first ∷ rest)) ≡ fold added (row_of first) (rows_of (take same rest)) ∷ merged (rows_of (drop same rest)) =
+    subst (λ n. merged (rows_of (first ∷ rest)) ≡ fold added (row_of first) (rows_of (take n rest)) ∷ merged (rows_of (drop n rest))) (sym count') (merged-run first rest) in
+    let place : start + 1 + same ≡ start + (1 + same) = omega arith in
+    let later : merged (rows_of (drop (start + (1 + same)) rows)) ≡ merged (rows_of (drop same rest)) = ap (λ n. merged (rows_of (drop n rows))) (sym place) ∙ ap (λ xs. merged (rows_of xs)) (sym (drop-drop same (start + 1) rows)) in
+    let now : row_of one ∷ merged (rows_of (drop (start + (1 + same)) rows)) ≡ merged (rows_of (drop start rows)) =
+    (λ j. is' j ∷ later j) ∙ sym run ∙ ap (λ xs. merged (rows_of xs)) (sym (drop_more rows start d within)) in
+    ap (λ xs. xs ++ merged (rows_of (drop (start + (1 + same)) rows))) (map-append row_of done (one ∷ []))
+    ∙ append_assoc (rows_of done) (row_of one ∷ []) (merged (rows_of (drop (start + (1 + same)) rows)))
+    ∙ ap (λ xs. rows_of done ++ xs) now
+    ∙ before

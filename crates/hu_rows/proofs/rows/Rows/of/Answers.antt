@@ -1,0 +1,29 @@
+use Rattle.std.proofs.Common.{◌≡◌, ◌∙◌, ℕ, List, map, length, sym, ap, subst, arith}
+use Rattle.std.proofs.lemmas.List.{length-map}
+use Rattle.std.proofs.lemmas.Result.{IfOk-weaker}
+use Rattle.hu_kind.specs.Database.{utility, support}
+use Rattle.hu_totals.specs.View.{pairs_in}
+use Rattle.hu_rows.specs.Rows.{AreRows, over, count_over, unmerged}
+use Rattle.hu_rows.specs.Merging.{IsMerging}
+use Rattle.hu_rows.specs.View.{rows_of}
+use Rattle.hu_rows.proofs.CellChecks.{AreRows-unmerged, over-unmerged, count_over-unmerged}
+use Rattle.hu_rows.proofs.rows.Rows.of.Goals as goal
+
+pub merge-requires : goal.merge-requires
+merge-requires c =
+    let is = c.in_ok-ranked_rows.ensures.value ∙ ap (map unmerged) c.records.ensures.value in
+    subst AreRows (sym is) (AreRows-unmerged c.args.ranked.now c.records.ensures.rules (omega (arith, ap length c.records.ensures.value, length-map c.records.result.now pairs_in, c.in_ok-ranked_rows.ensures.few)))
+
+pub returns-clause-over : goal.returns-clause-over
+returns-clause-over c =
+    let is = c.in_ok-ranked_rows.ensures.value ∙ ap (map unmerged) c.records.ensures.value in
+    IfOk-weaker c.merge.result (IsMerging (rows_of c.in_ok-ranked_rows.field-0.items)) (λ rows. (set : List ℕ) → over rows set ≡ utility c.args.ranked.now.records set)
+    (λ rows h set. h.over set ∙ ap (λ rs. over rs set) is ∙ over-unmerged set c.args.ranked.now.records)
+    c.merge.ensures
+
+pub returns-clause-count : goal.returns-clause-count
+returns-clause-count c =
+    let is = c.in_ok-ranked_rows.ensures.value ∙ ap (map unmerged) c.records.ensures.value in
+    IfOk-weaker c.merge.result (IsMerging (rows_of c.in_ok-ranked_rows.field-0.items)) (λ rows. (set : List ℕ) → count_over rows set ≡ support c.args.ranked.now.records set)
+    (λ rows h set. h.count set ∙ ap (λ rs. count_over rs set) is ∙ count_over-unmerged set c.args.ranked.now.records)
+    c.merge.ensures

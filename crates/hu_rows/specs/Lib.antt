@@ -1,0 +1,7 @@
+pub mod Rows
+pub mod Projection
+pub mod Merging
+pub mod Bounds
+pub mod Setting
+pub mod View
+pub mod Worked

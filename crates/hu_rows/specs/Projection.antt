@@ -1,0 +1,21 @@
+-- Rows projected by a rank: those that hold it, each with its cells after the rank and its `before` grown by the rank's
+-- value. After EFIM (Zida and others, 2015).
+use Rattle.std.specs.Prelude.{ℕ, nat_lt, ℤ, ◌+ℤ◌, List, [], ◌∷◌, if◌then◌else◌}
+use Rattle.std.specs.List.{filter, flat_map}
+use Rattle.hu_kind.specs.Record.{has, value_of}
+use Rattle.hu_rows.specs.Rows.{RowOf}
+
+-- the cells after a rank
+abbrev pub after : ℕ → List (ℕ × ℤ) → List (ℕ × ℤ)
+after z cells = filter (λ cell. nat_lt z cell.0) cells
+
+-- a row that holds a rank, projected by it
+abbrev pub projected_row : ℕ → RowOf → List RowOf
+projected_row z row =
+    if has z row.cells
+    then record { before = row.before +ℤ value_of z row.cells; count = row.count; cells = after z row.cells } ∷ []
+    else []
+
+-- rows projected by a rank
+abbrev pub projected : ℕ → List RowOf → List RowOf
+projected z rows = flat_map (projected_row z) rows
