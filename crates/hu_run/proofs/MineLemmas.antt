@@ -1,5 +1,5 @@
 -- What collectors make of the itemsets of ranked records.
-use Rattle.std.proofs.Common.{◌≡◌, ◌∙◌, ℕ, ℤ, true, List, [], Option, refl, sym, ap, subst, arith}
+use Rattle.std.proofs.Common.{◌≡◌, ◌∙◌, ℕ, ℤ, true, List, [], Option, refl, sym, subst, arith}
 use Rattle.std.proofs.lemmas.Int.{ints}
 use Rattle.std.specs.Prelude.{◌≤ℤ◌, int_le}
 use Rattle.std.specs.List.{Contains}
@@ -9,8 +9,8 @@ use Rattle.hu_kind.specs.Answer.{found, answer, closed_answer}
 use Rattle.hu_kind.proofs.Members.{Member-filter, Member-from_filter, Contains-from_member, Member-from_contains}
 use Rattle.hu_collect.specs.Rule.{Rule, rule_of, made, floor_of, IsKept}
 use Rattle.hu_collect.specs.Laws.{MakesByReaching}
-use Rattle.hu_closed.specs.ClosedOnly.{MakesClosed, IsRankingOf}
-use Rattle.hu_totals.specs.Ranked.{Ranking, ranked, unranked}
+use Rattle.hu_closed.specs.ClosedOnly.{MakesClosed}
+use Rattle.hu_totals.specs.Ranked.{Ranking, unranked}
 use Rattle.hu_totals.specs.Laws.{KeepsPatterns}
 
 -- an entry that reaches the least utility is found among those of which it is one
@@ -44,7 +44,3 @@ made_fresh rule content least top entries by empty =
 pub made_closed : (records : List (List (ℕ × ℤ))) (inner closed : Rule) (content : List Entry) (least : ℤ) (top : Option ℕ) → MakesClosed records inner closed → inner ≡ rule_of least top → content ≡ []
     → made closed content (item_patterns records) ≡ closed_answer records least top
 made_closed records inner closed content least top makes by empty = makes content ∙ made_fresh inner content least top (closed_patterns records) by empty
-
--- ranks of records are those of sets of the same records
-pub IsRankingOf-sets : {floor : ℤ} {r : Ranking} {records sets : List (List (ℕ × ℤ))} → r ≡ ranked floor records → sets ≡ records → IsRankingOf sets r
-IsRankingOf-sets {floor = floor} value same = (floor, value ∙ ap (ranked floor) (sym same))

@@ -49,6 +49,7 @@ is_built Items Lists = true
 is_built Closed Plain = true
 is_built Closed Lists = true
 is_built Sequences Plain = true
+is_built Sequences Chain = true
 is_built task engine = false
 
 -- what is there, or a fault

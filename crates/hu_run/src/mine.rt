@@ -2,8 +2,8 @@
 
 ghost use Rattle.std.specs.Prelude.{◌≡◌, ◌≤◌, true, pos, ◌≤ℤ◌, List, OnOk, IfOk, IfSome};
 ghost use Rattle.hu_kind.specs.declared.entry.Entry.{Entry};
-ghost use Rattle.hu_kind.specs.declared.task.Task.TheVariants.{Items, Closed};
-ghost use Rattle.hu_kind.specs.Answer.{answer, item_answer, closed_answer};
+ghost use Rattle.hu_kind.specs.declared.task.Task.TheVariants.{Items, Closed, Sequences};
+ghost use Rattle.hu_kind.specs.Answer.{answer, item_answer, closed_answer, sequence_answer};
 ghost use Rattle.hu_base.specs.Base.{records_of};
 ghost use Rattle.hu_collect.specs.Rule.{made};
 ghost use Rattle.hu_run.specs.Words.{is_built};
@@ -33,7 +33,7 @@ pub(crate) trait Miner {
 }
 
 /// The plain engine for itemsets.
-pub(crate) struct PlainItems;
+struct PlainItems;
 
 impl Miner for PlainItems {
     ghost use Rattle.hu_kind.specs.Itemsets.{item_patterns};
@@ -52,7 +52,7 @@ impl Miner for PlainItems {
 }
 
 /// The plain engine for sequences.
-pub(crate) struct PlainSequences;
+struct PlainSequences;
 
 impl Miner for PlainSequences {
     ghost use Rattle.hu_kind.specs.Sequence.{sequence_patterns};
@@ -67,6 +67,25 @@ impl Miner for PlainSequences {
         collect: &mut C,
     ) -> Result<(), NoMemory> {
         mine_sequences(alloc, base, collect)
+    }
+}
+
+/// The engine for sequences over utility chains.
+struct ChainSequences;
+
+impl Miner for ChainSequences {
+    ghost use Rattle.hu_kind.specs.Sequence.{sequence_patterns};
+
+    type Record = SeqRecord;
+
+    ghost patterns = { sequence_patterns };
+
+    fn mine<C: Collect>(
+        alloc: Global,
+        base: &Base<SeqRecord>,
+        collect: &mut C,
+    ) -> Result<(), NoMemory> {
+        hu_span::mine(alloc, base, collect)
     }
 }
 
@@ -124,5 +143,25 @@ pub(crate) fn closed_entries(
         Engine::Plain => ranked::closed_entries::<Plain>(alloc, base, least, top),
         Engine::Lists => ranked::closed_entries::<Lists>(alloc, base, least, top),
         Engine::Project | Engine::Kept | Engine::Chain => unreachable!(),
+    }
+}
+
+/// The first `top` sequences, or all of them, that earn at least `least`, by an engine that is built for them.
+pub(crate) fn sequence_entries(
+    alloc: Global,
+    base: &Base<SeqRecord>,
+    engine: Engine,
+    least: i128,
+    top: Option<u32>,
+) -> Result<Vec<Entry>, NoMemory>
+    requires built { is_built Sequences engine ≡ true }
+    requires least { pos 1 ≤ℤ least }
+    requires some { IfSome top (λ k. 1 ≤ k) }
+    ensures { IfOk result (λ entries. entries.items ≡ sequence_answer (records_of base.now) least top) }
+{
+    match engine {
+        Engine::Plain => entries::<PlainSequences>(alloc, base, least, top),
+        Engine::Chain => entries::<ChainSequences>(alloc, base, least, top),
+        Engine::Lists | Engine::Project | Engine::Kept => unreachable!(),
     }
 }

@@ -10,7 +10,7 @@ ghost use Rattle.hu_run.specs.Stop.{told_line, word_text, refusal_line, read_fai
 
 use crate::format::{Sequences, Transactions};
 use crate::input::read_files;
-use crate::mine::{PlainSequences, closed_entries, entries, item_entries};
+use crate::mine::{closed_entries, item_entries, sequence_entries};
 use crate::stop::Stop;
 use crate::words::{Job, read_words};
 use hu_io::{Files, Sink};
@@ -143,7 +143,7 @@ fn answer_entries<'a, F: Files>(
         }
         Task::Sequences => {
             let base = read_files::<Sequences, F>(alloc, files, names)?;
-            Ok(entries::<PlainSequences>(alloc, &base, least, top)?)
+            Ok(sequence_entries(alloc, &base, engine, least, top)?)
         }
     }
 }

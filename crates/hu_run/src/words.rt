@@ -138,7 +138,7 @@ fn is_built(task: Task, engine: Engine) -> bool
     matches!(
         (task, engine),
         (Task::Items | Task::Closed, Engine::Plain | Engine::Lists)
-            | (Task::Sequences, Engine::Plain)
+            | (Task::Sequences, Engine::Plain | Engine::Chain)
     )
 }
 

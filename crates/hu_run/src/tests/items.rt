@@ -1,6 +1,8 @@
 //! Runs over transactions by each engine.
 
-use super::{BASE_A_AT_30, ends, files};
+use super::{BASE_A, BASE_A_AT_30, ends, files, words_of};
+use crate::run;
+use hu_io::{MemoryFiles, MemorySink};
 use std::alloc::Global;
 use std::process::Abort;
 use std::test::Fail;
@@ -77,6 +79,32 @@ fn closed_itemsets(rt: HostRuntime) -> Result<(), Fail> {
         (&["1", "all", "empty", "comments"], ""),
     ];
     answers(&rt, rt.alloc(), "closed", &cases)
+}
+
+/// The status of a run over a file with this text, and what it put on `out` and on `err`.
+fn ending(alloc: Global, engine: &str, text: &str) -> Result<(u8, MemorySink, MemorySink), Fail> {
+    let words = words_of(alloc, &["items", engine, "30", "all", "front"])?;
+    let mut files = MemoryFiles::new(alloc);
+    files.add("front", text.as_bytes())?;
+    let mut out = MemorySink::new(alloc, 1000)?;
+    let mut err = MemorySink::new(alloc, 1000)?;
+    let status = run(alloc, &words, &mut files, &mut out, &mut err);
+    Ok((status, out, err))
+}
+
+#[test]
+fn every_front_of_a_file(rt: HostRuntime) -> Result<(), Fail> {
+    for length in 0..BASE_A.len() + 1 {
+        let text = BASE_A.get(..length).ok_or("short")?;
+        let (status, out, err) = ending(rt.alloc(), "plain", text)?;
+        for engine in &ENGINES {
+            let (other, written, told) = ending(rt.alloc(), *engine, text)?;
+            assert_eq!(rt; other, status);
+            assert_eq!(rt; written.bytes(), out.bytes());
+            assert_eq!(rt; told.bytes(), err.bytes());
+        }
+    }
+    Ok(())
 }
 
 /// Not by the plain engine: the record has 2^40 - 1 itemsets.

@@ -1,0 +1,11 @@
+pub mod Subsequences
+mod StepLemmas
+mod RowLemmas
+mod MarkLemmas
+mod GatherLemmas
+mod CandidateLemmas
+mod Turns
+mod SearchLemmas
+mod ReachLemmas
+mod TurnLemmas
+mod ItemTurns

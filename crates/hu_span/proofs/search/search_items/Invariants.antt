@@ -1,0 +1,12 @@
+use Rattle.std.proofs.Common.{◌≡◌, [], take}
+use Rattle.hu_span.specs.Makes.{MakesReaching}
+use Rattle.hu_span.proofs.SearchLemmas.{Among}
+use Rattle.hu_span.proofs.ItemTurns.{From}
+use Rattle.hu_span.proofs.search.search_items.Given as goal
+
+abbrev pub invariant-items : goal.invariant-items
+invariant-items g l = record {
+  rule : g.C.Collect.rule l.collect ≡ g.C.Collect.rule l.initial.collect;
+  steps : l.steps.items ≡ [];
+  made : MakesReaching (g.C.Collect.rule l.initial.collect) (g.C.Collect.content l.initial.collect) (Among (From l.records) (take l.item-index l.items)) (g.C.Collect.content l.collect);
+}
