@@ -1,0 +1,11 @@
+pub mod Batches
+pub mod Patterns
+pub mod Firsts
+pub mod Outside
+pub mod Parts
+pub mod TouchedLemmas
+pub mod ChangeLemmas
+pub mod HeldLemmas
+pub mod RankedLemmas
+pub mod ClosedParts
+pub mod RenewalLemmas

@@ -1,0 +1,74 @@
+-- The answer of all records by a search of them all, and by one of what a batch touches.
+use Rattle.std.proofs.Common.{◌≡◌, ◌∙◌, ℕ, ℤ, Bool, true, false, not, cond, Option, None, Some, List, [], ◌∷◌, ◌++◌, refl, sym, ap, subst, zero, suc}
+use Rattle.hu_kind.specs.declared.entry.Entry.{Entry}
+use Rattle.hu_kind.specs.Order.{cut}
+use Rattle.hu_collect.specs.Rule.{IsKept, Rule, made, rule_of}
+use Rattle.hu_collect.proofs.Made.{kept-made, makes_in_turn}
+use Rattle.hu_kept.specs.Kept.{answer_of, patterns_of}
+use Rattle.hu_kept.specs.Touched.{is_touched, touched, touched_rule, untouched}
+use Rattle.hu_kept.specs.Entries.{Continues, keeping}
+use Rattle.hu_kept.specs.declared.aim.Aim.{Aim}
+use Rattle.hu_kept.proofs.Parts.{made-parts}
+use Rattle.hu_kept.proofs.Patterns.{answer-patterns}
+use Rattle.hu_kept.proofs.TouchedLemmas.{made-touched}
+
+pub anew-answer : (aim : Aim) (records : List (List (ℕ × ℤ))) (rule : Rule) (content : List Entry) → rule ≡ rule_of aim.least aim.top → content ≡ []
+    → made rule content (patterns_of aim.closed records) ≡ answer_of (keeping aim records)
+anew-answer aim records rule content by empty =
+    (λ j. made (by j) (empty j) (patterns_of aim.closed records)) ∙ sym (answer-patterns (keeping aim records))
+
+pub continued-answer : (aim : Aim) (records batch : List (List (ℕ × ℤ))) (old : List Entry) (rule : Rule) (content : List Entry) → Continues aim records old batch
+    → rule ≡ rule_of aim.least aim.top → content ≡ made (rule_of aim.least aim.top) [] (untouched batch old)
+    → made (touched_rule rule batch) content (patterns_of aim.closed records) ≡ answer_of (keeping aim records)
+continued-answer aim records batch old rule content c by is =
+    let r = rule_of aim.least aim.top in
+    let after = patterns_of aim.closed (c.before ++ batch) in
+    (λ j. made (touched_rule (by j) batch) (is j) (patterns_of aim.closed (sym c.joined j)))
+    ∙ made-touched r batch (made r [] (untouched batch old)) after
+    ∙ ap (λ o. made r (made r [] (untouched batch o)) (touched batch after)) c.answer
+    ∙ made-parts (keeping aim c.before) batch c.either
+    ∙ ap (λ rs. answer_of (keeping aim rs)) c.joined
+
+-- ---- old entries one after another
+
+-- a collector by a rule holds what it makes of the first old entries that a batch doesn't touch, and the others are left
+pub record Offers (r : Rule) (batch : List (List (ℕ × ℤ))) (old : List Entry) (rule : Rule) (content rest : List Entry) : Type 0 where
+  pub by : rule ≡ r
+  pub kept : IsKept r content
+  pub whole : made r content (untouched batch rest) ≡ made r [] (untouched batch old)
+
+cut-nil : (limit : Option ℕ) → cut {A = Entry} limit [] ≡ []
+cut-nil None = refl
+cut-nil (Some zero) = refl
+cut-nil (Some (suc k)) = refl
+
+pub Offers-first : (r : Rule) (batch : List (List (ℕ × ℤ))) (old : List Entry) (rule : Rule) (content rest : List Entry) → rule ≡ r → content ≡ [] → rest ≡ old → Offers r batch old rule content rest
+Offers-first r batch old rule content rest by empty all = record {
+  by = by;
+  kept = subst (IsKept r) (sym empty) (cut-nil r.limit);
+  whole = (λ j. made r (empty j) (untouched batch (all j)));
+}
+
+pub Offers-next : (r : Rule) (batch : List (List (ℕ × ℤ))) (old : List Entry) (rule next : Rule) (content after : List Entry) (entry : Entry) (rest : List Entry) → Offers r batch old rule content (entry ∷ rest)
+    → next ≡ rule → after ≡ cond (is_touched batch entry.key) content (made rule content (entry ∷ [])) → Offers r batch old next after rest
+Offers-next r batch old rule next content after entry rest o same is = go (is_touched batch entry.key) refl is
+  where
+    go : (b : Bool) → is_touched batch entry.key ≡ b → after ≡ cond b content (made rule content (entry ∷ [])) → Offers r batch old next after rest
+    go true e h = record {
+      by = same ∙ o.by;
+      kept = subst (IsKept r) (sym h) o.kept;
+      whole = ap (λ c. made r c (untouched batch rest)) h ∙ ap (λ b. made r content (cond (not b) (entry ∷ untouched batch rest) (untouched batch rest))) (sym e) ∙ o.whole;
+    }
+    go false e h =
+        let here : after ≡ made r content (entry ∷ []) = h ∙ ap (λ x. made x content (entry ∷ [])) o.by in
+        record {
+          by = same ∙ o.by;
+          kept = subst (IsKept r) (sym here) (kept-made r content (entry ∷ []));
+          whole = ap (λ c. made r c (untouched batch rest)) here
+              ∙ makes_in_turn r content (entry ∷ []) (untouched batch rest)
+              ∙ ap (λ b. made r content (cond (not b) (entry ∷ untouched batch rest) (untouched batch rest))) (sym e)
+              ∙ o.whole;
+        }
+
+pub Offers-last : (r : Rule) (batch : List (List (ℕ × ℤ))) (old : List Entry) (rule : Rule) (content rest : List Entry) → Offers r batch old rule content rest → rest ≡ [] → content ≡ made r [] (untouched batch old)
+Offers-last r batch old rule content rest o none = sym o.kept ∙ ap (λ es. made r content (untouched batch es)) (sym none) ∙ o.whole

@@ -1,0 +1,14 @@
+use Rattle.std.proofs.Common.{rules, ◌≡◌, [], subst, IfOk}
+use Rattle.hu_base.specs.Base.{records_of}
+use Rattle.hu_collect.specs.Rule.{rule_of}
+use Rattle.hu_collect.specs.Limited.{content_in, rule_in}
+use Rattle.hu_kept.proofs.RenewalLemmas.{anew-answer}
+use Rattle.hu_kept.proofs.renewal.anew.Goals as goal
+
+pub returns : goal.returns
+returns g c =
+    let collect = c.new-collect.result in
+    let by : rule_in collect ≡ rule_of c.args.aim.least c.args.aim.top = search rules in
+    let empty : content_in collect ≡ [] = search rules in
+    subst (λ content. IfOk c.entries_of.result (λ entries. entries.items ≡ content))
+    (anew-answer c.args.aim (records_of c.args.base.now) (rule_in collect) (content_in collect) by empty) c.entries_of.ensures

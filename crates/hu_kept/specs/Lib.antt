@@ -1,0 +1,6 @@
+pub mod Kept
+pub mod Changes
+pub mod Touched
+pub mod Laws
+pub mod Entries
+pub mod Rows

@@ -1,0 +1,60 @@
+//! The search over all records, or over the patterns among them that a batch touches.
+
+ghost use Rattle.std.specs.Prelude.{◌≡◌, pos, ◌≤ℤ◌, ℕ, ℤ, List, IfOk, OnOk, option_copied};
+ghost use Rattle.hu_kind.specs.Itemsets.{item_patterns};
+ghost use Rattle.hu_collect.specs.Rule.{made, floor_of};
+ghost use Rattle.hu_collect.specs.Ranks.{RestsOn};
+ghost use Rattle.hu_totals.specs.Laws.{KeepsPatterns};
+ghost use Rattle.hu_kept.specs.Touched.{within};
+
+use crate::gates::Gates;
+use crate::touched::Touched;
+use hu_closed::RecordSets;
+use hu_collect::Collect;
+use hu_kind::NoMemory;
+use hu_totals::Ranked;
+use std::alloc::Global;
+
+/// Offers the patterns of the ranked records that may change what is collected.
+fn search<G: Gates, C: Collect>(
+    alloc: Global,
+    ranked: &Ranked,
+    gates: &G,
+    collect: &mut C,
+) -> Result<(), NoMemory>
+    requires floor { ranked.now.floor ≤ℤ floor_of (C.rule collect.old) (C.content collect.old) }
+    requires rests { RestsOn (C.rule collect.old).table ranked.now.items }
+    ensures rule { C.rule collect.new ≡ C.rule collect.old }
+    ensures ok { OnOk result ((records : List (List (ℕ × ℤ))) → KeepsPatterns records ranked.now
+        → C.content collect.new ≡ made (C.rule collect.old) (C.content collect.old) (item_patterns records)) }
+{
+    let gate = gates.gate(alloc, ranked, collect.floor())?;
+    hu_list::mine(alloc, ranked, collect, &gate)
+}
+
+/// A collector with the patterns of the ranked records put in: with a batch those that it touches.
+pub(crate) fn searched<G: Gates, C: Collect + Drop>(
+    alloc: Global,
+    ranked: &Ranked,
+    gates: &G,
+    collect: C,
+    batch: Option<&RecordSets>,
+) -> Result<C, NoMemory>
+    requires floor { ranked.now.floor ≤ℤ floor_of (C.rule collect) (C.content collect) }
+    requires rests { RestsOn (C.rule collect).table ranked.now.items }
+    ensures ok { IfOk result (λ found. (records : List (List (ℕ × ℤ))) → KeepsPatterns records ranked.now
+        → C.content found ≡ made (within (option_copied batch.entry) (C.rule collect)) (C.content collect) (item_patterns records)) }
+{
+    let mut collect = collect;
+    match batch {
+        Some(sets) => {
+            let mut touched = Touched::new(collect, sets);
+            search(alloc, ranked, gates, &mut touched)?;
+            Ok(touched.into_inner())
+        }
+        None => {
+            search(alloc, ranked, gates, &mut collect)?;
+            Ok(collect)
+        }
+    }
+}

@@ -1,0 +1,310 @@
+//! Kept answers of small bases, written out, and how much of a base an append searches.
+
+ghost use Rattle.std.specs.Prelude.{◌≡◌, ◌≤◌, pos, ◌≤ℤ◌, IfOk, IfSome};
+ghost use Rattle.hu_base.specs.Base.{carried_of};
+
+use crate::gates::Gates;
+use crate::{
+    AppendFault, Changes, Kept, law_of_closed_sets, law_of_gains, law_of_outside_patterns,
+    law_of_untouched_closedness, law_of_untouched_sets,
+};
+use hu_base::Base;
+use hu_collect::Gate;
+use hu_kind::{Cell, Entry, Item, NoMemory, Record};
+use hu_totals::Ranked;
+use std::alloc::Global;
+use std::cell::Cell as Counter;
+use std::process::Abort;
+use std::test::Fail;
+
+const BASE_A: [&[(u32, i128)]; 5] = [
+    &[(1, 5), (2, 10), (3, 1), (4, 6), (5, 3), (6, 5)],
+    &[(2, 8), (3, 3), (4, 6), (5, 3)],
+    &[(1, 5), (3, 1), (4, 2)],
+    &[(1, 10), (3, 6), (5, 6), (7, 5)],
+    &[(2, 4), (3, 2), (5, 3), (7, 2)],
+];
+
+/// The record of these items with their values.
+fn record_of(alloc: Global, pairs: &[(u32, i128)]) -> Result<Option<Record>, NoMemory> {
+    let mut cells = Vec::new(alloc);
+    for (item, value) in pairs {
+        cells.push(Cell {
+            item: Item(*item),
+            value: *value,
+        })?;
+    }
+    Ok(Record::new(cells))
+}
+
+/// The batch of these records, with a carried sum.
+fn batch_after(
+    rt: &impl Abort,
+    alloc: Global,
+    carried: i128,
+    records: &[&[(u32, i128)]],
+) -> Result<Base<Record>, Fail>
+    requires { pos 0 ≤ℤ carried }
+{
+    let mut base = Base::after(alloc, carried);
+    for pairs in records {
+        let record = record_of(alloc, pairs)?.expect(rt, "a record");
+        base.add(record)?;
+    }
+    Ok(base)
+}
+
+/// A line for each entry: its items, its utility and its support.
+fn told(alloc: Global, entries: &[Entry]) -> Result<String, Fail> {
+    let mut text = String::new(alloc);
+    for entry in entries {
+        for number in entry.key.numbers() {
+            text.push_str(&format!(in alloc; "{number} ")?)?;
+        }
+        text.push_str(&format!(in alloc; "#UTIL: {} #SUP: {}\n", entry.utility, entry.support)?)?;
+    }
+    Ok(text)
+}
+
+/// Changes of these counts.
+fn counts(added: u64, changed: u64, dropped: u64) -> Changes {
+    Changes {
+        added,
+        changed,
+        dropped,
+    }
+}
+
+/// Appends these records, and compares what changed and which entries there are then.
+fn appends(
+    rt: &impl Abort,
+    alloc: Global,
+    kept: &mut Kept,
+    records: &[&[(u32, i128)]],
+    changes: Changes,
+    text: &str,
+) -> Result<(), Fail> {
+    let batch = batch_after(rt, alloc, 0, records)?;
+    assert_eq!(rt; kept.append(batch), Ok(changes));
+    let entries = kept.entries(alloc)?;
+    assert_eq!(rt; told(alloc, &entries)?.as_str(), text);
+    Ok(())
+}
+
+#[test]
+fn all_entries(rt: HostRuntime) -> Result<(), Fail> {
+    let mut kept = Kept::new(rt.alloc(), 30, None, false);
+    let three = "2 3 4 5 #UTIL: 40 #SUP: 2\n2 4 5 #UTIL: 36 #SUP: 2\n2 3 4 #UTIL: 34 #SUP: 2\n\
+         1 2 3 4 5 6 #UTIL: 30 #SUP: 1\n2 4 #UTIL: 30 #SUP: 2\n";
+    appends(
+        &rt,
+        rt.alloc(),
+        &mut kept,
+        &BASE_A[..3],
+        counts(5, 0, 0),
+        three,
+    )?;
+    let all = "2 3 4 5 #UTIL: 40 #SUP: 2\n2 3 5 #UTIL: 37 #SUP: 3\n2 4 5 #UTIL: 36 #SUP: 2\n\
+         2 3 4 #UTIL: 34 #SUP: 2\n1 3 5 #UTIL: 31 #SUP: 2\n2 5 #UTIL: 31 #SUP: 3\n\
+         1 2 3 4 5 6 #UTIL: 30 #SUP: 1\n2 4 #UTIL: 30 #SUP: 2\n";
+    appends(
+        &rt,
+        rt.alloc(),
+        &mut kept,
+        &BASE_A[3..],
+        counts(3, 0, 0),
+        all,
+    )
+}
+
+#[test]
+fn every_utility_doubles(rt: HostRuntime) -> Result<(), Fail> {
+    let mut kept = Kept::new(rt.alloc(), 30, None, false);
+    let once = kept.append(batch_after(&rt, rt.alloc(), 0, &BASE_A)?);
+    assert_eq!(rt; once, Ok(counts(8, 0, 0)));
+    let twice = kept.append(batch_after(&rt, rt.alloc(), 0, &BASE_A)?);
+    assert!(rt;
+        matches!(
+            twice,
+            Ok(Changes {
+                changed: 8,
+                dropped: 0,
+                ..
+            })
+        )
+    );
+    Ok(())
+}
+
+#[test]
+fn first_two_entries(rt: HostRuntime) -> Result<(), Fail> {
+    let mut kept = Kept::new(rt.alloc(), 1, Some(2), false);
+    let three = "2 3 4 5 #UTIL: 40 #SUP: 2\n2 4 5 #UTIL: 36 #SUP: 2\n";
+    appends(
+        &rt,
+        rt.alloc(),
+        &mut kept,
+        &BASE_A[..3],
+        counts(2, 0, 0),
+        three,
+    )?;
+    let all = "2 3 4 5 #UTIL: 40 #SUP: 2\n2 3 5 #UTIL: 37 #SUP: 3\n";
+    appends(
+        &rt,
+        rt.alloc(),
+        &mut kept,
+        &BASE_A[3..],
+        counts(1, 0, 1),
+        all,
+    )
+}
+
+#[test]
+fn closed_entries(rt: HostRuntime) -> Result<(), Fail> {
+    let mut kept = Kept::new(rt.alloc(), 30, None, true);
+    let three = "2 3 4 5 #UTIL: 40 #SUP: 2\n1 2 3 4 5 6 #UTIL: 30 #SUP: 1\n";
+    appends(
+        &rt,
+        rt.alloc(),
+        &mut kept,
+        &BASE_A[..3],
+        counts(2, 0, 0),
+        three,
+    )?;
+    let all = "2 3 4 5 #UTIL: 40 #SUP: 2\n2 3 5 #UTIL: 37 #SUP: 3\n1 3 5 #UTIL: 31 #SUP: 2\n\
+         1 2 3 4 5 6 #UTIL: 30 #SUP: 1\n";
+    appends(
+        &rt,
+        rt.alloc(),
+        &mut kept,
+        &BASE_A[3..],
+        counts(2, 0, 0),
+        all,
+    )
+}
+
+#[test]
+fn value_below_zero(rt: HostRuntime) -> Result<(), Fail> {
+    let mut kept = Kept::new(rt.alloc(), 1, Some(1), false);
+    let one = "1 #UTIL: 5 #SUP: 1\n";
+    appends(
+        &rt,
+        rt.alloc(),
+        &mut kept,
+        &[&[(1, 5)], &[(2, 4)]],
+        counts(1, 0, 0),
+        one,
+    )?;
+    let other = "2 #UTIL: 4 #SUP: 1\n";
+    appends(
+        &rt,
+        rt.alloc(),
+        &mut kept,
+        &[&[(1, -3)]],
+        counts(1, 0, 1),
+        other,
+    )
+}
+
+#[test]
+fn sum_too_large(rt: HostRuntime) -> Result<(), Fail> {
+    let before = i128::MAX - 9;
+    let mut kept = Kept::new(rt.alloc(), 30, None, false);
+    let first = kept.append(batch_after(&rt, rt.alloc(), 0, &[&[(2, before)]])?);
+    assert_eq!(rt; first, Ok(counts(1, 0, 0)));
+    let too_much = kept.append(batch_after(&rt, rt.alloc(), 70, &[&[(2, 4), (3, -6)]])?);
+    assert_eq!(rt;
+        too_much,
+        Err(AppendFault::SumTooLarge { before, added: 10 })
+    );
+    let just_enough = kept.append(batch_after(&rt, rt.alloc(), 70, &[&[(2, 4), (3, -5)]])?);
+    assert_eq!(rt; just_enough, Ok(counts(0, 1, 0)));
+    Ok(())
+}
+
+/// A gate that lets every pair join, and counts how often it is asked.
+#[derive(Drop)]
+struct Asked<'a> {
+    asked: &'a Counter<u64>,
+}
+
+impl<'a> Gate for Asked<'a> {
+    ghost use Rattle.std.specs.Prelude.{pos, ⊤};
+
+    ghost floor = { λ _. pos 1 };
+
+    ghost IsRightFor = { λ _ _. ⊤ };
+
+    fn may_join(&self, _a: u32, _b: u32) -> bool {
+        self.asked.set(self.asked.get().saturating_add(1));
+        true
+    }
+}
+
+/// Makes such gates.
+#[derive(Drop)]
+struct Counting<'a> {
+    asked: &'a Counter<u64>,
+}
+
+impl<'a> Gates for Counting<'a> {
+    type Gate = Asked<'a>;
+
+    fn gate(&self, _alloc: Global, _ranked: &Ranked, _floor: i128) -> Result<Asked<'a>, NoMemory> {
+        Ok(Asked { asked: self.asked })
+    }
+}
+
+/// Eight records, each of eight items of its own, with the value 1.
+fn eight_apart(rt: &impl Abort, alloc: Global) -> Result<Base<Record>, Fail> {
+    let mut base = Base::after(alloc, 0);
+    for j in 0..8 {
+        let mut cells = Vec::new(alloc);
+        for item in 8 * j + 1..8 * j + 9 {
+            cells.push(Cell {
+                item: Item(item),
+                value: 1,
+            })?;
+        }
+        base.add(Record::new(cells).expect(rt, "a record"))?;
+    }
+    Ok(base)
+}
+
+#[test]
+fn all_patterns_at_first(rt: HostRuntime) -> Result<(), Fail> {
+    let asked = Counter::new(0);
+    let mut kept = Kept::new(rt.alloc(), 1, None, false);
+    let base = eight_apart(&rt, rt.alloc())?;
+    assert_eq!(rt;
+        kept.append_by(base, &Counting { asked: &asked }),
+        Ok(counts(2040, 0, 0))
+    );
+    assert!(rt; asked.get() >= 2000);
+    Ok(())
+}
+
+#[test]
+fn touched_patterns_alone(rt: HostRuntime) -> Result<(), Fail> {
+    let asked = Counter::new(0);
+    let mut kept = Kept::new(rt.alloc(), 1, None, false);
+    let base = eight_apart(&rt, rt.alloc())?;
+    assert_eq!(rt; kept.append(base), Ok(counts(2040, 0, 0)));
+    let batch = batch_after(&rt, rt.alloc(), 0, &[&[(1, 1), (2, 1)]])?;
+    assert_eq!(rt;
+        kept.append_by(batch, &Counting { asked: &asked }),
+        Ok(counts(0, 3, 0))
+    );
+    assert!(rt; asked.get() <= 100);
+    Ok(())
+}
+
+#[test]
+fn laws(_rt: HostRuntime) -> Result<(), Fail> {
+    law_of_untouched_sets();
+    law_of_untouched_closedness();
+    law_of_closed_sets();
+    law_of_gains();
+    law_of_outside_patterns();
+    Ok(())
+}
