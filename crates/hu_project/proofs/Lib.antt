@@ -1,0 +1,4 @@
+mod SumLemmas
+mod RankLemmas
+mod LevelLemmas
+mod TurnLemmas
