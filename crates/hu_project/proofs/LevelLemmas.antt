@@ -1,6 +1,7 @@
 -- A level of a search over projected rows, and the levels below it.
-use Rattle.std.proofs.Common.{◌≡◌, ℕ, ◌<◌, ◌≤◌, ◌+◌, ℤ, int_le, ◌≤ℤ◌, List, [], ◌∷◌, ◌++◌, length, get_or, drop, sym, ap, ◌∙◌, subst, arith, append-nil, append_assoc, Contains}
+use Rattle.std.proofs.Common.{◌≡◌, ℕ, ◌<◌, ◌≤◌, ◌+◌, true, ℤ, pos, map, int_le, ◌≤ℤ◌, List, [], ◌∷◌, ◌++◌, length, get_or, drop, sym, ap, ◌∙◌, subst, arith, append-nil, append_assoc, Contains}
 use Rattle.std.specs.List.{AllByRecursion, filter, range_with_len}
+use Rattle.std.proofs.lemmas.Bool.{false≢true}
 use Rattle.std.proofs.lemmas.Int.{ints}
 use Rattle.hu_kind.specs.declared.entry.Entry.{Entry}
 use Rattle.hu_kind.specs.Database.{utility, support}
@@ -10,11 +11,11 @@ use Rattle.hu_kind.proofs.Occurring.{by_members, at_member}
 use Rattle.hu_totals.specs.Ranked.{Ranking}
 use Rattle.hu_collect.specs.Rule.{Rule, floor_of}
 use Rattle.hu_rows.specs.Rows.{RowOf, over, count_over}
-use Rattle.hu_rows.specs.Bounds.{AreKept}
+use Rattle.hu_rows.specs.Bounds.{among, AreKept, BoundsEach}
 use Rattle.hu_search.specs.Growth.{Covers}
 use Rattle.hu_search.proofs.Ascending.{each-append, each-get, Ascend-right, Ascend-push}
 use Rattle.hu_project.specs.declared.branches.Branches.{Branches}
-use Rattle.hu_project.specs.Level.{AreProjected, AreLater, AreReaching, IsLevel}
+use Rattle.hu_project.specs.Level.{AreProjected, AreLater, AreBounded, AreReaching, IsLevel}
 use Rattle.hu_project.proofs.RankLemmas.{each-filter, each-drop, Ascend-filter, Ascend-drop, after-at, Ascend-range, range-below, among-member, length-filter, reaches, IsKeptSet-among}
 
 -- ---- rows of a set
@@ -110,3 +111,38 @@ AreLater-first r set taken none all = subst (λ s. AreLater r s taken) (sym none
   later_in_table = range-below 0 (length r.items) (length r.items) (omega arith);
   after = by_members (λ rank. Ascend ([] ++ rank ∷ [])) (range_with_len 0 (length r.items)) (λ rank m. (tt, tt));
 }))
+
+-- ---- no branches
+
+none-among : (z : ℕ) (ranks : List ℕ) → ranks ≡ [] → among z ranks ≡ true → ⊥
+none-among z ranks none m = false≢true (ap (among z) (sym none) ∙ m)
+
+AreBounded-none : (rows : List RowOf) (branches : Branches) → branches.ranks.items ≡ [] → branches.bounds.items ≡ [] → AreBounded rows branches
+AreBounded-none rows branches none unbound = record {
+  setting = λ z. pos 0;
+  least = λ z set kept. absurd (none-among z branches.ranks.items none kept.kept.0);
+  bounds = unbound ∙ ap (map (λ z. pos 0)) (sym none);
+}
+
+-- where no rank reaches the floor
+pub AreReaching-low : (rows : List RowOf) (floor floor' : ℤ) (later ranks : List ℕ) (branches : Branches) (setting : ℕ → ℤ) → BoundsEach rows later setting → floor' ≡ floor
+    → ranks ≡ filter (λ rank. int_le floor' (setting rank)) later → ranks ≡ [] → branches.ranks.items ≡ [] → branches.bounds.items ≡ [] → AreReaching rows floor later branches
+AreReaching-low rows floor floor' later ranks branches setting each same is low none unbound = record {
+  setting = setting;
+  each = each;
+  ranks = none ∙ sym low ∙ is ∙ (λ j. filter (λ rank. int_le (same j) (setting rank)) later);
+  bounded = AreBounded-none rows branches none unbound;
+}
+
+-- where there is no rank
+pub AreReaching-none : (rows : List RowOf) (floor : ℤ) (later : List ℕ) (branches : Branches) → later ≡ [] → branches.ranks.items ≡ [] → branches.bounds.items ≡ [] → AreReaching rows floor later branches
+AreReaching-none rows floor later branches gone none unbound = record {
+  setting = λ z. pos 0;
+  each = each;
+  ranks = none ∙ ap (filter (λ z. int_le floor (pos 0))) (sym gone);
+  bounded = AreBounded-none rows branches none unbound;
+}
+  where
+    each : BoundsEach rows later (λ z. pos 0)
+    each [] kept z m = absurd (false≢true m)
+    each (s ∷ set) kept z m = absurd (none-among s later gone kept.kept.0)

@@ -20,14 +20,18 @@ pub(crate) struct Branches {
 
 impl Branches {
     /// No branches.
-    pub(crate) fn none(alloc: Global) -> Branches {
+    pub(crate) fn none(alloc: Global) -> Branches
+        ensures ranks { result.ranks.items ≡ [] }
+        ensures bounds { result.bounds.items ≡ [] }
+    {
         Branches {
             ranks: Vec::new(alloc),
             bounds: Vec::new(alloc),
         }
     }
 
-    /// Branches of those of some ranks that can stand in a set of these which reaches a floor over the rows.
+    /// Branches of those of some ranks that can stand in a set of these which reaches a floor over the rows. It passes over
+    /// the rows' cells once where there are ranks, and once more where some of them stay.
     pub(crate) fn of(
         alloc: Global,
         rows: &Rows<'_>,
@@ -39,8 +43,14 @@ impl Branches {
         ensures ranks { bins.new.ranks ≡ bins.old.ranks }
         ensures reaching { IfOk result (AreReaching rows.now floor later.now) }
     {
+        if later.is_empty() {
+            return Ok(Branches::none(alloc));
+        }
         bins.local(rows, later);
         let ranks = reaching(alloc, later, floor, bins)?;
+        if ranks.is_empty() {
+            return Ok(Branches::none(alloc));
+        }
         bins.subtree(rows, &ranks);
         let bounds = bounds_of(alloc, &ranks, bins)?;
         Ok(Branches { ranks, bounds })

@@ -65,7 +65,7 @@ search-returns-clause-ok g t c =
 
 pub visit-returns-then-index-floor-clause-ok : goal.visit-returns-then-index-floor-clause-ok
 visit-returns-then-index-floor-clause-ok g t c =
-    let below : c.index.result.now <ℤ floor_of (g.C.Collect.rule c.args.collect.now) (g.C.Collect.content c.args.collect.now) = omega (arith, ints, c.floor.ensures.value, c.floor.type_inv, c.index.type_inv, c.if-index-floor.true) in
+    let below : c.index.result.now <ℤ floor_of (g.C.Collect.rule c.args.collect.now) (g.C.Collect.content c.args.collect.now) = omega (arith, ints, c.floor.ensures.value, c.floor.type_inv, c.if-index-floor.true) in
     low-turn c.args.ranked.now c.args.ranks.now.items c.args.rows.now c.args.branches.now c.requires.level c.law_of_turns.ensures c.law_of_floors.ensures c.law_of_low_entries.ensures
     (g.C.Collect.rule c.args.collect.now) (g.C.Collect.content c.args.collect.now) c.requires.kept c.requires.covers c.args.at c.requires.within c.index.result.now c.index.result.now c.index.ensures below
 
