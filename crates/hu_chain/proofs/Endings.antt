@@ -6,7 +6,7 @@ use Rattle.hu_kind.specs.Record.{holds, values_of}
 use Rattle.hu_kind.specs.Sequence.{better, best_utility}
 use Rattle.hu_chain.specs.Pattern.{earlier, last_itemset, Ends}
 use Rattle.hu_chain.proofs.Better.{better-none, better-assoc, better-swap, map-better}
-use Rattle.hu_chain.proofs.Patterns.{pattern-split}
+use Rattle.hu_chain.proofs.lemmas.Patterns.{pattern-split}
 
 -- the best utility of some itemsets before an element, and one more in it
 abbrev pub ended : List (List ℕ) → List ℕ → List (List (ℕ × ℤ)) → List (ℕ × ℤ) → Option ℤ

@@ -8,7 +8,7 @@ use Rattle.hu_chain.specs.declared.place.Place.{Place}
 use Rattle.hu_chain.specs.Pattern.{after, earlier, into, last_itemset}
 use Rattle.hu_chain.specs.Place.{cell_of, chain_of, element_at, totals}
 use Rattle.hu_chain.specs.Search.{found, found_at, joined_places}
-use Rattle.hu_chain.proofs.Patterns.{earlier-into, earlier-after, last-into, last-after, last_item-into, last_item-after}
+use Rattle.hu_chain.proofs.lemmas.Patterns.{earlier-into, earlier-after, last-into, last-after, last_item-into, last_item-after}
 use Rattle.hu_chain.proofs.Endings.{ended}
 use Rattle.hu_chain.proofs.Places.{element_at-between, drop-between, place_by, place_in, places_in, chain_of-places}
 

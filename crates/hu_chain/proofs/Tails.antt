@@ -10,13 +10,13 @@ use Rattle.hu_kind.specs.Cell.{pairs_of, pair_of}
 use Rattle.hu_kind.specs.Record.{absolute_of, has, items_in, total, value_of, IsItemset}
 use Rattle.hu_kind.specs.Order.{Ascend}
 use Rattle.hu_kind.specs.Sequence.{IsSequence}
-use Rattle.hu_kind.proofs.Occurring.{at_member, has-member}
+use Rattle.hu_kind.proofs.lemmas.Occurring.{at_member, has-member}
 use Rattle.hu_chain.specs.declared.place.Place.{Place}
 use Rattle.hu_chain.specs.declared.place.Tail.{Tail}
 use Rattle.hu_chain.specs.Place.{cell_of, element_at, totals}
 use Rattle.hu_chain.specs.Bound.{IsFit}
 use Rattle.hu_chain.specs.Search.{cell_in, found, found_at, IsPlain, IsPlaceOf, IsTail, IsTailOf}
-use Rattle.hu_chain.proofs.Cells.{all-above, each-drop, each-take, pairs-take, total-above, total-parts, total-next, cell_of-within, Ascend-drop, Ascend-itemset, IsAbove}
+use Rattle.hu_chain.proofs.lemmas.Cells.{all-above, each-drop, each-take, pairs-take, total-above, total-parts, total-next, cell_of-within, Ascend-drop, Ascend-itemset, IsAbove}
 use Rattle.hu_chain.proofs.Finding.{found-whole, place_of_item}
 
 value_of-at : (item : ℕ) (cells : List Cell) (d : Cell) → has item (pairs_of cells) ≡ true → value_of item (pairs_of cells) ≡ (get_or cells (cell_of item (pairs_of cells)) d).value

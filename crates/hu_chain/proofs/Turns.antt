@@ -13,7 +13,7 @@ use Rattle.hu_chain.specs.declared.walk.Walk.{Walk}
 use Rattle.hu_chain.specs.Place.{element_at, totals}
 use Rattle.hu_chain.specs.Bound.{IsFit}
 use Rattle.hu_chain.specs.Search.{best_past, found, found_at, joined_places, left_past, walked, IsLeft, IsPlaceOf, IsPlain, IsTail, IsTailOf, IsWalk}
-use Rattle.hu_chain.proofs.Cells.{all-above, each-drop, total-above, IsAbove}
+use Rattle.hu_chain.proofs.lemmas.Cells.{all-above, each-drop, total-above, IsAbove}
 use Rattle.hu_chain.proofs.Tails.{element-above, totals-left}
 
 -- a place more, if there is one

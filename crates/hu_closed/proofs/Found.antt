@@ -13,10 +13,10 @@ use Rattle.std.proofs.Math.Seq.{get_or-append_seam}
 use Rattle.hu_kind.specs.declared.item.Item.{Item}
 use Rattle.hu_kind.specs.Order.{Ascend}
 use Rattle.hu_kind.specs.Record.{items_in, IsRecord}
-use Rattle.hu_kind.proofs.Members.{Member, Member-append_cases, Member-from_filter, Member-map, Member-from_map}
+use Rattle.hu_kind.proofs.lemmas.Members.{Member, Member-append_cases, Member-from_filter, Member-map, Member-from_map}
 use Rattle.hu_totals.specs.Weights.{numbers_of}
-use Rattle.hu_totals.proofs.RecordCells.{Ascend-record}
-use Rattle.hu_totals.proofs.RankingRules.{All-from_each}
+use Rattle.hu_totals.proofs.lemmas.RecordCells.{Ascend-record}
+use Rattle.hu_totals.proofs.lemmas.RankingRules.{All-from_each}
 use Rattle.hu_closed.specs.declared.holders.Holder.{Holder}
 use Rattle.hu_closed.specs.Keys.{are_among, is_among}
 use Rattle.hu_closed.specs.Holders.{found_at, lists_of, pair_of, pairs_from, pairs_with, stands_at, AreLists, AreSets, AreWithin}

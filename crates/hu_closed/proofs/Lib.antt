@@ -1,3 +1,4 @@
+pub mod lemmas
 mod Numbers
 mod Parts
 pub mod KeyLemmas
@@ -5,8 +6,5 @@ mod Pairs
 mod Tries
 mod ListTests
 mod Found
-pub mod Closedness
-pub mod RankLemmas
 mod SetLemmas
-pub mod ClosedLemmas
 mod PartLemmas

@@ -3,14 +3,14 @@ use Rattle.std.proofs.Common.{◌≡◌, ◌∙◌, ℕ, ◌<◌, ℤ, pos, true
 use Rattle.std.specs.Ordering.{int_eq}
 use Rattle.std.proofs.lemmas.Bool.{and_left, and_right, cases_eq, eq-eqb, ne_eqb}
 use Rattle.hu_kind.specs.Order.{Ascend}
-use Rattle.hu_kind.proofs.Members.{Member, Member-append_cases, Member-append_left, Member-append_right}
-use Rattle.hu_kind.proofs.Occurring.{Ascend-ranking, at_member}
+use Rattle.hu_kind.proofs.lemmas.Members.{Member, Member-append_cases, Member-append_left, Member-append_right}
+use Rattle.hu_kind.proofs.lemmas.Occurring.{Ascend-ranking, at_member}
 use Rattle.hu_collect.specs.Rule.{Rule}
 use Rattle.hu_collect.specs.Ranks.{IsGrown, RestsOn, is_part, key_of}
 use Rattle.hu_closed.specs.Keys.{is_closed_key}
 use Rattle.hu_closed.specs.ClosedOnly.{closed_rule, WantsNone}
-use Rattle.hu_closed.proofs.Closedness.{same_item}
-use Rattle.hu_closed.proofs.RankLemmas.{items_at, items_at-member, member-items_at}
+use Rattle.hu_closed.proofs.lemmas.Closedness.{same_item}
+use Rattle.hu_closed.proofs.lemmas.RankLemmas.{items_at, items_at-member, member-items_at}
 
 -- ascending numbers that are all among others are part of them
 pub is_part-members : (xs ys : List ℕ) → Ascend xs → Ascend ys → ((x : ℕ) → Member x xs → Member x ys) → is_part (map pos xs) (map pos ys) ≡ true

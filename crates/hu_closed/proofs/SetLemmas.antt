@@ -13,17 +13,17 @@ use Rattle.std.proofs.lemmas.List.Folds.{list_all-map}
 use Rattle.hu_kind.specs.declared.item.Item.{Item}
 use Rattle.hu_kind.specs.Record.{has, items_in}
 use Rattle.hu_kind.specs.Database.{items_of}
-use Rattle.hu_kind.proofs.Members.{Member, Member-append_cases, Member-append_left, Member-append_right, Member-filter, Member-from_contains, Member-from_filter, Member-from_flat_map, Member-from_map, Member-map}
-use Rattle.hu_kind.proofs.Occurring.{has-member}
-use Rattle.hu_kind.proofs.RecordLemmas.{list_any-map}
+use Rattle.hu_kind.proofs.lemmas.Members.{Member, Member-append_cases, Member-append_left, Member-append_right, Member-filter, Member-from_contains, Member-from_filter, Member-from_flat_map, Member-from_map, Member-map}
+use Rattle.hu_kind.proofs.lemmas.Occurring.{has-member}
+use Rattle.hu_kind.proofs.lemmas.RecordLemmas.{list_any-map}
 use Rattle.hu_totals.specs.Weights.{numbers_of}
-use Rattle.hu_totals.proofs.SortedLists.{Member-from_ranking}
-use Rattle.hu_totals.proofs.DenseLemmas.{position-rank_in, rank_in}
+use Rattle.hu_totals.proofs.lemmas.SortedLists.{Member-from_ranking}
+use Rattle.hu_totals.proofs.lemmas.DenseLemmas.{position-rank_in, rank_in}
 use Rattle.hu_closed.specs.declared.holders.Holder.{Holder}
 use Rattle.hu_closed.specs.Keys.{are_among, closes_below, holds_key, is_among, is_closed_key, is_outside, is_set_key, key_support}
 use Rattle.hu_closed.specs.Holders.{closes_at, found_at, has_rank_below, is_below, lists_of, pair_of, pairs_from, stands_at, AreLists, AreSets, AreWithin}
 use Rattle.hu_closed.proofs.Found.{among-part, found-sets, AreLists-sets, AreWithin-sets}
-use Rattle.hu_closed.proofs.Closedness.{any_closes-one, closes, closes-held, closes-unheld, has-among, is_closed_key-set, occurs}
+use Rattle.hu_closed.proofs.lemmas.Closedness.{any_closes-one, closes, closes-held, closes-unheld, has-among, is_closed_key-set, occurs}
 use Rattle.hu_closed.proofs.ListTests.{all-filter, all-same, any-from, any-member, any-members, any-same, count-filter, count-map, same_bool}
 
 -- a number of a key with its holders

@@ -16,12 +16,18 @@ use Rattle.std.proofs.Math.Dec.{T}
 use Rattle.hu_kind.specs.declared.entry.Entry.{Entry}
 use Rattle.hu_kind.specs.Order.{entry_cmp, entry_cmp_total, ranking}
 use Rattle.hu_collect.specs.Rule.{rule_of, passes, made, IsKept, last_utility, floor_of, floor_by}
+use Rattle.hu_collect.specs.State.{State}
 use Rattle.hu_collect.specs.Top.{IsTop}
 use Rattle.hu_collect.proofs.Ranking.{ranking-same_members}
-use Rattle.hu_collect.proofs.Cutting.{ranking-sorted, cut-ranking-in_turn}
-use Rattle.hu_collect.proofs.Entries.{entry_order, entry_exact}
-use Rattle.hu_collect.proofs.Floor.{floor_by-start}
-use Rattle.hu_collect.proofs.Made.{leaves_below_floor, made-passing, made-not_passing, by_passing, start-passes, kept-made, keeps_floor}
+use Rattle.hu_collect.proofs.lemmas.Cutting.{ranking-sorted, cut-ranking-in_turn}
+use Rattle.hu_collect.proofs.lemmas.Entries.{entry_order, entry_exact}
+use Rattle.hu_collect.proofs.lemmas.Floor.{floor_by-start}
+use Rattle.hu_collect.proofs.lemmas.Made.{leaves_below_floor, made-passing, made-not_passing, by_passing, start-passes, kept-made, keeps_floor}
+
+-- states of one rule are equal where what they hold is
+pub same_state : (start : ℤ) (limit : Option ℕ) {xs ys : List Entry} → xs ≡ ys
+    → ◌≡◌ {A = State} (record { rule = rule_of start limit; content = xs }) (record { rule = rule_of start limit; content = ys })
+same_state start limit same = ap (λ content. record { rule = rule_of start limit; content = content }) same
 
 true-from : (b : Bool) → T b → b ≡ true
 true-from true h = refl

@@ -1,4 +1,5 @@
 pub mod Rule
+pub mod State
 pub mod Ranks
 pub mod Laws
 pub mod Makes

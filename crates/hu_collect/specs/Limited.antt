@@ -1,16 +1,20 @@
--- The rule and the content of a collector of all entries, or of the first k.
-use Rattle.std.specs.Prelude.{None, Some, List}
+-- The states of the collectors of all entries and of the first k.
+use Rattle.std.specs.Prelude.{ℕ, ℤ, None, Some, List}
 use Rattle.hu_kind.specs.declared.entry.Entry.{Entry}
 use Rattle.hu_collect.specs.declared.limited.Limited.{Limited}
 use Rattle.hu_collect.specs.declared.limited.Limited.TheVariants.{All, First}
-use Rattle.hu_collect.specs.Rule.{Rule, rule_of}
+use Rattle.hu_collect.specs.Rule.{rule_of}
+use Rattle.hu_collect.specs.State.{State}
 
--- its start, and the limit where there is one
-abbrev pub rule_in : Limited → Rule
-rule_in (All all) = rule_of all.0 None
-rule_in (First top) = rule_of top.1 (Some top.0)
+-- that of all entries, seen as its start and what it holds
+abbrev pub all_state : ℤ × List Entry → State
+all_state all = record { rule = rule_of all.0 None; content = all.1 }
 
--- what it holds
-abbrev pub content_in : Limited → List Entry
-content_in (All all) = all.1
-content_in (First top) = top.2
+-- that of the first k, seen as k, its start and what it holds
+abbrev pub top_state : ℕ × ℤ × List Entry → State
+top_state top = record { rule = rule_of top.1 (Some top.0); content = top.2 }
+
+-- that of either
+abbrev pub limited_state : Limited → State
+limited_state (All all) = all_state all
+limited_state (First top) = top_state top

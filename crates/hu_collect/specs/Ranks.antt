@@ -3,6 +3,7 @@ use Rattle.std.specs.Prelude.{◌≡◌, ℕ, ◌<◌, ℤ, pos, Bool, true, fal
 use Rattle.std.specs.Ordering.{nat_cmp, int_eq}
 use Rattle.std.specs.List.{All, AllAdjacentBelow}
 use Rattle.hu_kind.specs.Order.{ranking}
+use Rattle.hu_collect.specs.Rule.{Rule}
 
 -- a set of ranks of a table: ascending, and each in the table
 pub record IsRankSet (table ranks : List ℕ) : Type 0 where
@@ -29,6 +30,10 @@ abbrev pub IsGrown : Option (List ℕ) → List ℤ → ℕ → List ℤ → Typ
 IsGrown None key last grown = IsTrue (is_part key grown)
 IsGrown (Some table) key last grown = (before : List ℕ) × (more : List ℕ) × IsRankSet table (before ++ last ∷ more)
     × (key ≡ key_of table (before ++ last ∷ [])) × (grown ≡ key_of table (before ++ last ∷ more))
+
+-- no key is wanted that is this one, alone or grown
+abbrev pub IsShut : Rule → List ℤ → ℕ → Type 0
+IsShut rule key last = (grown : List ℤ) → IsGrown rule.table key last grown → rule.wants grown ≡ false
 
 -- a collector rests on no table of ranks, or on this one
 abbrev pub RestsOn : Option (List ℕ) → List ℕ → Type 0

@@ -1,8 +1,8 @@
 //! The collector that keeps all entries.
 
-ghost use Rattle.std.specs.Prelude.{◌≡◌, [], pos, ◌≤ℤ◌, true, None, IfOk};
+ghost use Rattle.std.specs.Prelude.{◌≡◌, pos, ◌≤ℤ◌, true, None, IfOk};
 ghost use Rattle.hu_kind.specs.Order.{entry_cmp, ranking};
-ghost use Rattle.hu_collect.specs.Rule.{rule_of};
+ghost use Rattle.hu_collect.specs.State.{fresh};
 
 use crate::collect::Collect;
 use hu_kind::{Entry, Key, NoMemory};
@@ -33,8 +33,7 @@ impl All {
     /// An empty collector without a limit. It takes no memory.
     pub fn new(alloc: Global, start: i128) -> All
         requires { pos 1 ≤ℤ start }
-        ensures rule { ⟦<All as Collect>⟧.rule result ≡ rule_of start None }
-        ensures content { ⟦<All as Collect>⟧.content result ≡ [] }
+        ensures { ⟦<All as Collect>⟧.state result ≡ fresh start None }
     {
         All {
             start,
@@ -44,7 +43,7 @@ impl All {
 
     /// The entries in the one order, by one sort in place of all that were taken. Want of memory drops them.
     pub fn into_entries(self) -> Result<Vec<Entry>, NoMemory>
-        ensures { IfOk result (λ entries. entries.items ≡ ⟦<All as Collect>⟧.content self) }
+        ensures { IfOk result (λ entries. entries.items ≡ (⟦<All as Collect>⟧.state self).content) }
     {
         let All {
             offered: mut entries,
@@ -56,12 +55,9 @@ impl All {
 }
 
 impl Collect for All {
-    ghost use Rattle.std.specs.Prelude.{None};
-    ghost use Rattle.hu_collect.specs.Rule.{rule_of};
+    ghost use Rattle.hu_collect.specs.Limited.{all_state};
 
-    ghost rule = { λ a. rule_of a.0 None };
-
-    ghost content = { λ a. a.1 };
+    ghost state = { all_state };
 
     /// The start, in constant time.
     fn floor(&self) -> i128 {

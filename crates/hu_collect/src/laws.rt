@@ -3,37 +3,37 @@
 ghost use Rattle.hu_collect.specs.Laws.{MakesInTurn, MakesByMembers, MakesByPassing, MakesByReaching, LeavesBelowFloor, KeepsFloor};
 
 /// Making of one list of entries and then of another is making of both.
-#[tactic(auto, using(crate::proofs::Made::makes_in_turn))]
+#[tactic(auto, using(crate::proofs::lemmas::Made::makes_in_turn))]
 pub fn law_of_turns()
     ensures { MakesInTurn }
 {}
 
 /// Lists with the same members make the same, whatever their order and however often an entry stands in them.
-#[tactic(auto, using(crate::proofs::Made::makes_by_members))]
+#[tactic(auto, using(crate::proofs::lemmas::Made::makes_by_members))]
 pub fn law_of_members()
     ensures { MakesByMembers }
 {}
 
 /// Lists with the same members among those that pass make the same.
-#[tactic(auto, using(crate::proofs::Made::makes_by_passing))]
+#[tactic(auto, using(crate::proofs::lemmas::Made::makes_by_passing))]
 pub fn law_of_passing()
     ensures { MakesByPassing }
 {}
 
 /// Where the content is kept, lists with the same members among those that pass and reach the floor make the same.
-#[tactic(auto, using(crate::proofs::Made::makes_by_reaching))]
+#[tactic(auto, using(crate::proofs::lemmas::Made::makes_by_reaching))]
 pub fn law_of_reaching()
     ensures { MakesByReaching }
 {}
 
 /// An entry below the floor leaves the content.
-#[tactic(auto, using(crate::proofs::Made::leaves_below_floor))]
+#[tactic(auto, using(crate::proofs::lemmas::Made::leaves_below_floor))]
 pub fn law_of_low_entries()
     ensures { LeavesBelowFloor }
 {}
 
 /// The floor never falls.
-#[tactic(auto, using(crate::proofs::Made::keeps_floor))]
+#[tactic(auto, using(crate::proofs::lemmas::Made::keeps_floor))]
 pub fn law_of_floors()
     ensures { KeepsFloor }
 {}

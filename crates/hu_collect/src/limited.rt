@@ -1,7 +1,7 @@
 //! The collector of all entries, or of the first k.
 
-ghost use Rattle.std.specs.Prelude.{◌≡◌, ◌≤◌, [], pos, ◌≤ℤ◌, true, IfOk, IfSome};
-ghost use Rattle.hu_collect.specs.Rule.{rule_of};
+ghost use Rattle.std.specs.Prelude.{◌≡◌, ◌≤◌, pos, ◌≤ℤ◌, true, IfOk, IfSome};
+ghost use Rattle.hu_collect.specs.State.{fresh};
 
 use crate::all::All;
 use crate::collect::Collect;
@@ -23,8 +23,7 @@ impl Limited {
     pub fn new(alloc: Global, top: Option<u32>, start: i128) -> Limited
         requires some { IfSome top (λ k. 1 ≤ k) }
         requires least { pos 1 ≤ℤ start }
-        ensures rule { ⟦<Limited as Collect>⟧.rule result ≡ rule_of start top }
-        ensures content { ⟦<Limited as Collect>⟧.content result ≡ [] }
+        ensures { ⟦<Limited as Collect>⟧.state result ≡ fresh start top }
     {
         match top {
             None => Limited::All(All::new(alloc, start)),
@@ -34,7 +33,7 @@ impl Limited {
 
     /// The entries in the one order. Want of memory drops them.
     pub fn into_entries(self) -> Result<Vec<Entry>, NoMemory>
-        ensures { IfOk result (λ entries. entries.items ≡ ⟦<Limited as Collect>⟧.content self) }
+        ensures { IfOk result (λ entries. entries.items ≡ (⟦<Limited as Collect>⟧.state self).content) }
     {
         match self {
             Limited::All(all) => all.into_entries(),
@@ -44,11 +43,9 @@ impl Limited {
 }
 
 impl Collect for Limited {
-    ghost use Rattle.hu_collect.specs.Limited.{content_in, rule_in};
+    ghost use Rattle.hu_collect.specs.Limited.{limited_state};
 
-    ghost rule = { rule_in };
-
-    ghost content = { content_in };
+    ghost state = { limited_state };
 
     fn floor(&self) -> i128 {
         match self {

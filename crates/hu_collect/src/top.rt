@@ -1,8 +1,9 @@
 //! The collector that keeps the first k entries.
 
-ghost use Rattle.std.specs.Prelude.{◌≡◌, ◌+◌, ◌≤◌, take, [], pos, ◌≤ℤ◌, true, Some, IfOk};
+ghost use Rattle.std.specs.Prelude.{◌≡◌, ◌+◌, ◌≤◌, take, pos, ◌≤ℤ◌, true, Some, IfOk};
 ghost use Rattle.std.specs.BTreeSet.{btree_set_len};
-ghost use Rattle.hu_collect.specs.Rule.{rule_of, floor_by};
+ghost use Rattle.hu_collect.specs.Rule.{floor_by};
+ghost use Rattle.hu_collect.specs.State.{fresh};
 
 use crate::collect::Collect;
 use hu_kind::{Entry, Key, NoMemory};
@@ -39,8 +40,7 @@ impl Top {
     pub fn new(alloc: Global, k: u32, start: i128) -> Top
         requires some { 1 ≤ k }
         requires least { pos 1 ≤ℤ start }
-        ensures rule { ⟦<Top as Collect>⟧.rule result ≡ rule_of start (Some k) }
-        ensures content { ⟦<Top as Collect>⟧.content result ≡ [] }
+        ensures { ⟦<Top as Collect>⟧.state result ≡ fresh start (Some k) }
     {
         Top {
             limit: k,
@@ -53,7 +53,7 @@ impl Top {
 
     /// The entries in the one order, in k steps. Want of memory drops them.
     pub fn into_entries(self) -> Result<Vec<Entry>, NoMemory>
-        ensures { IfOk result (λ entries. entries.items ≡ ⟦<Top as Collect>⟧.content self) }
+        ensures { IfOk result (λ entries. entries.items ≡ (⟦<Top as Collect>⟧.state self).content) }
     {
         let Top { entries, alloc, .. } = self;
         Ok(entries.into_iter().collect(alloc)?)
@@ -61,12 +61,9 @@ impl Top {
 }
 
 impl Collect for Top {
-    ghost use Rattle.std.specs.Prelude.{Some};
-    ghost use Rattle.hu_collect.specs.Rule.{rule_of};
+    ghost use Rattle.hu_collect.specs.Limited.{top_state};
 
-    ghost rule = { λ t. rule_of t.1 (Some t.0) };
-
-    ghost content = { λ t. t.2 };
+    ghost state = { top_state };
 
     /// Takes constant time.
     fn floor(&self) -> i128 {

@@ -9,8 +9,8 @@ use Rattle.std.proofs.lemmas.List.Sums.{sum_by-append, sum_by-cons}
 use Rattle.hu_kind.specs.Record.{any_negative, has, holds, items_in, utility_in, value_of, values_of}
 use Rattle.hu_kind.specs.Database.{items_of, support, utility}
 use Rattle.hu_kind.specs.Itemsets.{goes_with, is_closed}
-use Rattle.hu_kind.proofs.Members.{Member, Member-flat_map}
-use Rattle.hu_kind.proofs.Occurring.{Member-ranking, counted, has-member}
+use Rattle.hu_kind.proofs.lemmas.Members.{Member, Member-flat_map}
+use Rattle.hu_kind.proofs.lemmas.Occurring.{Member-ranking, counted, has-member}
 use Rattle.hu_kept.specs.Laws.{KeepsUntouched, KeepsClosedness, StaysClosed, NeverLoses}
 
 -- ---- tests of all elements

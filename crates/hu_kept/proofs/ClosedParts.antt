@@ -8,7 +8,7 @@ use Rattle.hu_collect.specs.Rule.{Rule, made}
 use Rattle.hu_collect.specs.Limited.{content_in, rule_in}
 use Rattle.hu_collect.specs.declared.limited.Limited.{Limited}
 use Rattle.hu_closed.specs.ClosedOnly.{closed_rule}
-use Rattle.hu_closed.proofs.ClosedLemmas.{makes-closed}
+use Rattle.hu_closed.proofs.lemmas.ClosedLemmas.{makes-closed}
 use Rattle.hu_kept.specs.Touched.{within}
 use Rattle.hu_kept.proofs.TouchedLemmas.{made-closed_touched, made-touched}
 

@@ -6,8 +6,8 @@ use Rattle.std.specs.Ordering.{is_lt}
 use Rattle.std.specs.Cmp.{IsTotalOrder}
 use Rattle.std.proofs.lemmas.Cmp.{tied_itself}
 use Rattle.std.proofs.lemmas.List.Sums.{sum_by-cons}
-use Rattle.hu_kind.proofs.Members.{Member}
-use Rattle.hu_kind.proofs.Occurring.{at_member}
+use Rattle.hu_kind.proofs.lemmas.Members.{Member}
+use Rattle.hu_kind.proofs.lemmas.Occurring.{at_member}
 
 -- whether an element comes before another
 abbrev pub before : {A : Type 0} → (A → A → Ordering) → A → A → Bool

@@ -16,12 +16,12 @@ use Rattle.std.proofs.lemmas.Map.Made.{is_member-Decides, length-le_from_is_memb
 use Rattle.hu_kind.specs.declared.entry.Entry.{Entry}
 use Rattle.hu_kind.specs.Order.{cut, entry_cmp, entry_cmp_total, ranking}
 use Rattle.hu_kind.specs.Answer.{answer, found}
-use Rattle.hu_kind.proofs.Members.{Contains-from_member, Member, Member-filter, Member-from_contains, Member-from_filter, Member-from_map, Member-map}
-use Rattle.hu_kind.proofs.Occurring.{by_members}
-use Rattle.hu_collect.proofs.Cutting.{sorted-cut, sorted-ranking}
-use Rattle.hu_collect.proofs.Entries.{entry_exact, entry_order}
-use Rattle.hu_collect.proofs.Floor.{utility-before}
-use Rattle.hu_totals.proofs.SortedLists.{Member-from_ranking, Member-to_ranking}
+use Rattle.hu_kind.proofs.lemmas.Members.{Contains-from_member, Member, Member-filter, Member-from_contains, Member-from_filter, Member-from_map, Member-map}
+use Rattle.hu_kind.proofs.lemmas.Occurring.{by_members}
+use Rattle.hu_collect.proofs.lemmas.Cutting.{sorted-cut, sorted-ranking}
+use Rattle.hu_collect.proofs.lemmas.Entries.{entry_exact, entry_order}
+use Rattle.hu_collect.proofs.lemmas.Floor.{utility-before}
+use Rattle.hu_totals.proofs.lemmas.SortedLists.{Member-from_ranking, Member-to_ranking}
 use Rattle.hu_kept.specs.Kept.{Keeping, answer_of, patterns_of, with_batch}
 use Rattle.hu_kept.specs.Laws.{NoneBelow, StaysOutside}
 use Rattle.hu_kept.specs.Touched.{is_touched}

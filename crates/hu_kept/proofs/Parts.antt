@@ -4,11 +4,11 @@ use Rattle.std.specs.List.{AllByRecursion}
 use Rattle.hu_kind.specs.declared.entry.Entry.{Entry}
 use Rattle.hu_kind.specs.Order.{cut, entry_cmp, ranking}
 use Rattle.hu_kind.specs.Answer.{answer, found}
-use Rattle.hu_kind.proofs.Members.{Contains-from_member, Member, Member-append_cases, Member-append_left, Member-append_right, Member-filter, Member-from_contains, Member-from_filter}
-use Rattle.hu_kind.proofs.Occurring.{by_members}
+use Rattle.hu_kind.proofs.lemmas.Members.{Contains-from_member, Member, Member-append_cases, Member-append_left, Member-append_right, Member-filter, Member-from_contains, Member-from_filter}
+use Rattle.hu_kind.proofs.lemmas.Occurring.{by_members}
 use Rattle.hu_collect.specs.Rule.{Rule, made, passes, rule_of}
-use Rattle.hu_collect.proofs.Made.{kept-made, makes_by_members, makes_by_passing, makes_in_turn}
-use Rattle.hu_totals.proofs.SortedLists.{Member-from_ranking}
+use Rattle.hu_collect.proofs.lemmas.Made.{kept-made, makes_by_members, makes_by_passing, makes_in_turn}
+use Rattle.hu_totals.proofs.lemmas.SortedLists.{Member-from_ranking}
 use Rattle.hu_kept.specs.Kept.{Keeping, answer_of, patterns_of, with_batch}
 use Rattle.hu_kept.specs.Laws.{NoneBelow}
 use Rattle.hu_kept.specs.Touched.{is_touched, touched, untouched}

@@ -6,10 +6,10 @@ use Rattle.hu_kind.specs.declared.entry.Entry.{Entry}
 use Rattle.hu_kind.specs.Database.{support, utility}
 use Rattle.hu_kind.specs.Itemsets.{closed_patterns, item_entry, item_patterns, is_closed, occurring_sets}
 use Rattle.hu_kind.specs.Answer.{answer}
-use Rattle.hu_kind.proofs.Members.{Member, Member-filter, Member-from_filter, Member-from_map, Member-map}
-use Rattle.hu_kind.proofs.Occurring.{Occurs, Occurs-from_member, Member-from_occurs}
+use Rattle.hu_kind.proofs.lemmas.Members.{Member, Member-filter, Member-from_filter, Member-from_map, Member-map}
+use Rattle.hu_kind.proofs.lemmas.Occurring.{Occurs, Occurs-from_member, Member-from_occurs}
 use Rattle.hu_closed.specs.Keys.{key_support}
-use Rattle.hu_closed.proofs.Closedness.{support-key}
+use Rattle.hu_closed.proofs.lemmas.Closedness.{support-key}
 use Rattle.hu_kept.specs.Kept.{Keeping, answer_of, patterns_of}
 use Rattle.hu_kept.specs.Laws.{NoneBelow}
 use Rattle.hu_kept.specs.Touched.{is_touched}

@@ -6,9 +6,9 @@ use Rattle.std.specs.List.{Contains}
 use Rattle.hu_kind.specs.declared.entry.Entry.{Entry}
 use Rattle.hu_kind.specs.Itemsets.{item_patterns}
 use Rattle.hu_kind.specs.Answer.{found}
-use Rattle.hu_kind.proofs.Members.{Contains-from_member, Member-filter, Member-from_contains, Member-from_filter}
+use Rattle.hu_kind.proofs.lemmas.Members.{Contains-from_member, Member-filter, Member-from_contains, Member-from_filter}
 use Rattle.hu_collect.specs.Rule.{Rule, IsKept, floor_of, made}
-use Rattle.hu_collect.proofs.Made.{makes_by_reaching}
+use Rattle.hu_collect.proofs.lemmas.Made.{makes_by_reaching}
 use Rattle.hu_totals.specs.Ranked.{Ranking, unranked}
 use Rattle.hu_totals.specs.Laws.{KeepsPatterns}
 

@@ -3,7 +3,7 @@ use Rattle.std.proofs.Common.{◌≡◌, ◌∙◌, ℕ, ℤ, Bool, true, false,
 use Rattle.hu_kind.specs.declared.entry.Entry.{Entry}
 use Rattle.hu_kind.specs.Order.{cut}
 use Rattle.hu_collect.specs.Rule.{IsKept, Rule, made, rule_of}
-use Rattle.hu_collect.proofs.Made.{kept-made, makes_in_turn}
+use Rattle.hu_collect.proofs.lemmas.Made.{kept-made, makes_in_turn}
 use Rattle.hu_kept.specs.Kept.{answer_of, patterns_of}
 use Rattle.hu_kept.specs.Touched.{is_touched, touched, touched_rule, untouched}
 use Rattle.hu_kept.specs.Entries.{Continues, keeping}

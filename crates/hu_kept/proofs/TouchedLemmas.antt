@@ -9,14 +9,14 @@ use Rattle.hu_kind.specs.declared.entry.Entry.{Entry}
 use Rattle.hu_kind.specs.Order.{cut, entry_cmp, ranking}
 use Rattle.hu_kind.specs.Record.{IsRecord, items_in}
 use Rattle.hu_kind.specs.Itemsets.{closed_patterns, item_patterns}
-use Rattle.hu_kind.proofs.Members.{Member, Member-append_cases, Member-append_left, Member-append_right, Member-from_map, Member-map}
+use Rattle.hu_kind.proofs.lemmas.Members.{Member, Member-append_cases, Member-append_left, Member-append_right, Member-from_map, Member-map}
 use Rattle.hu_collect.specs.Rule.{Rule, IsKept, floor_of, made, passes}
 use Rattle.hu_collect.specs.Ranks.{IsGrown, is_part, key_of}
-use Rattle.hu_collect.proofs.Made.{leaves_below_floor}
+use Rattle.hu_collect.proofs.lemmas.Made.{leaves_below_floor}
 use Rattle.hu_closed.specs.Keys.{holds_key, is_among, is_closed_key, key_support}
 use Rattle.hu_closed.specs.ClosedOnly.{WantsNone, closed_rule}
-use Rattle.hu_closed.proofs.ClosedLemmas.{makes-closed}
-use Rattle.hu_closed.proofs.RankLemmas.{items_at, items_at-member, member-items_at}
+use Rattle.hu_closed.proofs.lemmas.ClosedLemmas.{makes-closed}
+use Rattle.hu_closed.proofs.lemmas.RankLemmas.{items_at, items_at-member, member-items_at}
 use Rattle.hu_kept.specs.Touched.{is_touched, touched, touched_rule}
 
 -- ---- entries that change nothing

@@ -1,8 +1,3 @@
-pub mod RecordLemmas
+pub mod lemmas
 mod NumberLemmas
 pub mod TokenLemmas
-pub mod RankingLemmas
-pub mod CellsLemmas
-pub mod Members
-pub mod Occurring
-pub mod FirstLemmas

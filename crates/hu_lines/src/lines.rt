@@ -49,7 +49,7 @@ impl Model for Lines {
 
 impl Lines {
     /// Ready for the first file of a run. It takes the room of one longest line; no later call takes memory.
-    #[tactic(auto, using(crate::proofs::HeldLemmas::held_empty))]
+    #[tactic(auto, using(crate::proofs::lemmas::HeldLemmas::held_empty))]
     pub fn new(alloc: Global) -> Result<Lines, NoMemory>
         ensures start { IfOk result (λ lines. lines ≡ at_start) }
         ensures held { IfOk result IsHeld }
@@ -67,7 +67,7 @@ impl Lines {
     /// Takes bytes of the line up to and with its line feed, or all of the piece where it has none. A line that has
     /// ended is left before, also by an empty piece. The first byte that passes a limit is refused, and after that
     /// every byte. One pass over what is taken, which is copied once.
-    #[tactic(auto, using(crate::proofs::PieceLemmas::first_piece_twice))]
+    #[tactic(auto, using(crate::proofs::lemmas::PieceLemmas::first_piece_twice))]
     pub fn feed(&mut self, piece: &[u8]) -> Result<Fed, LineFault>
         requires { self.old.ended ≡ false }
 
@@ -104,7 +104,7 @@ impl Lines {
     }
 
     /// Begins the next line where the line has ended.
-    #[tactic(auto, using(crate::proofs::HeldLemmas::kept_number))]
+    #[tactic(auto, using(crate::proofs::lemmas::HeldLemmas::kept_number))]
     fn begin(&mut self)
         ensures begun { self.new ≡ begun self.old }
         ensures stays { IfSome self.old.refused (λ _. self.new ≡ self.old) }
@@ -116,7 +116,7 @@ impl Lines {
     }
 
     /// Begins a line of this number after the bytes held.
-    #[tactic(auto, using(crate::proofs::HeldLemmas::kept_within))]
+    #[tactic(auto, using(crate::proofs::lemmas::HeldLemmas::kept_within))]
     fn start_line(&mut self, number: u64)
         requires { number ≤ self.old.before + length self.old.bytes + 1 }
         ensures line { self.new ≡ at_line number self.old }
@@ -129,7 +129,7 @@ impl Lines {
     }
 
     /// The limit that the line passes with these bytes, of which the last is a line feed where they make it `whole`.
-    #[tactic(auto, using(crate::proofs::HeldLemmas::kept_within))]
+    #[tactic(auto, using(crate::proofs::lemmas::HeldLemmas::kept_within))]
     fn passed_limit(&self, taken: &[u8], whole: bool) -> Option<LineFault>
         requires begun { self.now.whole ≡ false }
         requires one { first_piece taken.now ≡ taken.now }
@@ -141,7 +141,7 @@ impl Lines {
     }
 
     /// Adds bytes to the line, for which there is room where they pass no limit.
-    #[tactic(auto, using(crate::proofs::HeldLemmas::held_room))]
+    #[tactic(auto, using(crate::proofs::lemmas::HeldLemmas::held_room))]
     fn grow(&mut self, taken: &[u8], whole: bool)
         requires begun { self.old.whole ≡ false }
         requires accepted { self.old.refused ≡ None }
@@ -170,7 +170,7 @@ impl Lines {
     }
 
     /// The line, without its line feed and without one carriage return at its end.
-    #[tactic(auto, using(crate::proofs::HeldLemmas::held_line))]
+    #[tactic(auto, using(crate::proofs::lemmas::HeldLemmas::held_line))]
     pub fn line(&self) -> &[u8]
         requires { HasLine self.now }
         ensures value { result.now ≡ line_of self.now.bytes }

@@ -9,8 +9,8 @@ use Rattle.std.specs.declared.alloc.Global.{Global}
 use Rattle.hu_kind.specs.Record.{has, holds}
 use Rattle.hu_kind.specs.Database.{support}
 use Rattle.hu_kind.specs.Order.{Ascend}
-use Rattle.hu_kind.proofs.Members.{Member, Member-append_left, Member-append_right, Member-append_cases, Member-from_contains, Contains-from_member}
-use Rattle.hu_kind.proofs.Occurring.{at_member, counted, count-member}
+use Rattle.hu_kind.proofs.lemmas.Members.{Member, Member-append_left, Member-append_right, Member-append_cases, Member-from_contains, Contains-from_member}
+use Rattle.hu_kind.proofs.lemmas.Occurring.{at_member, counted, count-member}
 use Rattle.hu_totals.specs.Ranked.{Ranking, IsRanking}
 use Rattle.hu_list.specs.declared.list.Node.{Node}
 use Rattle.hu_list.specs.declared.branch.Branch.{Branch}
@@ -19,7 +19,7 @@ use Rattle.hu_list.specs.Joins.{Joins}
 use Rattle.hu_list.specs.Gathered.{lists_in}
 use Rattle.hu_list.specs.Level.{branches_from, branch_of, ranks_of, IsBranch, IsLevel, IsFork, AreJoined}
 use Rattle.hu_search.specs.Growth.{IsLow}
-use Rattle.hu_search.proofs.Ascending.{each-weaker, each-append, each-get, Ascend-push}
+use Rattle.hu_search.proofs.lemmas.Ascending.{each-weaker, each-append, each-get, Ascend-push}
 use Rattle.hu_list.proofs.ListLemmas.{weight-list, length-nodes, AreRanked-ranking}
 
 -- ---- the branches of the empty set

@@ -10,7 +10,7 @@ use Rattle.hu_kind.specs.Record.{items_in, gain, positive_part, absolute_of}
 use Rattle.hu_kind.specs.Order.{Ascend}
 use Rattle.hu_totals.specs.declared.ranked.Dense.{Dense}
 use Rattle.hu_totals.specs.View.{dense_pair}
-use Rattle.hu_totals.proofs.RoomLemmas.{gain-within}
+use Rattle.hu_totals.proofs.lemmas.RoomLemmas.{gain-within}
 use Rattle.hu_list.specs.declared.list.Node.{Node}
 use Rattle.hu_list.specs.Nodes.{list_of}
 use Rattle.hu_list.specs.Gathered.{node_in, lists_in, with_node, with_cells}

@@ -5,8 +5,8 @@ use Rattle.std.proofs.lemmas.Int.{ints}
 use Rattle.hu_kind.specs.declared.entry.Entry.{Entry}
 use Rattle.hu_kind.specs.Database.{support}
 use Rattle.hu_kind.specs.Order.{Ascend}
-use Rattle.hu_kind.proofs.Members.{Member, Member-append_left, Member-append_right, Contains-from_member}
-use Rattle.hu_kind.proofs.Occurring.{by_members}
+use Rattle.hu_kind.proofs.lemmas.Members.{Member, Member-append_left, Member-append_right, Contains-from_member}
+use Rattle.hu_kind.proofs.lemmas.Occurring.{by_members}
 use Rattle.hu_totals.specs.Ranked.{Ranking, IsRanking}
 use Rattle.hu_collect.specs.Rule.{Rule, floor_of}
 use Rattle.hu_list.specs.declared.list.Node.{Node}
@@ -15,8 +15,8 @@ use Rattle.hu_list.specs.Nodes.{list_of}
 use Rattle.hu_list.specs.Bounds.{BoundsGrown}
 use Rattle.hu_search.specs.Growth.{Covers}
 use Rattle.hu_list.specs.Level.{ranks_of, IsBranch, IsLevel, IsFork, AreJoined}
-use Rattle.hu_search.proofs.SearchLemmas.{Covers-none}
-use Rattle.hu_search.proofs.Ascending.{each-append, each-get}
+use Rattle.hu_search.proofs.lemmas.SearchLemmas.{Covers-none}
+use Rattle.hu_search.proofs.lemmas.Ascending.{each-append, each-get}
 use Rattle.hu_list.proofs.ListLemmas.{length-nodes}
 use Rattle.hu_list.proofs.BranchLemmas.{each-drop, Ascend-drop}
 

@@ -7,12 +7,12 @@ use Rattle.std.proofs.lemmas.List.Sums.{sum_by-cons}
 use Rattle.hu_kind.specs.Record.{holds, values_of, utility_in, positive_part, items_in, absolute_of}
 use Rattle.hu_kind.specs.Database.{utility, support}
 use Rattle.hu_kind.specs.Order.{Ascend}
-use Rattle.hu_kind.proofs.Occurring.{by_members}
+use Rattle.hu_kind.proofs.lemmas.Occurring.{by_members}
 use Rattle.hu_totals.specs.Ranked.{Ranking, IsRanking}
 use Rattle.hu_list.specs.declared.list.Node.{Node}
 use Rattle.hu_list.specs.Nodes.{rest_after, node_of, nodes_from, list_of, weight_of, AreRanked}
 use Rattle.hu_list.specs.Bounds.{own_sum, bound_of, list_bound, BoundsGrown}
-use Rattle.hu_search.proofs.Ascending.{each-ascending, Ascend-right, Ascend-across}
+use Rattle.hu_search.proofs.lemmas.Ascending.{each-ascending, Ascend-right, Ascend-across}
 use Rattle.hu_list.proofs.SetLemmas.{positive_part-least, weight-within, values_of-after, holds-append, values_of-append, list_all-below}
 
 pub own_sum-nodes : (place : ℕ) (records : List (List (ℕ × ℤ))) (set : List ℕ) → own_sum (nodes_from place records set) ≡ utility records set

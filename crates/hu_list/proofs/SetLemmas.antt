@@ -6,7 +6,7 @@ use Rattle.std.proofs.lemmas.Int.{ints}
 use Rattle.std.proofs.lemmas.List.Sums.{sum_by-cons}
 use Rattle.hu_kind.specs.Record.{has, holds, value_of, values_of, positive_part, items_in, absolute_of}
 use Rattle.hu_kind.specs.Order.{Ascend}
-use Rattle.hu_kind.proofs.Occurring.{at_member, above_all, has-member}
+use Rattle.hu_kind.proofs.lemmas.Occurring.{at_member, above_all, has-member}
 use Rattle.hu_list.specs.Nodes.{rest_after}
 
 -- ---- sets without a record's first cell

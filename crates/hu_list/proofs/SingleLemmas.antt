@@ -8,10 +8,10 @@ use Rattle.std.specs.declared.vec.Vec.{Vec}
 use Rattle.std.specs.declared.alloc.Global.{Global}
 use Rattle.hu_kind.specs.Record.{has, holds, values_of, items_in, gain, positive_part, absolute_of}
 use Rattle.hu_kind.specs.Order.{Ascend}
-use Rattle.hu_kind.proofs.Occurring.{above_all}
+use Rattle.hu_kind.proofs.lemmas.Occurring.{above_all}
 use Rattle.hu_totals.specs.declared.ranked.Dense.{Dense}
 use Rattle.hu_totals.specs.View.{pairs_in}
-use Rattle.hu_totals.proofs.RecordCells.{has-below}
+use Rattle.hu_totals.proofs.lemmas.RecordCells.{has-below}
 use Rattle.hu_list.specs.declared.list.Node.{Node}
 use Rattle.hu_list.specs.Nodes.{rest_after, node_of, nodes_from, list_of}
 use Rattle.hu_list.specs.Gathered.{node_in}

@@ -12,8 +12,8 @@ use Rattle.hu_list.specs.declared.branch.Branch.{Branch}
 use Rattle.hu_search.specs.Growth.{rank_entry, Grows, Covers}
 use Rattle.hu_list.specs.Level.{ranks_of, IsLevel, IsFork}
 use Rattle.hu_collect.specs.Makes.{MakesReaching, MakesSomeOf}
-use Rattle.hu_search.proofs.Beginnings.{Begins}
-use Rattle.hu_search.proofs.SearchLemmas.{kept-offered, floor-offered, floor-upto, next-made, some-next, some-offered, Covers-later}
+use Rattle.hu_search.proofs.lemmas.Beginnings.{Begins}
+use Rattle.hu_search.proofs.lemmas.SearchLemmas.{kept-offered, floor-offered, floor-upto, next-made, some-next, some-offered, Covers-later}
 use Rattle.hu_list.proofs.LevelLemmas.{IsFork-at}
 
 module _ (r : Ranking) (prefix : Option (List Node)) (ranks : List ℕ) (branches : List Branch) (level : IsLevel r prefix ranks branches) (turns : MakesInTurn) (floors : KeepsFloor) (low : LeavesBelowFloor)

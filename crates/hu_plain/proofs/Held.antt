@@ -5,8 +5,8 @@ use Rattle.std.proofs.lemmas.Bool.{and_from, or_left, or_right, eq-eqb}
 use Rattle.hu_kind.specs.Itemsets.{sublists}
 use Rattle.hu_kind.specs.Order.{Ascend}
 use Rattle.hu_kind.specs.Record.{has, holds, items_in}
-use Rattle.hu_kind.proofs.Members.{Member, Member-append_cases, Member-from_map}
-use Rattle.hu_kind.proofs.Occurring.{at_member}
+use Rattle.hu_kind.proofs.lemmas.Members.{Member, Member-append_cases, Member-from_map}
+use Rattle.hu_kind.proofs.lemmas.Occurring.{at_member}
 
 -- the element at an index is a member
 pub Member-at_index : {A : Type 0} (xs : List A) (i : ℕ) (d : A) → i < length xs → Member (get_or xs i d) xs

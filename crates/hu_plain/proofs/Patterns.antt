@@ -7,8 +7,8 @@ use Rattle.hu_kind.specs.Record.{holds, items_in, values_of}
 use Rattle.hu_kind.specs.Database.{support, utility}
 use Rattle.hu_kind.specs.Itemsets.{occurring_sets, item_entry, item_patterns}
 use Rattle.hu_kind.specs.Order.{Ascend}
-use Rattle.hu_kind.proofs.Members.{Member, Member-map, Member-from_map, Member-from_flat_map}
-use Rattle.hu_kind.proofs.Occurring.{Occurs, Occurs-from_member, Member-from_occurs, counted, count-member, held-members, holds-members, at_member}
+use Rattle.hu_kind.proofs.lemmas.Members.{Member, Member-map, Member-from_map, Member-from_flat_map}
+use Rattle.hu_kind.proofs.lemmas.Occurring.{Occurs, Occurs-from_member, Member-from_occurs, counted, count-member, held-members, holds-members, at_member}
 use Rattle.hu_plain.specs.Row.{earned, tails, grown_entry, grown_patterns, grown_rows}
 use Rattle.hu_plain.proofs.Held.{holds-one, each_above}
 use Rattle.hu_plain.proofs.Growth.{earned-grown_rows, support-grown_rows, above-grown_rows}

@@ -6,7 +6,7 @@ use Rattle.std.proofs.lemmas.Bool.{eq-eqb, ne_eqb, cases_order}
 use Rattle.hu_kind.specs.Record.{has, holds, values_of, items_in}
 use Rattle.hu_kind.specs.Sequence.{better, best_utility}
 use Rattle.hu_kind.specs.Order.{Ascend}
-use Rattle.hu_kind.proofs.Occurring.{above_all}
+use Rattle.hu_kind.proofs.lemmas.Occurring.{above_all}
 use Rattle.hu_plain.specs.Row.{grown_row, grown_rows}
 use Rattle.hu_plain.specs.Place.{Places, after, best_from, best_of, best_sum, fresh, grown_best, into, itemsets_of, IsAscending}
 use Rattle.hu_plain.proofs.Better.{better-none, better-assoc, plus, plus-none, plus-better, better-plus}

@@ -9,8 +9,8 @@ use Rattle.hu_kind.specs.Cell.{pairs_of}
 use Rattle.hu_kind.specs.Record.{items_in, absolute_of, IsItemset}
 use Rattle.hu_kind.specs.Sequence.{better}
 use Rattle.hu_kind.specs.Order.{Ascend}
-use Rattle.hu_kind.proofs.Members.{Member, Member-map, Member-from_map, Member-append_left, Member-append_right, Member-append_cases, Contains-from_member, Member-from_contains, Member-from_filter}
-use Rattle.hu_kind.proofs.Occurring.{at_member, by_members}
+use Rattle.hu_kind.proofs.lemmas.Members.{Member, Member-map, Member-from_map, Member-append_left, Member-append_right, Member-append_cases, Contains-from_member, Member-from_contains, Member-from_filter}
+use Rattle.hu_kind.proofs.lemmas.Occurring.{at_member, by_members}
 use Rattle.hu_collect.specs.Laws.{SameMembers}
 use Rattle.hu_plain.specs.declared.places.Step.{Step}
 use Rattle.hu_plain.specs.declared.places.Step.TheVariants.{Into, After}

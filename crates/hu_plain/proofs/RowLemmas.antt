@@ -14,8 +14,8 @@ use Rattle.hu_kind.specs.declared.item.Item.{Item}
 use Rattle.hu_kind.specs.Cell.{pairs_of}
 use Rattle.hu_kind.specs.Record.{items_in, absolute_of, IsRecord}
 use Rattle.hu_kind.specs.Order.{Ascend}
-use Rattle.hu_kind.proofs.Occurring.{above_all}
-use Rattle.hu_kind.proofs.Members.{Member, Member-map, Member-from_map, Contains-from_member, Member-from_contains}
+use Rattle.hu_kind.proofs.lemmas.Occurring.{above_all}
+use Rattle.hu_kind.proofs.lemmas.Members.{Member, Member-map, Member-from_map, Contains-from_member, Member-from_contains}
 use Rattle.hu_collect.specs.Laws.{SameMembers}
 use Rattle.hu_plain.specs.declared.row.Row.{Row}
 use Rattle.hu_plain.specs.Row.{earned, tails, weight_of, AreRows}

@@ -11,7 +11,7 @@ use Rattle.hu_kind.specs.Database.{support}
 use Rattle.hu_kind.specs.Itemsets.{item_patterns}
 use Rattle.hu_kind.specs.Order.{Ascend}
 use Rattle.hu_kind.specs.declared.item.Item.{Item}
-use Rattle.hu_kind.proofs.Members.{Member, Member-append_cases, Member-flat_map, Member-from_flat_map, Member-from_contains, Contains-from_member}
+use Rattle.hu_kind.proofs.lemmas.Members.{Member, Member-append_cases, Member-flat_map, Member-from_flat_map, Member-from_contains, Contains-from_member}
 use Rattle.hu_collect.specs.Rule.{Rule, made, IsKept}
 use Rattle.hu_collect.specs.Laws.{MakesInTurn, MakesByMembers, SameMembers}
 use Rattle.hu_collect.specs.Rule.{MakesSome}

@@ -5,7 +5,7 @@ use Rattle.std.specs.Global.{Vec}
 use Rattle.std.specs.List.{AllByRecursion}
 use Rattle.hu_kind.specs.declared.entry.Entry.{Entry}
 use Rattle.hu_kind.specs.Sequence.{sequence_patterns}
-use Rattle.hu_kind.proofs.Members.{Member-from_contains, Contains-from_member}
+use Rattle.hu_kind.proofs.lemmas.Members.{Member-from_contains, Contains-from_member}
 use Rattle.hu_collect.specs.Rule.{Rule, made, IsKept, MakesSome}
 use Rattle.hu_collect.specs.Laws.{MakesInTurn, MakesByMembers}
 use Rattle.hu_plain.specs.declared.places.Step.{Step}

@@ -8,8 +8,8 @@ use Rattle.hu_kind.specs.declared.item.Item.{Item}
 use Rattle.hu_kind.specs.Record.{holds, values_of, items_in}
 use Rattle.hu_kind.specs.Sequence.{better, best_utility, sequence_key}
 use Rattle.hu_kind.specs.Order.{Ascend}
-use Rattle.hu_kind.proofs.Members.{Member, Member-append_left, Member-append_right, Member-append_cases, Member-flat_map, Member-from_flat_map, Member-from_filter, Member-from_map, Member-from_contains}
-use Rattle.hu_kind.proofs.Occurring.{at_member, by_members, counted, count-member, holds-members}
+use Rattle.hu_kind.proofs.lemmas.Members.{Member, Member-append_left, Member-append_right, Member-append_cases, Member-flat_map, Member-from_flat_map, Member-from_filter, Member-from_map, Member-from_contains}
+use Rattle.hu_kind.proofs.lemmas.Occurring.{at_member, by_members, counted, count-member, holds-members}
 use Rattle.hu_plain.specs.declared.places.Step.{Step}
 use Rattle.hu_plain.specs.declared.places.Step.TheVariants.{Into, After}
 use Rattle.hu_plain.specs.Growth.{closed, grown_support, grown_utility, growth_entry, prefix_entry, stepped_key, Grows}

@@ -9,8 +9,8 @@ use Rattle.hu_kind.specs.Record.{holds, values_of, items_in}
 use Rattle.hu_kind.specs.Itemsets.{sublists}
 use Rattle.hu_kind.specs.Sequence.{better, best_utility, led_by, subsequences, sequence_entry, sequence_patterns, sequence_support, sequence_utility}
 use Rattle.hu_kind.specs.Order.{Ascend}
-use Rattle.hu_kind.proofs.Members.{Member, Member-flat_map, Member-from_flat_map, Member-map, Member-from_map, Member-filter, Member-from_filter}
-use Rattle.hu_kind.proofs.Occurring.{Member-sublists, at_member, counted, count-member, holds-members}
+use Rattle.hu_kind.proofs.lemmas.Members.{Member, Member-flat_map, Member-from_flat_map, Member-map, Member-from_map, Member-filter, Member-from_filter}
+use Rattle.hu_kind.proofs.lemmas.Occurring.{Member-sublists, at_member, counted, count-member, holds-members}
 use Rattle.hu_plain.specs.Growth.{grown_support, grown_utility, growth_entry, Grows}
 use Rattle.hu_plain.specs.Place.{best_from, first_places, grown_best, itemsets_of}
 use Rattle.hu_plain.proofs.Better.{some_cases, some_left, some_right, some_map}

@@ -2,7 +2,7 @@
 use Rattle.std.proofs.Common.{◌≡◌, ℕ, zero, suc, ◌<◌, ◌≤◌, ◌+◌, List, [], ◌∷◌, ◌++◌, length, get_or, take, sym, ap, ◌∙◌, subst, ◌⊎◌, inl, inr, arith, append-nil, add-one}
 use Rattle.std.proofs.lemmas.List.{take_all}
 use Rattle.hu_kind.specs.declared.entry.Entry.{Entry}
-use Rattle.hu_kind.proofs.Members.{Member, Member-append_left, Member-append_right, Member-append_cases, Member-from_contains, Contains-from_member}
+use Rattle.hu_kind.proofs.lemmas.Members.{Member, Member-append_left, Member-append_right, Member-append_cases, Member-from_contains, Contains-from_member}
 use Rattle.hu_collect.specs.Rule.{Rule, made, IsKept}
 use Rattle.hu_collect.specs.Laws.{MakesInTurn}
 use Rattle.hu_plain.specs.Makes.{MakesAllOf, MakesSomeOf}

@@ -6,14 +6,14 @@ use Rattle.std.proofs.lemmas.Int.{ints}
 use Rattle.hu_kind.specs.declared.entry.Entry.{Entry}
 use Rattle.hu_kind.specs.Database.{utility, support}
 use Rattle.hu_kind.specs.Order.{Ascend}
-use Rattle.hu_kind.proofs.Members.{Member, Member-filter, Member-from_contains, Contains-from_member}
-use Rattle.hu_kind.proofs.Occurring.{by_members, at_member}
+use Rattle.hu_kind.proofs.lemmas.Members.{Member, Member-filter, Member-from_contains, Contains-from_member}
+use Rattle.hu_kind.proofs.lemmas.Occurring.{by_members, at_member}
 use Rattle.hu_totals.specs.Ranked.{Ranking}
 use Rattle.hu_collect.specs.Rule.{Rule, floor_of}
 use Rattle.hu_rows.specs.Rows.{RowOf, over, count_over}
 use Rattle.hu_rows.specs.Bounds.{among, AreKept, BoundsEach}
 use Rattle.hu_search.specs.Growth.{Covers}
-use Rattle.hu_search.proofs.Ascending.{each-append, each-get, Ascend-right, Ascend-push}
+use Rattle.hu_search.proofs.lemmas.Ascending.{each-append, each-get, Ascend-right, Ascend-push}
 use Rattle.hu_project.specs.declared.branches.Branches.{Branches}
 use Rattle.hu_project.specs.Level.{AreProjected, AreLater, AreBounded, AreReaching, IsLevel}
 use Rattle.hu_project.proofs.RankLemmas.{each-filter, each-drop, Ascend-filter, Ascend-drop, after-at, Ascend-range, range-below, among-member, length-filter, reaches, IsKeptSet-among}

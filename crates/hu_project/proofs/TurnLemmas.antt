@@ -11,12 +11,12 @@ use Rattle.hu_totals.specs.Ranked.{Ranking}
 use Rattle.hu_collect.specs.Rule.{Rule, passes, made, floor_of, IsKept}
 use Rattle.hu_collect.specs.Laws.{MakesInTurn, KeepsFloor, LeavesBelowFloor}
 use Rattle.hu_collect.specs.Makes.{MakesReaching, MakesSomeOf}
-use Rattle.hu_collect.proofs.Turns.{MakesReaching-none, MakesSomeOf-then, empty-contains, kept-made}
+use Rattle.hu_collect.proofs.lemmas.Turns.{MakesReaching-none, MakesSomeOf-then, empty-contains, kept-made}
 use Rattle.hu_rows.specs.Rows.{RowOf}
 use Rattle.hu_search.specs.Growth.{rank_entry, Grows, Covers}
-use Rattle.hu_search.proofs.Ascending.{each-get, Ascend-right}
-use Rattle.hu_search.proofs.Beginnings.{Begins}
-use Rattle.hu_search.proofs.SearchLemmas.{kept-offered, floor-offered, floor-upto, next-made, some-next, some-offered, some-upto, none-made, begins-grows, Covers-later, Covers-none, offered-below}
+use Rattle.hu_search.proofs.lemmas.Ascending.{each-get, Ascend-right}
+use Rattle.hu_search.proofs.lemmas.Beginnings.{Begins}
+use Rattle.hu_search.proofs.lemmas.SearchLemmas.{kept-offered, floor-offered, floor-upto, next-made, some-next, some-offered, some-upto, none-made, begins-grows, Covers-later, Covers-none, offered-below}
 use Rattle.hu_project.specs.declared.branches.Branches.{Branches}
 use Rattle.hu_project.specs.Level.{AreProjected, AreLater, AreReaching, IsLevel, MakesTurn}
 use Rattle.hu_project.proofs.RankLemmas.{IsKeptSet-among}

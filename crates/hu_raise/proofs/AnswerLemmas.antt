@@ -15,16 +15,16 @@ use Rattle.hu_kind.specs.Record.{has, holds, items_in}
 use Rattle.hu_kind.specs.Database.{utility}
 use Rattle.hu_kind.specs.Itemsets.{item_entry, item_patterns, occurring_sets}
 use Rattle.hu_kind.specs.Answer.{found}
-use Rattle.hu_kind.proofs.Members.{Member, Contains-from_member, Member-from_contains, Member-map, Member-from_map, Member-filter, Member-from_filter, Member-append_right, Member-append_cases, Member-from_flat_map}
-use Rattle.hu_kind.proofs.Occurring.{at_member, by_members, count-member, Member-from_occurs}
+use Rattle.hu_kind.proofs.lemmas.Members.{Member, Contains-from_member, Member-from_contains, Member-map, Member-from_map, Member-filter, Member-from_filter, Member-append_right, Member-append_cases, Member-from_flat_map}
+use Rattle.hu_kind.proofs.lemmas.Occurring.{at_member, by_members, count-member, Member-from_occurs}
 use Rattle.hu_totals.specs.Totals.{first_seen}
-use Rattle.hu_totals.proofs.AddingLemmas.{Once-first_seen, Member-from_first_seen}
-use Rattle.hu_totals.proofs.SortedLists.{Once, Member-from_ranking, Member-to_ranking}
+use Rattle.hu_totals.proofs.lemmas.AddingLemmas.{Once-first_seen, Member-from_first_seen}
+use Rattle.hu_totals.proofs.lemmas.SortedLists.{Once, Member-from_ranking, Member-to_ranking}
 use Rattle.hu_collect.specs.Rule.{Rule, rule_of, passes, made, last_utility, floor_of}
-use Rattle.hu_collect.proofs.Cutting.{AllByRecursion-take}
-use Rattle.hu_collect.proofs.Entries.{entry_exact}
-use Rattle.hu_collect.proofs.Floor.{floor_by-full}
-use Rattle.hu_collect.proofs.Made.{makes_in_turn, makes_by_members, makes_by_reaching, kept-made}
+use Rattle.hu_collect.proofs.lemmas.Cutting.{AllByRecursion-take}
+use Rattle.hu_collect.proofs.lemmas.Entries.{entry_exact}
+use Rattle.hu_collect.proofs.lemmas.Floor.{floor_by-full}
+use Rattle.hu_collect.proofs.lemmas.Made.{makes_in_turn, makes_by_members, makes_by_reaching, kept-made}
 use Rattle.hu_raise.proofs.NumberLists.{Once-filter}
 
 -- ---- single items as entries

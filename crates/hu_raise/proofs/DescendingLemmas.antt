@@ -8,7 +8,7 @@ use Rattle.std.specs.Int.Signed.{≤ℤ_refl}
 use Rattle.std.proofs.lemmas.Int.{ints, by_lt_z}
 use Rattle.std.proofs.lemmas.List.Sums.{sum_by-cons}
 use Rattle.std.proofs.lemmas.List.Sorted.{sum_by-IsPermutation}
-use Rattle.hu_kind.proofs.Occurring.{at_member, counted}
+use Rattle.hu_kind.proofs.lemmas.Occurring.{at_member, counted}
 use Rattle.hu_raise.specs.StartFloor.{put, descending}
 
 -- how many numbers reach one

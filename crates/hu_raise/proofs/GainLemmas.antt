@@ -6,7 +6,7 @@ use Rattle.std.proofs.lemmas.Int.{ints}
 use Rattle.hu_kind.specs.Order.{Ascend}
 use Rattle.hu_kind.specs.Record.{has, holds, value_of, values_of, utility_in, positive_part, gain}
 use Rattle.hu_kind.specs.Database.{utility}
-use Rattle.hu_kind.proofs.Members.{Member, Member-from_contains}
+use Rattle.hu_kind.proofs.lemmas.Members.{Member, Member-from_contains}
 use Rattle.hu_collect.specs.Pairs.{pair_twu}
 use Rattle.hu_raise.specs.Laws.{BoundsSets}
 

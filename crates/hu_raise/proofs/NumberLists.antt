@@ -9,8 +9,8 @@ use Rattle.std.proofs.lemmas.List.Elements.{filter_more}
 use Rattle.std.proofs.lemmas.List.Kept.{IsStrictlyIncreasing-filter}
 use Rattle.std.proofs.lemmas.List.FromFn.{length-range_with_len, get_or-range_with_len}
 use Rattle.std.proofs.lemmas.Map.Keys.{sorted_from_strictly_increasing}
-use Rattle.hu_kind.proofs.Members.{Member, Member-filter, Member-from_filter}
-use Rattle.hu_totals.proofs.SortedLists.{Once, sorted_same}
+use Rattle.hu_kind.proofs.lemmas.Members.{Member, Member-filter, Member-from_filter}
+use Rattle.hu_totals.proofs.lemmas.SortedLists.{Once, sorted_same}
 
 -- ---- what passes a test
 

@@ -7,9 +7,9 @@ use Rattle.std.proofs.lemmas.List.{take_more, get_or-map, length-map, length-app
 use Rattle.std.proofs.lemmas.List.Sums.{sum_by-cons}
 use Rattle.hu_kind.specs.Record.{has, holds, gain, absolute_of}
 use Rattle.hu_kind.specs.Database.{twu}
-use Rattle.hu_kind.proofs.Members.{Member, Member-from_filter}
+use Rattle.hu_kind.proofs.lemmas.Members.{Member, Member-from_filter}
 use Rattle.hu_collect.specs.Pairs.{pair_twu}
-use Rattle.hu_totals.proofs.RoomLemmas.{gain-within}
+use Rattle.hu_totals.proofs.lemmas.RoomLemmas.{gain-within}
 use Rattle.hu_raise.specs.Partners.{partners}
 use Rattle.hu_raise.specs.Places.{places_from}
 use Rattle.hu_raise.specs.Sums.{sum_at, ranks_reaching, gain_at}

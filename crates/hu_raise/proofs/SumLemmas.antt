@@ -14,8 +14,8 @@ use Rattle.std.proofs.lemmas.List.Folds.{list_any-append}
 use Rattle.std.proofs.lemmas.List.Sorted.{IsNonDecreasingBy-from_sort, Contains-permutation, IsPermutation-sym}
 use Rattle.std.proofs.lemmas.Map.Keys.{IsDistinct-push, IsDistinct-IsPermutation, IsStrictlyIncreasing-from_distinct}
 use Rattle.std.proofs.lemmas.Map.Views.{list_any-from_Contains, Contains-from_any}
-use Rattle.hu_kind.proofs.Members.{Member, Contains-from_member, Member-from_contains, Member-filter, Member-from_filter}
-use Rattle.hu_totals.proofs.SortedLists.{Once-from_distinct, IsDistinct-from_once}
+use Rattle.hu_kind.proofs.lemmas.Members.{Member, Contains-from_member, Member-from_contains, Member-filter, Member-from_filter}
+use Rattle.hu_totals.proofs.lemmas.SortedLists.{Once-from_distinct, IsDistinct-from_once}
 use Rattle.hu_raise.specs.Sums.{first_rank, sum_at, ranks_reaching, AreSums}
 use Rattle.hu_raise.proofs.NumberLists.{Once-filter, ascending_same, filter-range_ascends, Member-filter_range}
 

@@ -6,7 +6,7 @@ use Rattle.std.proofs.lemmas.Int.{ints}
 use Rattle.std.proofs.lemmas.List.Sums.{sum_by-cons}
 use Rattle.hu_kind.specs.Order.{Ascend}
 use Rattle.hu_kind.specs.Record.{has, holds, value_of, values_of, items_in, absolute_of, positive_part}
-use Rattle.hu_kind.proofs.Occurring.{above_all}
+use Rattle.hu_kind.proofs.lemmas.Occurring.{above_all}
 use Rattle.hu_rows.specs.Rows.{RowOf, AreRows, over, over_row, ranks_of, size_of}
 use Rattle.hu_rows.specs.Projection.{after}
 use Rattle.hu_rows.specs.Bounds.{among, kept_gain, local_share, subtree_share, local_bound, subtree_bound, set_to, IsKeptSet, BoundsEach, BoundsLeast}

@@ -5,7 +5,7 @@ use Rattle.std.proofs.lemmas.Bool.{ne_eqb, eq-eqb, eqb-true, ltb-true, ltb-false
 use Rattle.std.proofs.lemmas.List.Sums.{sum_by-cons}
 use Rattle.hu_kind.specs.Order.{Ascend}
 use Rattle.hu_kind.specs.Record.{has, holds, value_of, values_of, items_in, absolute_of}
-use Rattle.hu_kind.proofs.Members.{Member}
+use Rattle.hu_kind.proofs.lemmas.Members.{Member}
 use Rattle.hu_rows.specs.Projection.{after}
 
 -- a cell in front that isn't after z says nothing of ranks after z

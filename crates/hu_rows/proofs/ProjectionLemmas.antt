@@ -5,7 +5,7 @@ use Rattle.std.proofs.lemmas.Int.{ints}
 use Rattle.std.proofs.lemmas.List.Sums.{sum_by-cons, sum_by-append}
 use Rattle.hu_kind.specs.Order.{Ascend}
 use Rattle.hu_kind.specs.Record.{has, holds, value_of, values_of}
-use Rattle.hu_kind.proofs.Members.{Member, Member-from_flat_map, Member-flat_map}
+use Rattle.hu_kind.proofs.lemmas.Members.{Member, Member-from_flat_map, Member-flat_map}
 use Rattle.hu_rows.specs.Rows.{RowOf, AreRows, over, over_row, count_over, count_in, count_of, size_of, ranks_of, ranks_in}
 use Rattle.hu_rows.specs.Projection.{after, projected, projected_row}
 use Rattle.hu_rows.proofs.CellLemmas.{holds-after, values_of-after, Ascend-after, absolute_of-after, Member-after}

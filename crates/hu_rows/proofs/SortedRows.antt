@@ -8,8 +8,8 @@ use Rattle.std.proofs.lemmas.List.Sums.{sum_by-cons}
 use Rattle.std.proofs.lemmas.List.Sorted.{sum_by-IsPermutation, Contains-permutation, IsPermutation-map, IsPermutation-sym, sorted_far, ranks_by}
 use borrow.Author.Differences.{up, down}
 use Rattle.hu_kind.specs.Order.{Ascend}
-use Rattle.hu_kind.proofs.Members.{Member, Contains-from_member, Member-from_contains, Member-flat_map, Member-from_flat_map}
-use Rattle.hu_kind.proofs.Occurring.{at_member, by_members}
+use Rattle.hu_kind.proofs.lemmas.Members.{Member, Contains-from_member, Member-from_contains, Member-flat_map, Member-from_flat_map}
+use Rattle.hu_kind.proofs.lemmas.Occurring.{at_member, by_members}
 use Rattle.hu_rows.specs.declared.rows.Row.{Row}
 use Rattle.hu_rows.specs.Rows.{RowOf, AreRows, over, over_row, count_over, count_in, count_of, size_of, ranks_of, ranks_in}
 use Rattle.hu_rows.specs.Merging.{row_cmp, merged, IsMerging}

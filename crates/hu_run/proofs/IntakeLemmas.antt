@@ -6,8 +6,8 @@ use Rattle.hu_base.specs.Base.{carried_of, records_of, sum_of}
 use Rattle.hu_lines.specs.declared.limits.LineFault.{LineFault}
 use Rattle.hu_lines.specs.Pieces.{pieces, first_piece, has_line_feed, line_of}
 use Rattle.hu_lines.specs.Limits.{refusal}
-use Rattle.hu_lines.proofs.PieceLemmas.{whole_piece_first, first_piece_first, first_piece-append, one_piece_of}
-use Rattle.hu_lines.proofs.LimitLemmas.{refusal_first}
+use Rattle.hu_lines.proofs.lemmas.PieceLemmas.{whole_piece_first, first_piece_first, first_piece-append, one_piece_of}
+use Rattle.hu_lines.proofs.lemmas.LimitLemmas.{refusal_first}
 use Rattle.hu_run.specs.declared.reason.Reason.{Reason}
 use Rattle.hu_run.specs.Input.{Refusal, with_front, limit_reason, line_record, piece_record, after_line, records_from}
 use Rattle.hu_run.specs.Intake.{outcome_at}

@@ -6,7 +6,7 @@ use Rattle.std.specs.List.{Contains}
 use Rattle.hu_kind.specs.declared.entry.Entry.{Entry}
 use Rattle.hu_kind.specs.Itemsets.{item_patterns, closed_patterns}
 use Rattle.hu_kind.specs.Answer.{found, answer, closed_answer}
-use Rattle.hu_kind.proofs.Members.{Member-filter, Member-from_filter, Contains-from_member, Member-from_contains}
+use Rattle.hu_kind.proofs.lemmas.Members.{Member-filter, Member-from_filter, Contains-from_member, Member-from_contains}
 use Rattle.hu_collect.specs.Rule.{Rule, rule_of, made, floor_of, IsKept}
 use Rattle.hu_collect.specs.Laws.{MakesByReaching}
 use Rattle.hu_closed.specs.ClosedOnly.{MakesClosed}

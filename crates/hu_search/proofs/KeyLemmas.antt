@@ -11,12 +11,12 @@ use Rattle.std.proofs.lemmas.Map.Keys.{IsDistinct-IsPermutation, IsStrictlyIncre
 use Rattle.std.proofs.lemmas.Map.Lookups.{exact_unsigned, exact_signed}
 use Rattle.hu_kind.specs.declared.item.Item.{Item}
 use Rattle.hu_kind.specs.Order.{ranking, Ascend}
-use Rattle.hu_kind.proofs.Members.{Member, Member-from_map, Member-map}
-use Rattle.hu_kind.proofs.Occurring.{at_member, Member-ranking, Ascend-ranking}
-use Rattle.hu_kind.proofs.RankingLemmas.{IsExactOrder, ranking-permutation, ranking-sorted}
+use Rattle.hu_kind.proofs.lemmas.Members.{Member, Member-from_map, Member-map}
+use Rattle.hu_kind.proofs.lemmas.Occurring.{at_member, Member-ranking, Ascend-ranking}
+use Rattle.hu_kind.proofs.lemmas.RankingLemmas.{IsExactOrder, ranking-permutation, ranking-sorted}
 use Rattle.hu_totals.specs.Ranked.{Ranking, IsRanking}
-use Rattle.hu_totals.proofs.RankingRules.{All-from_each}
-use Rattle.hu_totals.proofs.SortedLists.{Once, IsDistinct-from_once, Member-from_ranking}
+use Rattle.hu_totals.proofs.lemmas.RankingRules.{All-from_each}
+use Rattle.hu_totals.proofs.lemmas.SortedLists.{Once, IsDistinct-from_once, Member-from_ranking}
 use Rattle.hu_collect.specs.Ranks.{IsRankSet, key_of, is_part}
 
 pub nat_exact : IsExactOrder nat_cmp

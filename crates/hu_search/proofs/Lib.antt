@@ -1,6 +1,3 @@
-pub mod Ascending
-pub mod Beginnings
+pub mod lemmas
 pub mod KeyLemmas
 pub mod UnrankLemmas
-pub mod SearchLemmas
-pub mod WholeLemmas

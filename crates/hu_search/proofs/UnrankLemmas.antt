@@ -14,12 +14,12 @@ use Rattle.hu_kind.specs.Record.{has, holds, value_of, values_of, items_in}
 use Rattle.hu_kind.specs.Database.{utility, support}
 use Rattle.hu_kind.specs.Itemsets.{occurring_sets, item_entry, item_patterns}
 use Rattle.hu_kind.specs.Order.{ranking, Ascend}
-use Rattle.hu_kind.proofs.Members.{Member, Member-map, Member-from_map, Member-from_flat_map}
-use Rattle.hu_kind.proofs.Occurring.{at_member, Ascend-ranking, Member-ranking, each-ranking, Occurs, held-members, Occurs-from_member, Member-from_occurs}
+use Rattle.hu_kind.proofs.lemmas.Members.{Member, Member-map, Member-from_map, Member-from_flat_map}
+use Rattle.hu_kind.proofs.lemmas.Occurring.{at_member, Ascend-ranking, Member-ranking, each-ranking, Occurs, held-members, Occurs-from_member, Member-from_occurs}
 use Rattle.hu_totals.specs.Ranked.{Ranking, IsRanking, unranked, item_at}
-use Rattle.hu_totals.proofs.SortedLists.{Once, Member-from_ranking, ranking-members}
+use Rattle.hu_totals.proofs.lemmas.SortedLists.{Once, Member-from_ranking, ranking-members}
 use Rattle.hu_search.specs.Growth.{rank_entry, Grows, InTable}
-use Rattle.hu_search.proofs.Ascending.{each-in_range, each-weaker}
+use Rattle.hu_search.proofs.lemmas.Ascending.{each-in_range, each-weaker}
 use Rattle.hu_search.proofs.KeyLemmas.{items_at, Once-items_at}
 
 -- ---- putting a list in order changes neither what holds it nor what it earns

@@ -12,7 +12,7 @@ use Rattle.std.proofs.lemmas.List.Splits.{length-slice_split}
 use Rattle.std.proofs.lemmas.List.Sums.{fails_before_first}
 use Rattle.hu_kind.specs.Cells.{by_item}
 use Rattle.hu_kind.specs.First.{first_some}
-use Rattle.hu_kind.proofs.FirstLemmas.{first_skip, first_here, first_alone, first_later, first_before}
+use Rattle.hu_kind.proofs.lemmas.FirstLemmas.{first_skip, first_here, first_alone, first_later, first_before}
 use Rattle.hu_kind.specs.Record.{total, absolute_of, any_negative}
 use Rattle.hu_kind.specs.Sequence.{IsSequence}
 use Rattle.hu_kind.specs.Token.{tokens}

@@ -10,7 +10,7 @@ use Rattle.hu_kind.specs.declared.item.Cell.{Cell}
 use Rattle.hu_kind.specs.Cell.{pair_of, pairs_of}
 use Rattle.hu_kind.specs.Cells.{twice}
 use Rattle.hu_kind.specs.Record.{IsItemset, items_in}
-use Rattle.hu_kind.proofs.RecordLemmas.{IsItemset-from_cells}
+use Rattle.hu_kind.proofs.lemmas.RecordLemmas.{IsItemset-from_cells}
 use Rattle.hu_kind.specs.First.{first_some}
 use Rattle.hu_seq.specs.declared.fault.SeqFault.{SeqFault}
 use Rattle.hu_seq.specs.declared.token.Token.{Token}

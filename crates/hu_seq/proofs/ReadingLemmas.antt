@@ -3,7 +3,7 @@ use Rattle.std.proofs.Common.{◌≡◌, ◌≢◌, ℕ, ℤ, Bool, true, false,
 use Rattle.std.specs.Option.{option_map_or}
 use Rattle.hu_kind.specs.Cells.{by_item}
 use Rattle.hu_kind.specs.First.{first_some}
-use Rattle.hu_kind.proofs.FirstLemmas.{passes, NonePasses, passes-first, passes-then, passes-map}
+use Rattle.hu_kind.proofs.lemmas.FirstLemmas.{passes, NonePasses, passes-first, passes-then, passes-map}
 use Rattle.hu_seq.specs.declared.fault.SeqFault.{SeqFault}
 use Rattle.hu_seq.specs.declared.fault.SeqFault.TheVariants.{NoMemory}
 use Rattle.hu_seq.specs.Reading.{faults, body, itemsets, known, reading, total_disagrees}

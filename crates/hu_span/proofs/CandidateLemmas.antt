@@ -6,8 +6,8 @@ use Rattle.std.proofs.lemmas.List.{length-map, take_all}
 use Rattle.std.proofs.lemmas.List.Sums.{sum_by-cons}
 use Rattle.hu_kind.specs.declared.item.Item.{Item}
 use Rattle.hu_kind.specs.Sequence.{best_utility, sequence_support, sequence_utility}
-use Rattle.hu_kind.proofs.Members.{Member, Contains-from_member, Member-from_contains, Member-append_cases, Member-append_left, Member-append_right, Member-map, Member-from_map}
-use Rattle.hu_kind.proofs.Occurring.{at_member, counted}
+use Rattle.hu_kind.proofs.lemmas.Members.{Member, Contains-from_member, Member-from_contains, Member-append_cases, Member-append_left, Member-append_right, Member-map, Member-from_map}
+use Rattle.hu_kind.proofs.lemmas.Occurring.{at_member, counted}
 use Rattle.hu_span.proofs.Subsequences.{each-weaker}
 use Rattle.hu_collect.specs.Laws.{SameMembers}
 use Rattle.hu_chain.specs.declared.chain.Growth.{Growth}
@@ -15,8 +15,8 @@ use Rattle.hu_chain.specs.declared.chain.Growth.TheVariants.{IntoLast, AfterLast
 use Rattle.hu_chain.specs.Grown.{grown, CanGrow, IsGrownFrom}
 use Rattle.hu_chain.specs.Place.{chain_of}
 use Rattle.hu_chain.specs.Bound.{extension_bound, reduced_bound, IsAtMost, KeepsRules}
-use Rattle.hu_chain.proofs.Bounds.{extension-holds, grown-first, grown_from-none, reduced-holds}
-use Rattle.hu_chain.proofs.Patterns.{Ends-grown}
+use Rattle.hu_chain.proofs.lemmas.Bounds.{extension-holds, grown-first, grown_from-none, reduced-holds}
+use Rattle.hu_chain.proofs.lemmas.Patterns.{Ends-grown}
 use Rattle.hu_span.specs.declared.candidate.Candidate.{Candidate}
 use Rattle.hu_span.specs.declared.mark.Mark.{Mark}
 use Rattle.hu_span.specs.declared.row.Row.{Row}

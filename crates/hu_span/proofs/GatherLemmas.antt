@@ -9,9 +9,9 @@ use Rattle.hu_kind.specs.Cell.{pairs_of}
 use Rattle.hu_kind.specs.Order.{Ascend}
 use Rattle.hu_kind.specs.Record.{has, items_in, IsItemset}
 use Rattle.hu_kind.specs.Sequence.{best_utility, IsSequence}
-use Rattle.hu_kind.proofs.Members.{Member, Member-from_flat_map}
-use Rattle.hu_kind.proofs.Occurring.{at_member}
-use Rattle.hu_kind.proofs.RecordLemmas.{list_any-map}
+use Rattle.hu_kind.proofs.lemmas.Members.{Member, Member-from_flat_map}
+use Rattle.hu_kind.proofs.lemmas.Occurring.{at_member}
+use Rattle.hu_kind.proofs.lemmas.RecordLemmas.{list_any-map}
 use Rattle.hu_span.proofs.Subsequences.{each-weaker}
 use Rattle.hu_collect.specs.Laws.{SameMembers}
 use Rattle.hu_chain.specs.declared.chain.Growth.{Growth}
@@ -22,9 +22,9 @@ use Rattle.hu_chain.specs.Grown.{grown, CanGrow}
 use Rattle.hu_chain.specs.Place.{cell_of, chain_of, element_at}
 use Rattle.hu_chain.specs.Bound.{KeepsRules}
 use Rattle.hu_chain.specs.Search.{follows, IsPlaceOf, IsPlain}
-use Rattle.hu_chain.proofs.Bounds.{plain-rules}
-use Rattle.hu_chain.proofs.Cells.{cell_of-within, pairs-drop}
-use Rattle.hu_chain.proofs.Growing.{chain_of-rules, occurs-after, occurs-into_after}
+use Rattle.hu_chain.proofs.lemmas.Bounds.{plain-rules}
+use Rattle.hu_chain.proofs.lemmas.Cells.{cell_of-within, pairs-drop}
+use Rattle.hu_chain.proofs.lemmas.Growing.{chain_of-rules, occurs-after, occurs-into_after}
 use Rattle.hu_span.specs.declared.mark.Mark.{Mark}
 use Rattle.hu_span.specs.declared.row.Row.{Row}
 use Rattle.hu_span.specs.Mark.{mark_cmp, mark_of, marks_from, numbers_where, rows_with}

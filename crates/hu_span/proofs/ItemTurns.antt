@@ -4,12 +4,12 @@ use Rattle.std.specs.List.{AllByRecursion}
 use Rattle.hu_kind.specs.declared.entry.Entry.{Entry}
 use Rattle.hu_kind.specs.declared.item.Item.{Item}
 use Rattle.hu_kind.specs.Sequence.{best_utility, sequence_entry, sequence_patterns, sequence_support}
-use Rattle.hu_kind.proofs.Members.{Contains-from_member, Member-from_contains}
+use Rattle.hu_kind.proofs.lemmas.Members.{Contains-from_member, Member-from_contains}
 use Rattle.hu_collect.specs.Rule.{Rule, made, MakesSome}
 use Rattle.hu_collect.specs.Laws.{KeepsFloor, MakesByMembers, MakesByReaching, MakesInTurn, SameMembers}
 use Rattle.hu_chain.specs.declared.chain.Growth.TheVariants.{AfterLast}
 use Rattle.hu_chain.specs.Bound.{KeepsRules}
-use Rattle.hu_chain.proofs.Patterns.{Ends-after}
+use Rattle.hu_chain.proofs.lemmas.Patterns.{Ends-after}
 use Rattle.hu_span.specs.declared.mark.Mark.{Mark}
 use Rattle.hu_span.specs.declared.row.Row.{Row}
 use Rattle.hu_span.specs.declared.step.Step.{Step}

@@ -15,8 +15,8 @@ use Rattle.std.proofs.lemmas.List.Sorted.{Contains-permutation, IsPermutation-sy
 use Rattle.std.proofs.lemmas.Map.Keys.{Less-from_sorted}
 use Rattle.hu_kind.specs.declared.item.Item.{Item}
 use Rattle.hu_kind.specs.Order.{Ascend}
-use Rattle.hu_kind.proofs.Members.{Member, Contains-from_member, Member-from_contains, Member-append_cases, Member-append_left, Member-append_right, Member-map, Member-from_map, Member-filter, Member-from_filter}
-use Rattle.hu_kind.proofs.Occurring.{at_member, by_members}
+use Rattle.hu_kind.proofs.lemmas.Members.{Member, Contains-from_member, Member-from_contains, Member-append_cases, Member-append_left, Member-append_right, Member-map, Member-from_map, Member-filter, Member-from_filter}
+use Rattle.hu_kind.proofs.lemmas.Occurring.{at_member, by_members}
 use Rattle.hu_collect.specs.Laws.{SameMembers}
 use Rattle.hu_span.specs.declared.mark.Mark.{Mark}
 use Rattle.hu_span.specs.Mark.{mark_cmp, mark_of, marks_from, numbers_where, rows_with}

@@ -9,8 +9,8 @@ use Rattle.hu_kind.specs.declared.item.Item.{Item}
 use Rattle.hu_kind.specs.Order.{Ascend}
 use Rattle.hu_kind.specs.Record.{has, items_in, values_of, IsItemset}
 use Rattle.hu_kind.specs.Sequence.{better, best_utility, sequence_entry, sequence_patterns, sequence_support}
-use Rattle.hu_kind.proofs.Members.{Member, Contains-from_member, Member-append_right, Member-from_contains, Member-from_map, Member-map}
-use Rattle.hu_kind.proofs.Occurring.{at_member, counted}
+use Rattle.hu_kind.proofs.lemmas.Members.{Member, Contains-from_member, Member-append_right, Member-from_contains, Member-from_map, Member-map}
+use Rattle.hu_kind.proofs.lemmas.Occurring.{at_member, counted}
 use Rattle.hu_span.proofs.Subsequences.{each-weaker, occurs-sub, pattern_entry-from, pattern_entry-member, size-sub, AreAscending, IsSomeAscending}
 use Rattle.hu_collect.specs.Laws.{SameMembers}
 use Rattle.hu_chain.specs.declared.chain.Growth.{Growth}
@@ -18,10 +18,10 @@ use Rattle.hu_chain.specs.declared.chain.Growth.TheVariants.{IntoLast, AfterLast
 use Rattle.hu_chain.specs.Pattern.{into, last_from, Ends, EndsBelow}
 use Rattle.hu_chain.specs.Grown.{grown, CanGrow, IsGrownFrom, Leads}
 use Rattle.hu_chain.specs.Bound.{KeepsRules}
-use Rattle.hu_chain.proofs.Bounds.{grown_from-none, Ends-grown_from}
-use Rattle.hu_chain.proofs.Cells.{Ascend-itemset}
-use Rattle.hu_chain.proofs.Patterns.{Ends-after}
-use Rattle.hu_chain.proofs.Reached.{grown_from-itself, reached}
+use Rattle.hu_chain.proofs.lemmas.Bounds.{grown_from-none, Ends-grown_from}
+use Rattle.hu_chain.proofs.lemmas.Cells.{Ascend-itemset}
+use Rattle.hu_chain.proofs.lemmas.Patterns.{Ends-after}
+use Rattle.hu_chain.proofs.lemmas.Reached.{grown_from-itself, reached}
 use Rattle.hu_span.specs.declared.mark.Mark.{Mark}
 use Rattle.hu_span.specs.declared.row.Row.{Row}
 use Rattle.hu_span.specs.declared.step.Step.{Step}

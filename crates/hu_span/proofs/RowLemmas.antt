@@ -11,9 +11,9 @@ use Rattle.hu_chain.specs.Pattern.{Ends}
 use Rattle.hu_chain.specs.Grown.{grown, CanGrow}
 use Rattle.hu_chain.specs.Place.{chain_of}
 use Rattle.hu_chain.specs.Bound.{best_of, extension_bound, IsAtMost, IsFit, KeepsRules}
-use Rattle.hu_chain.proofs.Bounds.{Ends-grown_from}
-use Rattle.hu_chain.proofs.Patterns.{Ends-after}
-use Rattle.hu_chain.proofs.Reached.{grown_from-next}
+use Rattle.hu_chain.proofs.lemmas.Bounds.{Ends-grown_from}
+use Rattle.hu_chain.proofs.lemmas.Patterns.{Ends-after}
+use Rattle.hu_chain.proofs.lemmas.Reached.{grown_from-next}
 use Rattle.hu_span.specs.declared.row.Row.{Row}
 use Rattle.hu_span.specs.Row.{sequences_of, total, weight_of, IsLevel, IsReached, IsRow}
 

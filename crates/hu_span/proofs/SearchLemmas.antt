@@ -6,8 +6,8 @@ use Rattle.std.proofs.lemmas.List.{take_all}
 use Rattle.std.proofs.lemmas.List.Sums.{sum_by-cons}
 use Rattle.hu_kind.specs.declared.entry.Entry.{Entry}
 use Rattle.hu_kind.specs.Sequence.{best_utility, sequence_entry, sequence_key, sequence_support, sequence_utility}
-use Rattle.hu_kind.proofs.Members.{Member, Contains-from_member, Member-from_contains}
-use Rattle.hu_kind.proofs.Occurring.{at_member}
+use Rattle.hu_kind.proofs.lemmas.Members.{Member, Contains-from_member, Member-from_contains}
+use Rattle.hu_kind.proofs.lemmas.Occurring.{at_member}
 use Rattle.hu_collect.specs.Rule.{Rule, made, floor_of, IsKept}
 use Rattle.hu_collect.specs.Laws.{MakesInTurn, KeepsFloor}
 use Rattle.hu_chain.specs.declared.chain.Growth.{Growth}
@@ -15,8 +15,8 @@ use Rattle.hu_chain.specs.declared.chain.Growth.TheVariants.{IntoLast, AfterLast
 use Rattle.hu_chain.specs.Pattern.{Ends}
 use Rattle.hu_chain.specs.Grown.{grown, CanGrow, IsGrownFrom, Leads}
 use Rattle.hu_chain.specs.Bound.{KeepsRules}
-use Rattle.hu_chain.proofs.Bounds.{grown-first, grown_from-none}
-use Rattle.hu_chain.proofs.Reached.{grown_from-itself}
+use Rattle.hu_chain.proofs.lemmas.Bounds.{grown-first, grown_from-none}
+use Rattle.hu_chain.proofs.lemmas.Reached.{grown_from-itself}
 use Rattle.hu_span.specs.declared.candidate.Candidate.{Candidate}
 use Rattle.hu_span.specs.declared.row.Row.{Row}
 use Rattle.hu_span.specs.Candidate.{bounds_at, stepped, AreCandidates, IsCandidate}

@@ -9,7 +9,7 @@ use Rattle.hu_chain.specs.declared.chain.Growth.{Growth}
 use Rattle.hu_chain.specs.declared.chain.Growth.TheVariants.{IntoLast, AfterLast}
 use Rattle.hu_chain.specs.Pattern.{after, into, Ends}
 use Rattle.hu_chain.specs.Grown.{grown}
-use Rattle.hu_chain.proofs.Patterns.{Ends-grown}
+use Rattle.hu_chain.proofs.lemmas.Patterns.{Ends-grown}
 use Rattle.hu_span.specs.declared.step.Step.{Step}
 use Rattle.hu_span.specs.Step.{closed, grown_key, open_key, pattern_from, pattern_of}
 

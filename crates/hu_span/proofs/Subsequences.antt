@@ -9,8 +9,8 @@ use Rattle.hu_kind.specs.Record.{has, holds, items_in, values_of}
 use Rattle.hu_kind.specs.Itemsets.{sublists}
 use Rattle.hu_kind.specs.Sequence.{better, best_utility, led_by, subsequences, sequence_entry, sequence_patterns, sequence_support}
 use Rattle.hu_kind.specs.Order.{Ascend}
-use Rattle.hu_kind.proofs.Members.{Member, Member-append_cases, Member-flat_map, Member-from_flat_map, Member-map, Member-from_map, Member-filter, Member-from_filter}
-use Rattle.hu_kind.proofs.Occurring.{Member-sublists, at_member, counted, count-member, holds-members}
+use Rattle.hu_kind.proofs.lemmas.Members.{Member, Member-append_cases, Member-flat_map, Member-from_flat_map, Member-map, Member-from_map, Member-filter, Member-from_filter}
+use Rattle.hu_kind.proofs.lemmas.Occurring.{Member-sublists, at_member, counted, count-member, holds-members}
 
 -- ---- where one of two utilities is some
 

@@ -4,7 +4,7 @@ use Rattle.hu_kind.specs.declared.entry.Entry.{Entry}
 use Rattle.hu_kind.specs.Sequence.{best_utility, sequence_entry, sequence_support}
 use Rattle.hu_collect.specs.Rule.{Rule, made, floor_of, IsKept}
 use Rattle.hu_collect.specs.Laws.{MakesInTurn, KeepsFloor}
-use Rattle.hu_chain.proofs.Patterns.{Ends-grown}
+use Rattle.hu_chain.proofs.lemmas.Patterns.{Ends-grown}
 use Rattle.hu_span.specs.declared.candidate.Candidate.{Candidate}
 use Rattle.hu_span.specs.declared.row.Row.{Row}
 use Rattle.hu_span.specs.declared.step.Step.{Step}

@@ -11,14 +11,14 @@ use Rattle.hu_kind.specs.Record.{has, holds, value_of, values_of, utility_in, po
 use Rattle.hu_kind.specs.Database.{utility, support, twu, items_of}
 use Rattle.hu_kind.specs.Itemsets.{sublists, occurring_sets, item_entry, item_patterns}
 use Rattle.hu_kind.specs.Answer.{found}
-use Rattle.hu_kind.proofs.Members.{Member, Member-from_contains, Contains-from_member, Member-append_cases, Member-map, Member-from_map, Member-filter, Member-from_filter}
-use Rattle.hu_kind.proofs.Occurring.{at_member, by_members, Member-ranking, Occurs, held-members, Occurs-from_member, Member-from_occurs}
+use Rattle.hu_kind.proofs.lemmas.Members.{Member, Member-from_contains, Contains-from_member, Member-append_cases, Member-map, Member-from_map, Member-filter, Member-from_filter}
+use Rattle.hu_kind.proofs.lemmas.Occurring.{at_member, by_members, Member-ranking, Occurs, held-members, Occurs-from_member, Member-from_occurs}
 use Rattle.hu_totals.specs.Ranked.{ranked, ranked_items, by_twu, cells_from, over_ranks, item_at, unranked}
 use Rattle.hu_totals.specs.Laws.{KeepsSets, RanksHigh, KeepsPatterns}
-use Rattle.hu_totals.proofs.SortedLists.{Member-to_ranking}
-use Rattle.hu_totals.proofs.WeightLemmas.{by_twu_exact}
-use Rattle.hu_totals.proofs.RecordCells.{value_of-absent}
-use Rattle.hu_totals.proofs.RankingRules.{All-from_each}
+use Rattle.hu_totals.proofs.lemmas.SortedLists.{Member-to_ranking}
+use Rattle.hu_totals.proofs.lemmas.WeightLemmas.{by_twu_exact}
+use Rattle.hu_totals.proofs.lemmas.RecordCells.{value_of-absent}
+use Rattle.hu_totals.proofs.lemmas.RankingRules.{All-from_each}
 
 -- ---- a record's cells over the ranks of items, with the items again
 

@@ -1,9 +1,3 @@
+pub mod lemmas
 pub mod ItemKeys
-pub mod AddingLemmas
-pub mod RoomLemmas
-pub mod RecordCells
-pub mod SortedLists
-pub mod DenseLemmas
-pub mod WeightLemmas
-pub mod RankingRules
 pub mod LawLemmas

@@ -15,7 +15,7 @@ use Rattle.hu_kind.specs.declared.number.NumberFault.{NumberFault}
 use Rattle.hu_kind.specs.Number.{number, signed_number}
 use Rattle.hu_kind.specs.Record.{items_in, absolute_of, total, IsRecord}
 use Rattle.hu_kind.specs.Cells.{by_item}
-use Rattle.hu_kind.proofs.CellsLemmas.{by_item-ascending, twice-ascending}
+use Rattle.hu_kind.proofs.lemmas.CellsLemmas.{by_item-ascending, twice-ascending}
 use Rattle.hu_kind.specs.Token.{tokens, has_byte}
 use Rattle.hu_kind.specs.First.{first_some}
 use Rattle.hu_trans.specs.Line.{numbers, bad_token, bad_total, parts, items}

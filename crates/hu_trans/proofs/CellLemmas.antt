@@ -8,8 +8,8 @@ use Rattle.hu_kind.specs.declared.item.Cell.{Cell}
 use Rattle.hu_kind.specs.Cell.{pair_of, pairs_of, absolute_value}
 use Rattle.hu_kind.specs.Cells.{twice}
 use Rattle.hu_kind.specs.Record.{items_in, absolute_of, IsRecord}
-use Rattle.hu_kind.proofs.CellsLemmas.{item_at, length-items}
-use Rattle.hu_kind.proofs.RecordLemmas.{IsRecord-from_cells, absolute_of-pairs_of}
+use Rattle.hu_kind.proofs.lemmas.CellsLemmas.{item_at, length-items}
+use Rattle.hu_kind.proofs.lemmas.RecordLemmas.{IsRecord-from_cells, absolute_of-pairs_of}
 use Rattle.hu_trans.proofs.JudgedLemmas.{AreFine}
 
 -- one more cell in front of what is left

@@ -5,7 +5,7 @@ use Rattle.std.proofs.lemmas.Int.{ints}
 use Rattle.hu_kind.specs.Cell.{pairs_of}
 use Rattle.hu_chain.specs.Bound.{IsFit}
 use Rattle.hu_chain.specs.Search.{followed_places, walked, IsPlaceOf}
-use Rattle.hu_chain.proofs.Cells.{total-above}
+use Rattle.hu_chain.proofs.lemmas.Cells.{total-above}
 use Rattle.hu_chain.proofs.Turns.{IsWalk-first}
 use Rattle.hu_chain.proofs.chain.followed.Goals as goal
 

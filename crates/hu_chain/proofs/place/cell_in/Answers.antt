@@ -1,6 +1,6 @@
 use Rattle.std.proofs.Common.{◌∙◌, sym, ap, arith}
 use Rattle.hu_kind.specs.declared.item.Cell.{Cell}
-use Rattle.hu_chain.proofs.Cells.{cell_in-at, cell_in-past}
+use Rattle.hu_chain.proofs.lemmas.Cells.{cell_in-at, cell_in-past}
 use Rattle.hu_chain.proofs.place.cell_in.Goals as goal
 
 pub returns-in_err-cell : goal.returns-in_err-cell

@@ -1,7 +1,7 @@
 use Rattle.std.proofs.Common.{ltb, rules}
 use Rattle.std.proofs.lemmas.List.Sorted.{IsPartitionPoint-from_clause, IsPartitionedBy-ltb}
 use Rattle.std.proofs.lemmas.Bool.{ltb-true, ltb-false}
-use Rattle.hu_chain.proofs.Cells.{IsNonDecreasingBy-ascend}
+use Rattle.hu_chain.proofs.lemmas.Cells.{IsNonDecreasingBy-ascend}
 use Rattle.hu_chain.proofs.place.cells_below.Goals as goal
 
 pub returns-clause-splits : goal.returns-clause-splits

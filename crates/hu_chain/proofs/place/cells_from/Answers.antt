@@ -1,6 +1,6 @@
 use Rattle.std.proofs.Common.{◌∙◌, ap}
 use Rattle.hu_kind.specs.Cell.{pairs_of}
-use Rattle.hu_chain.proofs.Cells.{pairs-drop}
+use Rattle.hu_chain.proofs.lemmas.Cells.{pairs-drop}
 use Rattle.hu_chain.proofs.Tails.{cells-left}
 use Rattle.hu_chain.proofs.place.cells_from.Goals as goal
 

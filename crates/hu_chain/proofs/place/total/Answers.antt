@@ -1,7 +1,7 @@
 use Rattle.std.proofs.Common.{suc, add-one, arith, pos}
 use Rattle.std.proofs.lemmas.Int.{ints}
 use Rattle.hu_kind.specs.declared.item.Cell.{Cell}
-use Rattle.hu_chain.proofs.Cells.{total-front, total-next}
+use Rattle.hu_chain.proofs.lemmas.Cells.{total-front, total-next}
 use Rattle.hu_chain.proofs.place.total.Goals as goal
 
 pub overflow_add-sum : goal.overflow_add-sum

@@ -1,6 +1,6 @@
 use Rattle.std.proofs.Common.{rules, ◌≡◌, ◌<◌, pos, [], ◌∷◌}
 use Rattle.std.proofs.lemmas.Option.{get_or_from_slice_get}
-use Rattle.hu_closed.proofs.RankLemmas.{CanOpen-pair}
+use Rattle.hu_closed.proofs.lemmas.RankLemmas.{CanOpen-pair}
 use Rattle.hu_closed.proofs.tests.key_of_ranks.Goals as goal
 
 pub returns : goal.returns

@@ -1,5 +1,5 @@
 use Rattle.hu_base.specs.Base.{records_of}
-use Rattle.hu_closed.proofs.RankLemmas.{IsRankingOf-made}
+use Rattle.hu_closed.proofs.lemmas.RankLemmas.{IsRankingOf-made}
 use Rattle.hu_closed.proofs.tests.keys_that_open.Goals as goal
 
 pub new-closed-requires-clause-base : goal.new-closed-requires-clause-base

@@ -1,7 +1,7 @@
 use Rattle.std.proofs.Common.{◌≡◌, ◌≤◌, length, rules}
 use Rattle.hu_collect.specs.Rule.{last_utility}
 use Rattle.hu_collect.proofs.Bodies.{last_utility-at_end}
-use Rattle.hu_collect.proofs.Floor.{floor_by-full}
+use Rattle.hu_collect.proofs.lemmas.Floor.{floor_by-full}
 use Rattle.hu_collect.proofs.top.floor_over.Goals as goal
 
 pub returns-in-Some : goal.returns-in-Some

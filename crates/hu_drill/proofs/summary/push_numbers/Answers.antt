@@ -1,6 +1,6 @@
 use Rattle.std.proofs.Common.{◌++◌, rules, refl, append_assoc}
 use Rattle.std.proofs.lemmas.Int.{to_z-of_z}
-use Rattle.hu_report.proofs.PutLemmas.{Forwards-append, Passes-append, Passes-longer}
+use Rattle.hu_report.proofs.lemmas.PutLemmas.{Forwards-append, Passes-append, Passes-longer}
 use Rattle.hu_drill.specs.Summary.{greatest_text, total_text}
 use Rattle.hu_drill.proofs.summary.push_numbers.Goals as goal
 

@@ -1,6 +1,6 @@
 use Rattle.std.proofs.Common.{◌∙◌, ◌++◌, ap, refl, append_assoc, arith}
 use Rattle.std.proofs.lemmas.List.{take-append-drop}
-use Rattle.hu_report.proofs.PutLemmas.{Forwards-append, Passes-append, Passes-longer}
+use Rattle.hu_report.proofs.lemmas.PutLemmas.{Forwards-append, Passes-append, Passes-longer}
 use Rattle.hu_drill.proofs.summary.push_text.Goals as goal
 
 pub returns-in_err-push-clause-bytes : goal.returns-in_err-push-clause-bytes

@@ -1,7 +1,7 @@
 use Rattle.std.proofs.Common.{codes, arith}
 use Rattle.std.proofs.lemmas.Grind.{common_steps}
 use Rattle.std.proofs.lemmas.Int.{to_z-of_z}
-use Rattle.hu_report.proofs.PutLemmas.{Passes-append, Passes-longer}
+use Rattle.hu_report.proofs.lemmas.PutLemmas.{Passes-append, Passes-longer}
 use Rattle.hu_drill.proofs.summary.push_total.Goals as goal
 
 pub returns-in_err-push_field-clause-bytes : goal.returns-in_err-push_field-clause-bytes

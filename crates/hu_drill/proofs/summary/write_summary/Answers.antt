@@ -1,6 +1,6 @@
 use Rattle.std.proofs.Common.{◌++◌, [], Err, ap, subst, append-nil}
 use Rattle.hu_io.specs.Sink.{PutsAll}
-use Rattle.hu_report.proofs.PutLemmas.{Forwards-append, Passes-append, PutsAll-failed, PutsAll-flush}
+use Rattle.hu_report.proofs.lemmas.PutLemmas.{Forwards-append, Passes-append, PutsAll-failed, PutsAll-flush}
 use Rattle.hu_drill.specs.Summary.{numbers_text, summary_line}
 use Rattle.hu_drill.proofs.summary.write_summary.Goals as goal
 

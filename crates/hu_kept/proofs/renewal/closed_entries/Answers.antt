@@ -4,7 +4,7 @@ use Rattle.hu_kind.specs.Record.{IsRecord}
 use Rattle.hu_base.specs.Base.{records_of}
 use Rattle.hu_collect.specs.Limited.{content_in}
 use Rattle.hu_closed.specs.ClosedOnly.{inner_of, records_in, table_of}
-use Rattle.hu_closed.proofs.RankLemmas.{IsRankingOf-made}
+use Rattle.hu_closed.proofs.lemmas.RankLemmas.{IsRankingOf-made}
 use Rattle.hu_kept.proofs.ClosedParts.{made-closed_around}
 use Rattle.hu_kept.proofs.renewal.closed_entries.Goals as goal
 

@@ -1,6 +1,6 @@
 use Rattle.std.proofs.Common.{rules}
 use Rattle.std.proofs.lemmas.List.Sorted.{IsNonDecreasingBy-from_sort_by_key}
-use Rattle.hu_kind.proofs.CellsLemmas.{twice-IsFirstTwice, twice-ascending, items-permutation, items-strictly, by_item-ordered}
+use Rattle.hu_kind.proofs.lemmas.CellsLemmas.{twice-IsFirstTwice, twice-ascending, items-permutation, items-strictly, by_item-ordered}
 use Rattle.hu_kind.proofs.cells.ordered_cells.Goals as goal
 
 pub repeated-requires : goal.repeated-requires

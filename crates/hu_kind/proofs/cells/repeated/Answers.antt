@@ -2,7 +2,7 @@ use Rattle.std.proofs.Common.{◌+◌, ◌-◌, ◌<◌, length, get_or, pos, ar
 use Rattle.hu_kind.specs.declared.item.Cell.{Cell}
 use Rattle.hu_kind.specs.Cell.{pairs_of}
 use Rattle.hu_kind.specs.Record.{items_in}
-use Rattle.hu_kind.proofs.CellsLemmas.{IsFirstTwice-repeated, item_at, length-items, items-ascending}
+use Rattle.hu_kind.proofs.lemmas.CellsLemmas.{IsFirstTwice-repeated, item_at, length-items, items-ascending}
 use Rattle.hu_kind.proofs.cells.repeated.Goals as goal
 
 pub returns-then-cells-i : goal.returns-then-cells-i

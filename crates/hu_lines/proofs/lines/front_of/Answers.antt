@@ -1,6 +1,6 @@
 use Rattle.std.proofs.Common.{Some, None, sym, ap, length, ◌∙◌}
 use Rattle.std.proofs.Math.Seq.{take-length}
-use Rattle.hu_lines.proofs.PieceLemmas.{front_found}
+use Rattle.hu_lines.proofs.lemmas.PieceLemmas.{front_found}
 use Rattle.hu_lines.proofs.lines.front_of.Goals as goal
 
 pub returns-in-Some-clause-taken : goal.returns-in-Some-clause-taken

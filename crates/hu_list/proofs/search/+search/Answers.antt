@@ -6,7 +6,7 @@ use Rattle.hu_collect.specs.Ranks.{RestsOn}
 use Rattle.hu_list.specs.declared.branch.Branch.{Branch}
 use Rattle.hu_list.specs.Level.{ranks_of, IsLevel}
 use Rattle.hu_search.specs.Growth.{Covers}
-use Rattle.hu_search.proofs.SearchLemmas.{all-made, none-made, on_err, popped, some-upto}
+use Rattle.hu_search.proofs.lemmas.SearchLemmas.{all-made, none-made, on_err, popped, some-upto}
 use Rattle.hu_list.proofs.TurnLemmas.{fork, turn-covers, turn-floor, turn-kept, turn-offered, turn-next, turn-some}
 use Rattle.hu_list.proofs.search.+search.Goals as goal
 

@@ -1,7 +1,7 @@
 use Rattle.std.proofs.Common.{◌≡◌, length, take}
 use Rattle.hu_collect.specs.Makes.{MakesReaching}
 use Rattle.hu_list.specs.Level.{ranks_of}
-use Rattle.hu_search.proofs.Beginnings.{Begins}
+use Rattle.hu_search.proofs.lemmas.Beginnings.{Begins}
 use Rattle.hu_list.proofs.search.+search.Given as goal
 
 abbrev pub decreases-search : goal.decreases-search

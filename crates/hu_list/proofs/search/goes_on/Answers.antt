@@ -1,9 +1,9 @@
 use Rattle.std.proofs.Common.{◌∷◌, [], ◌++◌, ◌<◌, ◌<ℤ◌, length, arith}
 use Rattle.std.proofs.lemmas.Int.{ints}
 use Rattle.hu_collect.specs.Rule.{floor_of}
-use Rattle.hu_search.proofs.Ascending.{each-append}
+use Rattle.hu_search.proofs.lemmas.Ascending.{each-append}
 use Rattle.hu_list.proofs.LevelLemmas.{Covers-below}
-use Rattle.hu_search.proofs.SearchLemmas.{Covers-closed, can_open}
+use Rattle.hu_search.proofs.lemmas.SearchLemmas.{Covers-closed, can_open}
 use Rattle.hu_list.proofs.search.goes_on.Goals as goal
 
 pub returns-then-bound-floor : goal.returns-then-bound-floor

@@ -1,7 +1,7 @@
 use Rattle.std.proofs.Common.{ap, ◌∙◌}
 use Rattle.std.proofs.lemmas.Result.{on_ok_weaker, on_err_weaker}
 use Rattle.hu_list.specs.Level.{ranks_of}
-use Rattle.hu_search.proofs.WholeLemmas.{Covers-first, all-patterns, some-patterns}
+use Rattle.hu_search.proofs.lemmas.WholeLemmas.{Covers-first, all-patterns, some-patterns}
 use Rattle.hu_list.proofs.search.mine.Goals as goal
 
 pub search-requires-clause-covers : goal.search-requires-clause-covers

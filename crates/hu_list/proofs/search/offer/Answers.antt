@@ -1,7 +1,7 @@
 use Rattle.std.proofs.Common.{◌∷◌, [], ◌++◌, ◌∙◌, arith}
 use Rattle.std.proofs.lemmas.Int.{ints}
 use Rattle.std.proofs.lemmas.Result.{on_ok_weaker}
-use Rattle.hu_search.proofs.SearchLemmas.{offered-entry}
+use Rattle.hu_search.proofs.lemmas.SearchLemmas.{offered-entry}
 use Rattle.hu_list.proofs.LevelLemmas.{support-list}
 use Rattle.hu_list.proofs.search.offer.Goals as goal
 

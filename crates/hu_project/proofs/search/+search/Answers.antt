@@ -6,7 +6,7 @@ use Rattle.hu_collect.specs.Rule.{floor_of, IsKept}
 use Rattle.hu_collect.specs.Ranks.{RestsOn}
 use Rattle.hu_rows.specs.Bounds.{AreKept}
 use Rattle.hu_search.specs.Growth.{Covers}
-use Rattle.hu_search.proofs.SearchLemmas.{all-made, none-made, on_err}
+use Rattle.hu_search.proofs.lemmas.SearchLemmas.{all-made, none-made, on_err}
 use Rattle.hu_project.specs.Level.{AreProjected, IsLevel}
 use Rattle.hu_project.proofs.LevelLemmas.{AreKept-later, AreProjected-next, length-reaching}
 use Rattle.hu_project.proofs.TurnLemmas.{some-none, low-turn, turn-kept, turn-offered, turn-closed, turn-later, turn-level, turn-covers, turn-made, turn-some, content-kept, content-covers, content-some, content-next}

@@ -1,6 +1,6 @@
 use Rattle.std.proofs.Common.{◌≡◌, ◌+◌, ◌-◌, ◌*◌, length, take}
 use Rattle.hu_collect.specs.Makes.{MakesReaching}
-use Rattle.hu_search.proofs.Beginnings.{Begins}
+use Rattle.hu_search.proofs.lemmas.Beginnings.{Begins}
 use Rattle.hu_project.proofs.search.+search.Given as goal
 
 -- a search of so many branches comes after a visit of more, and before one of fewer

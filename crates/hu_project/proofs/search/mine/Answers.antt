@@ -3,7 +3,7 @@ use Rattle.std.specs.Int.{w128}
 use Rattle.std.specs.List.{range_with_len}
 use Rattle.std.proofs.lemmas.Int.{to_z-of_z}
 use Rattle.std.proofs.lemmas.Result.{on_ok_weaker, on_err_weaker}
-use Rattle.hu_search.proofs.WholeLemmas.{Covers-first, all-patterns, some-patterns}
+use Rattle.hu_search.proofs.lemmas.WholeLemmas.{Covers-first, all-patterns, some-patterns}
 use Rattle.hu_project.proofs.LevelLemmas.{AreKept-later, AreLater-first, AreProjected-first, IsLevel-reaching, Covers-reaching}
 use Rattle.hu_project.proofs.search.mine.Goals as goal
 

@@ -1,7 +1,7 @@
 use Rattle.std.proofs.Common.{◌∷◌, [], ◌++◌, ◌∙◌, ◌<ℤ◌, arith}
 use Rattle.std.proofs.lemmas.Int.{ints}
 use Rattle.hu_collect.specs.Rule.{floor_of}
-use Rattle.hu_search.proofs.SearchLemmas.{can_open, Covers-closed, offered-entry, offered-below}
+use Rattle.hu_search.proofs.lemmas.SearchLemmas.{can_open, Covers-closed, offered-entry, offered-below}
 use Rattle.hu_project.proofs.LevelLemmas.{over-itself, count-itself}
 use Rattle.hu_project.proofs.search.offer.Goals as goal
 

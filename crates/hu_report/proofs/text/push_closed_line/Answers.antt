@@ -1,7 +1,7 @@
 use Rattle.std.proofs.Common.{◌++◌, rules, refl, append_assoc}
 use Rattle.std.proofs.lemmas.Int.{to_z-of_z}
 use Rattle.hu_report.specs.Text.{support_text, utility_text}
-use Rattle.hu_report.proofs.PutLemmas.{Forwards-append, Passes-append, Passes-longer}
+use Rattle.hu_report.proofs.lemmas.PutLemmas.{Forwards-append, Passes-append, Passes-longer}
 use Rattle.hu_report.proofs.text.push_closed_line.Goals as goal
 
 pub returns-in_err-push_key-clause-bytes : goal.returns-in_err-push_key-clause-bytes

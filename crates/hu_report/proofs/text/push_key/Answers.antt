@@ -1,7 +1,7 @@
 use Rattle.std.proofs.Common.{◌≡◌, ◌∷◌, ◌++◌, codes, flat_map, rules}
 use Rattle.std.specs.Fmt.{signed_decimal}
 use Rattle.std.proofs.lemmas.Int.{to_z-of_z}
-use Rattle.hu_report.proofs.PutLemmas.{Passes-append, Passes-longer}
+use Rattle.hu_report.proofs.lemmas.PutLemmas.{Passes-append, Passes-longer}
 use Rattle.hu_report.proofs.text.push_key.Goals as goal
 
 pub returns-in_err-push_number-clause-bytes : goal.returns-in_err-push_number-clause-bytes

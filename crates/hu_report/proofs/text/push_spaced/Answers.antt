@@ -2,7 +2,7 @@ use Rattle.std.proofs.Common.{ℕ, ℤ, Err, List, pos, ◌+◌, ◌++◌, codes
 use Rattle.std.specs.Fmt.{signed_decimal}
 use Rattle.std.proofs.lemmas.Grind.{common_steps}
 use Rattle.std.proofs.lemmas.Int.{to_z-of_z}
-use Rattle.hu_report.proofs.PutLemmas.{Passes-append, Passes-longer, flat_map-split}
+use Rattle.hu_report.proofs.lemmas.PutLemmas.{Passes-append, Passes-longer, flat_map-split}
 use Rattle.hu_report.proofs.text.push_spaced.Goals as goal
 
 -- a number with a space before it

@@ -1,7 +1,7 @@
 use Rattle.std.proofs.Common.{ℕ, Err, ◌+◌, take, drop, refl, arith, rules}
 use Rattle.std.proofs.lemmas.Grind.{common_steps}
 use Rattle.hu_report.specs.Text.{answer_text, line_of}
-use Rattle.hu_report.proofs.PutLemmas.{Passes-append, PutsAll-failed, PutsAll-flush, flat_map-split}
+use Rattle.hu_report.proofs.lemmas.PutLemmas.{Passes-append, PutsAll-failed, PutsAll-flush, flat_map-split}
 use Rattle.hu_report.proofs.text.write_entries.Goals as goal
 
 pub returns-in_err-push_line-clause-bytes : goal.returns-in_err-push_line-clause-bytes

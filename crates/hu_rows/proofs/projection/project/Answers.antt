@@ -1,7 +1,7 @@
 use Rattle.std.proofs.Common.{◌≡◌, ◌∙◌, ◌∷◌, ◌<◌, ℕ, List, sym, ap, subst}
 use Rattle.std.specs.List.{AllByRecursion, Contains}
 use Rattle.std.proofs.lemmas.Result.{IfOk-weaker}
-use Rattle.hu_kind.proofs.Members.{Contains-from_member, Member-from_contains}
+use Rattle.hu_kind.proofs.lemmas.Members.{Contains-from_member, Member-from_contains}
 use Rattle.hu_rows.specs.Rows.{AreRows, over, count_over, ranks_in}
 use Rattle.hu_rows.specs.Merging.{IsMerging}
 use Rattle.hu_rows.specs.Projection.{projected}

@@ -1,7 +1,7 @@
 use Rattle.std.proofs.Common.{◌+◌, ◌++◌, subst, take, drop}
 use Rattle.std.specs.Prelude.{flat_map}
 use Rattle.hu_io.specs.Sink.{PutsAll}
-use Rattle.hu_report.proofs.PutLemmas.{PutsAll-append, PutsAll-longer}
+use Rattle.hu_report.proofs.lemmas.PutLemmas.{PutsAll-append, PutsAll-longer}
 use Rattle.hu_run.specs.Part.{part_text}
 use Rattle.hu_run.proofs.PartLemmas.{flat_map-split}
 use Rattle.hu_run.proofs.part.put_parts.Goals as goal

@@ -1,4 +1,4 @@
-use Rattle.hu_closed.proofs.RankLemmas.{IsRankingOf-made}
+use Rattle.hu_closed.proofs.lemmas.RankLemmas.{IsRankingOf-made}
 use Rattle.hu_run.proofs.ranked.closed_entries.Goals as goal
 
 pub closed_from-requires-clause-ranks : goal.closed_from-requires-clause-ranks

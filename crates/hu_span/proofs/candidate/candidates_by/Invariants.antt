@@ -1,7 +1,7 @@
 use Rattle.std.proofs.Common.{ℕ, List, take}
 use Rattle.std.specs.List.{AllByRecursion}
 use Rattle.hu_kind.specs.declared.item.Item.{Item}
-use Rattle.hu_kind.proofs.Members.{Member}
+use Rattle.hu_kind.proofs.lemmas.Members.{Member}
 use Rattle.hu_span.specs.Row.{IsLevel}
 use Rattle.hu_span.specs.Candidate.{IsCandidate}
 use Rattle.hu_span.proofs.CandidateLemmas.{CoversItem}

@@ -1,6 +1,6 @@
 use Rattle.std.proofs.Common.{◌∙◌, get_or, sym, refl, subst, arith, vec_len}
 use Rattle.hu_kind.specs.declared.item.Item.{Item}
-use Rattle.hu_kind.proofs.Members.{Member}
+use Rattle.hu_kind.proofs.lemmas.Members.{Member}
 use Rattle.hu_chain.specs.declared.chain.Growth.TheVariants.{AfterLast}
 use Rattle.hu_span.proofs.CandidateLemmas.{index-any, Member-index}
 use Rattle.hu_span.proofs.ReachLemmas.{item-marked}

@@ -3,7 +3,7 @@ use Rattle.std.proofs.lemmas.List.{map-append}
 use Rattle.hu_kind.specs.declared.item.Cell.{Cell}
 use Rattle.hu_totals.specs.View.{dense_pair}
 use Rattle.hu_totals.specs.Weights.{numbers_of}
-use Rattle.hu_totals.proofs.WeightLemmas.{dense-step}
+use Rattle.hu_totals.proofs.lemmas.WeightLemmas.{dense-step}
 use Rattle.hu_totals.proofs.ranked.dense_cells.Goals as goal
 use Rattle.hu_totals.proofs.ranked.dense_cells.Goals.{in-Some+in_ok-push, in_default}
 

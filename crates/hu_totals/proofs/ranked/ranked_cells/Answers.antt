@@ -1,8 +1,8 @@
 use Rattle.std.proofs.Common.{rules}
 use Rattle.std.proofs.lemmas.List.Sorted.{IsNonDecreasingBy-from_sort_by_key}
 use Rattle.hu_totals.specs.Weights.{numbers_of}
-use Rattle.hu_totals.proofs.SortedLists.{Once-from_distinct}
-use Rattle.hu_totals.proofs.DenseLemmas.{sorted-dense}
+use Rattle.hu_totals.proofs.lemmas.SortedLists.{Once-from_distinct}
+use Rattle.hu_totals.proofs.lemmas.DenseLemmas.{sorted-dense}
 use Rattle.hu_totals.proofs.ranked.ranked_cells.Goals as goal
 
 pub returns : goal.returns

@@ -1,7 +1,7 @@
 use Rattle.std.proofs.Common.{sym, subst}
 use Rattle.hu_kind.specs.Order.{Ascend}
 use Rattle.hu_kind.specs.Record.{items_in}
-use Rattle.hu_totals.proofs.RecordCells.{Ascend-record}
+use Rattle.hu_totals.proofs.lemmas.RecordCells.{Ascend-record}
 use Rattle.hu_totals.proofs.ranked.ranked_records.Goals as goal
 
 pub ranked_cells-requires-clause-ascending : goal.ranked_cells-requires-clause-ascending

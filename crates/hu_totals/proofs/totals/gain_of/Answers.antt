@@ -2,7 +2,7 @@ use Rattle.std.proofs.Common.{suc, pos, get_or, arith, add-one, rules, FitsSigne
 use Rattle.std.specs.Int.{w128}
 use Rattle.std.proofs.lemmas.Int.{ints, to_z-of_z}
 use Rattle.hu_kind.specs.declared.item.Cell.{Cell}
-use Rattle.hu_totals.proofs.RoomLemmas.{gain-more, gain-take}
+use Rattle.hu_totals.proofs.lemmas.RoomLemmas.{gain-more, gain-take}
 use Rattle.hu_totals.proofs.totals.gain_of.Goals as goal
 
 -- a cell past the end

@@ -4,7 +4,7 @@ use Rattle.std.proofs.lemmas.Int.{to_z-of_z}
 use Rattle.std.proofs.lemmas.List.{take_all}
 use Rattle.indexmap.specs.IndexSet.{insert_all}
 use Rattle.hu_totals.specs.Weights.{same_item}
-use Rattle.hu_totals.proofs.WeightLemmas.{no_weighed, add-step, numbers-by_weight, few-by_weight}
+use Rattle.hu_totals.proofs.lemmas.WeightLemmas.{no_weighed, add-step, numbers-by_weight, few-by_weight}
 use Rattle.hu_totals.proofs.weights.items_by_weight.Goals as goal
 
 pub loop-one-preserved : goal.loop-one-preserved

@@ -1,7 +1,7 @@
 use Rattle.std.proofs.Common.{◌≡◌, ℕ, ◌<◌, ◌^◌, [], map, take, get_or}
 use Rattle.indexmap.specs.IndexSet.{insert_all}
 use Rattle.hu_totals.specs.Weights.{same_item}
-use Rattle.hu_totals.proofs.WeightLemmas.{no_weighed}
+use Rattle.hu_totals.proofs.lemmas.WeightLemmas.{no_weighed}
 use Rattle.hu_totals.proofs.weights.items_by_weight.Given as goal
 
 abbrev pub invariant-loop-one : goal.invariant-loop-one

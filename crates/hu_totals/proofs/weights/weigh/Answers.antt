@@ -1,7 +1,7 @@
 use Rattle.std.proofs.Common.{◌<◌, [], ◌∷◌, map, length, ap, ◌∙◌, sym, append-nil, arith}
 use Rattle.std.proofs.lemmas.List.{map-append}
 use Rattle.hu_totals.specs.Weights.{weight_of}
-use Rattle.hu_totals.proofs.WeightLemmas.{weights-step}
+use Rattle.hu_totals.proofs.lemmas.WeightLemmas.{weights-step}
 use Rattle.hu_totals.proofs.weights.weigh.Goals as goal
 use Rattle.hu_totals.proofs.weights.weigh.Goals.{in-Some+in_ok-push, in_default}
 

@@ -1,7 +1,7 @@
 use Rattle.std.proofs.Common.{◌∙◌, ap, sym}
 use Rattle.hu_chain.specs.Pattern.{last_item}
 use Rattle.hu_chain.specs.Search.{followed_places}
-use Rattle.hu_chain.proofs.Growing.{chain_of-after, rules-seen}
+use Rattle.hu_chain.proofs.lemmas.Growing.{chain_of-after, rules-seen}
 use Rattle.hu_chain.proofs.chain.Chain.after_last.Goals as goal
 
 pub followed-requires-clause-places : goal.followed-requires-clause-places

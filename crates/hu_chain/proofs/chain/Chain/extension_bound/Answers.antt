@@ -4,7 +4,7 @@ use Rattle.std.specs.List.{AllByRecursion}
 use Rattle.std.proofs.lemmas.Int.{ints}
 use Rattle.hu_kind.specs.Sequence.{best_utility}
 use Rattle.hu_chain.specs.Bound.{extension_bound, greatest, reach, IsAtMost, IsFit}
-use Rattle.hu_chain.proofs.Bounds.{extension-holds, extension-range, extension-within}
+use Rattle.hu_chain.proofs.lemmas.Bounds.{extension-holds, extension-range, extension-within}
 use Rattle.hu_chain.proofs.chain.Chain.extension_bound.Goals as goal
 
 pub returns-clause-range : goal.returns-clause-range

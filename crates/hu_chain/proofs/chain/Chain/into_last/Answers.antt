@@ -2,7 +2,7 @@ use Rattle.std.proofs.Common.{◌∙◌, ap, sym}
 use Rattle.hu_chain.specs.Pattern.{last_item}
 use Rattle.hu_chain.specs.Search.{joined_places}
 use Rattle.hu_chain.proofs.Finding.{chain_of-into}
-use Rattle.hu_chain.proofs.Growing.{rules-seen}
+use Rattle.hu_chain.proofs.lemmas.Growing.{rules-seen}
 use Rattle.hu_chain.proofs.chain.Chain.into_last.Goals as goal
 
 pub joined-requires-clause-places : goal.joined-requires-clause-places

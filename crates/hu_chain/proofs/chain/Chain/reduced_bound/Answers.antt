@@ -6,9 +6,9 @@ use Rattle.hu_chain.specs.Pattern.{last_item}
 use Rattle.hu_chain.specs.Grown.{grown}
 use Rattle.hu_chain.specs.Bound.{reduced_bound, IsAtMost}
 use Rattle.hu_chain.specs.Search.{occurs}
-use Rattle.hu_chain.proofs.Patterns.{Ends-can_grow}
-use Rattle.hu_chain.proofs.Bounds.{reduced-holds, reduced-seen}
-use Rattle.hu_chain.proofs.Growing.{may_follow, rules-seen}
+use Rattle.hu_chain.proofs.lemmas.Patterns.{Ends-can_grow}
+use Rattle.hu_chain.proofs.lemmas.Bounds.{reduced-holds, reduced-seen}
+use Rattle.hu_chain.proofs.lemmas.Growing.{may_follow, rules-seen}
 use Rattle.hu_chain.proofs.chain.Chain.reduced_bound.Goals as goal
 
 pub occurs-requires-clause-places : goal.occurs-requires-clause-places

@@ -6,7 +6,7 @@ use Rattle.hu_chain.specs.Place.{totals}
 use Rattle.hu_chain.specs.Search.{walked}
 use Rattle.hu_chain.proofs.Tails.{totals-absolute}
 use Rattle.hu_chain.proofs.Turns.{by_number}
-use Rattle.hu_chain.proofs.Growing.{chain_of-start}
+use Rattle.hu_chain.proofs.lemmas.Growing.{chain_of-start}
 use Rattle.hu_chain.proofs.chain.Chain.start.Goals as goal
 
 pub places_from-requires-clause-walk : goal.places_from-requires-clause-walk

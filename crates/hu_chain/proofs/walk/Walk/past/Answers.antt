@@ -1,7 +1,7 @@
 use Rattle.std.proofs.Common.{arith}
 use Rattle.std.proofs.lemmas.Int.{ints}
 use Rattle.hu_kind.specs.Cell.{pairs_of}
-use Rattle.hu_chain.proofs.Cells.{total-above}
+use Rattle.hu_chain.proofs.lemmas.Cells.{total-above}
 use Rattle.hu_chain.proofs.walk.Walk.past.Goals as goal
 
 pub overflow_sub-ahead : goal.overflow_sub-ahead

@@ -3,7 +3,7 @@ use Rattle.std.specs.Int.{w128}
 use Rattle.std.proofs.lemmas.Int.{ints, to_z-of_z}
 use Rattle.hu_collect.specs.Rule.{floor_of, made}
 use Rattle.hu_closed.specs.ClosedOnly.{closed_rule, inner_of, records_in, table_of}
-use Rattle.hu_closed.proofs.ClosedLemmas.{leaves-below}
+use Rattle.hu_closed.proofs.lemmas.ClosedLemmas.{leaves-below}
 use Rattle.hu_closed.proofs.closed_only.ClosedOnly.lets_in.Goals as goal
 
 pub returns-else-entry-floor-clause-leaves : goal.returns-else-entry-floor-clause-leaves

@@ -1,4 +1,4 @@
-use Rattle.hu_closed.proofs.ClosedLemmas.{makes-closed}
+use Rattle.hu_closed.proofs.lemmas.ClosedLemmas.{makes-closed}
 use Rattle.hu_closed.proofs.closed_only.ClosedOnly.new.Goals as goal
 
 pub returns-clause-patterns : goal.returns-clause-patterns

@@ -5,7 +5,7 @@ use Rattle.hu_kind.specs.Record.{IsRecord}
 use Rattle.hu_totals.specs.Weights.{numbers_of}
 use Rattle.hu_closed.specs.Keys.{closes_below, is_set_key}
 use Rattle.hu_closed.proofs.KeyLemmas.{set_key-some}
-use Rattle.hu_closed.proofs.RankLemmas.{last-within, set_key-open, shuts}
+use Rattle.hu_closed.proofs.lemmas.RankLemmas.{last-within, set_key-open, shuts}
 use Rattle.hu_closed.proofs.SetLemmas.{below-none, below-some, finds-lists, finds-within, Finds-from}
 use Rattle.hu_closed.proofs.sets.RecordSets.closes_below.Goals as goal
 

@@ -1,6 +1,6 @@
 use Rattle.std.proofs.Common.{◌∙◌, ap}
 use Rattle.hu_closed.specs.Keys.{is_closed_key}
-use Rattle.hu_closed.proofs.Closedness.{is_closed_key-items}
+use Rattle.hu_closed.proofs.lemmas.Closedness.{is_closed_key-items}
 use Rattle.hu_closed.proofs.sets.RecordSets.is_closed.Goals as goal
 
 pub returns-clause-itemset : goal.returns-clause-itemset

@@ -1,6 +1,6 @@
 use Rattle.std.proofs.Common.{◌∙◌, ap}
 use Rattle.hu_closed.specs.Keys.{key_support}
-use Rattle.hu_closed.proofs.Closedness.{support-key}
+use Rattle.hu_closed.proofs.lemmas.Closedness.{support-key}
 use Rattle.hu_closed.proofs.sets.RecordSets.support.Goals as goal
 
 pub returns-clause-itemset : goal.returns-clause-itemset

@@ -1,6 +1,6 @@
 use Rattle.std.proofs.Common.{refl, subst, sym}
 use Rattle.hu_kind.specs.Cell.{AreRecord}
-use Rattle.hu_kind.proofs.RecordLemmas.{IsRecord-from_cells, IsRecord-to_cells}
+use Rattle.hu_kind.proofs.lemmas.RecordLemmas.{IsRecord-from_cells, IsRecord-to_cells}
 use Rattle.hu_kind.proofs.record.Record.new.Goals as goal
 
 pub invariant_of-result : goal.invariant_of-result

@@ -2,7 +2,7 @@ use Rattle.std.proofs.Common.{pos, int_lt, sym, ap, ◌∙◌}
 use Rattle.std.specs.List.{list_any}
 use Rattle.hu_kind.specs.Cell.{pair_of}
 use Rattle.hu_kind.specs.Record.{any_negative}
-use Rattle.hu_kind.proofs.RecordLemmas.{list_any-map}
+use Rattle.hu_kind.proofs.lemmas.RecordLemmas.{list_any-map}
 use Rattle.hu_kind.proofs.sequence.Element.has_negative.Goals as goal
 
 pub returns : goal.returns

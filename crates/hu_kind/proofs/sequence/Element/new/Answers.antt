@@ -1,6 +1,6 @@
 use Rattle.std.proofs.Common.{refl, subst, sym}
 use Rattle.hu_kind.specs.Cell.{AreItemset}
-use Rattle.hu_kind.proofs.RecordLemmas.{IsItemset-from_cells, IsItemset-to_cells}
+use Rattle.hu_kind.proofs.lemmas.RecordLemmas.{IsItemset-from_cells, IsItemset-to_cells}
 use Rattle.hu_kind.proofs.sequence.Element.new.Goals as goal
 
 pub invariant_of-result : goal.invariant_of-result

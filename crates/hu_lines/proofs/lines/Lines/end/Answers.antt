@@ -1,5 +1,5 @@
 use Rattle.std.proofs.Common.{◌≡◌, true, false, refl}
-use Rattle.hu_lines.proofs.PieceLemmas.{pieces_of_one}
+use Rattle.hu_lines.proofs.lemmas.PieceLemmas.{pieces_of_one}
 use Rattle.hu_lines.proofs.lines.Lines.end.Goals as goal
 use Rattle.hu_lines.proofs.lines.Lines.end.Goals.{then-not-self, else-not-self}
 

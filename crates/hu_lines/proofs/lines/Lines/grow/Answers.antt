@@ -1,5 +1,5 @@
 use Rattle.std.proofs.Common.{sym, ◌∙◌, arith}
-use Rattle.hu_lines.proofs.HeldLemmas.{held_grown}
+use Rattle.hu_lines.proofs.lemmas.HeldLemmas.{held_grown}
 use Rattle.hu_lines.proofs.lines.Lines.grow.Goals as goal
 
 pub invariant_of-self : goal.invariant_of-self

@@ -1,5 +1,5 @@
 use Rattle.hu_lines.specs.Held.{state_of}
-use Rattle.hu_lines.proofs.HeldLemmas.{held_short}
+use Rattle.hu_lines.proofs.lemmas.HeldLemmas.{held_short}
 use Rattle.hu_lines.proofs.lines.Lines.line.Goals as goal
 
 pub returns-clause-short : goal.returns-clause-short

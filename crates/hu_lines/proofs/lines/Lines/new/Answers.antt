@@ -1,5 +1,5 @@
 use Rattle.std.proofs.Common.{refl, arith}
-use Rattle.hu_lines.proofs.HeldLemmas.{held_empty}
+use Rattle.hu_lines.proofs.lemmas.HeldLemmas.{held_empty}
 use Rattle.hu_lines.proofs.lines.Lines.new.Goals as goal
 
 pub invariant_of-result : goal.invariant_of-result

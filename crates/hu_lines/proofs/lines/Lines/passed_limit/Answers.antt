@@ -1,7 +1,7 @@
 use Rattle.std.proofs.Common.{◌≡◌, ℕ, Bool, true, false, refl, ◌+◌, ◌-◌, cond, length, sym, ap, ◌∙◌, arith}
 use mir.Val.{bool_byte}
 use Rattle.hu_lines.specs.Pieces.{has_line_feed}
-use Rattle.hu_lines.proofs.LimitLemmas.{refusal_by_length, line_feed-le}
+use Rattle.hu_lines.proofs.lemmas.LimitLemmas.{refusal_by_length, line_feed-le}
 use Rattle.hu_lines.proofs.lines.Lines.passed_limit.Goals as goal
 
 as_number : (t : Bool) → bool_byte t ≡ cond t 1 0

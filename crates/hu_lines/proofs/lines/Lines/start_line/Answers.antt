@@ -1,5 +1,5 @@
 use Rattle.std.proofs.Common.{◌+◌, ◌≤◌, length, refl, arith}
-use Rattle.hu_lines.proofs.HeldLemmas.{kept_within, held_empty}
+use Rattle.hu_lines.proofs.lemmas.HeldLemmas.{kept_within, held_empty}
 use Rattle.hu_lines.proofs.lines.Lines.start_line.Goals as goal
 
 pub invariant_of-self : goal.invariant_of-self

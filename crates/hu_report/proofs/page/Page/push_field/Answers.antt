@@ -1,7 +1,7 @@
 use Rattle.std.proofs.Common.{rules, refl}
 use Rattle.std.specs.Fmt.{signed_decimal}
 use Rattle.std.proofs.lemmas.Int.{to_z-of_z}
-use Rattle.hu_report.proofs.PutLemmas.{Passes-append, Passes-longer}
+use Rattle.hu_report.proofs.lemmas.PutLemmas.{Passes-append, Passes-longer}
 use Rattle.hu_report.proofs.page.Page.push_field.Goals as goal
 
 pub returns-in_err-push-clause-bytes : goal.returns-in_err-push-clause-bytes

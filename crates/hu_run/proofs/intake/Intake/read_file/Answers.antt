@@ -1,5 +1,5 @@
 use Rattle.std.proofs.Common.{arith}
-use Rattle.hu_lines.proofs.HeldLemmas.{held_within}
+use Rattle.hu_lines.proofs.lemmas.HeldLemmas.{held_within}
 use Rattle.hu_run.proofs.intake.Intake.read_file.Goals as goal
 
 pub overflow_add-at : goal.overflow_add-at

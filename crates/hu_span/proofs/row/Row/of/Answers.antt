@@ -1,7 +1,7 @@
 use Rattle.std.proofs.Common.{FitsSigned, arith}
 use Rattle.std.specs.Int.{w128}
 use Rattle.std.proofs.lemmas.Int.{ints, to_z-of_z}
-use Rattle.hu_chain.proofs.Reached.{grown_from-itself}
+use Rattle.hu_chain.proofs.lemmas.Reached.{grown_from-itself}
 use Rattle.hu_span.specs.declared.row.Row.{Row}
 use Rattle.hu_span.specs.Row.{IsRow}
 use Rattle.hu_span.proofs.RowLemmas.{Ends-reached, IsRow-from}

@@ -11,9 +11,9 @@ use Rattle.hu_totals.specs.Totals.{item_totals}
 use Rattle.hu_totals.specs.Laws.{KeepsSets, RanksHigh, KeepsPatterns}
 use Rattle.hu_totals.specs.Ranked.{IsRanking, ranked_items, over_ranks}
 use Rattle.hu_totals.specs.Weights.{by_weight, numbers_of}
-use Rattle.hu_totals.proofs.SortedLists.{IsDistinct-from_once}
-use Rattle.hu_totals.proofs.WeightLemmas.{by_weight-item_totals, apart-item_totals, Once-ranked_items}
-use Rattle.hu_totals.proofs.RankingRules.{IsRanking-ranked, ranking-is}
+use Rattle.hu_totals.proofs.lemmas.SortedLists.{IsDistinct-from_once}
+use Rattle.hu_totals.proofs.lemmas.WeightLemmas.{by_weight-item_totals, apart-item_totals, Once-ranked_items}
+use Rattle.hu_totals.proofs.lemmas.RankingRules.{IsRanking-ranked, ranking-is}
 use Rattle.hu_totals.proofs.LawLemmas.{KeepsSets-ranked, RanksHigh-ranked, KeepsPatterns-ranked}
 use Rattle.hu_totals.proofs.ranked.Ranked.of.Goals as goal
 

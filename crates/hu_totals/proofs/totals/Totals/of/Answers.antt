@@ -6,9 +6,9 @@ use Rattle.hu_kind.specs.Record.{absolute_of, items_in}
 use Rattle.hu_kind.specs.Order.{Ascend}
 use Rattle.hu_totals.specs.Totals.{item_totals}
 use Rattle.hu_totals.specs.Adding.{total_in, with_record, HasRoom}
-use Rattle.hu_totals.proofs.RecordCells.{Ascend-record}
-use Rattle.hu_totals.proofs.AddingLemmas.{total_in-item_totals, with_record-item_totals}
-use Rattle.hu_totals.proofs.RoomLemmas.{HasRoom-total_of}
+use Rattle.hu_totals.proofs.lemmas.RecordCells.{Ascend-record}
+use Rattle.hu_totals.proofs.lemmas.AddingLemmas.{total_in-item_totals, with_record-item_totals}
+use Rattle.hu_totals.proofs.lemmas.RoomLemmas.{HasRoom-total_of}
 use Rattle.hu_totals.proofs.totals.Totals.of.Goals as goal
 
 pub add_record-requires-clause-ascending : goal.add_record-requires-clause-ascending

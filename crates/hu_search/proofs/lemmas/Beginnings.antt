@@ -3,7 +3,7 @@ use Rattle.std.proofs.Common.{◌≡◌, ℕ, ◌<◌, List, ◌∷◌, ◌++◌
 use Rattle.hu_kind.specs.declared.entry.Entry.{Entry}
 use Rattle.hu_kind.specs.Database.{support}
 use Rattle.hu_kind.specs.Order.{Ascend}
-use Rattle.hu_kind.proofs.Members.{Member}
+use Rattle.hu_kind.proofs.lemmas.Members.{Member}
 use Rattle.hu_totals.specs.Ranked.{Ranking}
 use Rattle.hu_search.specs.Growth.{rank_entry}
 

@@ -8,12 +8,12 @@ use Rattle.indexmap.specs.IndexMap.{insert_entry}
 use Rattle.hu_kind.specs.Order.{Ascend}
 use Rattle.hu_kind.specs.Record.{has, holds, value_of, utility_in, positive_part, gain, items_in}
 use Rattle.hu_kind.specs.Database.{utility, support, twu}
-use Rattle.hu_kind.proofs.Members.{Member, Member-append_left, Member-append_right, Member-filter, Member-from_filter}
+use Rattle.hu_kind.proofs.lemmas.Members.{Member, Member-append_left, Member-append_right, Member-filter, Member-from_filter}
 use Rattle.hu_totals.specs.declared.totals.ItemTotal.{ItemTotal}
 use Rattle.hu_totals.specs.Totals.{positive, first_seen, total_of, item_totals}
 use Rattle.hu_totals.specs.Adding.{no_total, total_in, grown, with_cell, with_record}
-use Rattle.hu_totals.proofs.RecordCells.{has-below, value_of-absent}
-use Rattle.hu_totals.proofs.SortedLists.{Once}
+use Rattle.hu_totals.proofs.lemmas.RecordCells.{has-below, value_of-absent}
+use Rattle.hu_totals.proofs.lemmas.SortedLists.{Once}
 
 -- ---- a key put to keys, at its place or last
 

@@ -7,7 +7,7 @@ use Rattle.std.proofs.lemmas.Bool.{eqb-true, ne_eqb}
 use Rattle.hu_kind.specs.Record.{absolute_of, has, holds, items_in, total, value_of, values_of, IsItemset}
 use Rattle.hu_kind.specs.Sequence.{better, best_utility}
 use Rattle.hu_kind.specs.Order.{Ascend}
-use Rattle.hu_kind.proofs.Occurring.{at_member, has-member}
+use Rattle.hu_kind.proofs.lemmas.Occurring.{at_member, has-member}
 use Rattle.hu_chain.specs.declared.chain.Growth.{Growth}
 use Rattle.hu_chain.specs.declared.chain.Growth.TheVariants.{IntoLast, AfterLast}
 use Rattle.hu_chain.specs.declared.place.Place.{Place}
@@ -17,13 +17,13 @@ use Rattle.hu_chain.specs.Place.{cell_of, chain_of, totals}
 use Rattle.hu_chain.specs.Bound.{best_of, extension_bound, greatest, reach, reduced_bound, IsAtMost, IsFit, KeepsRules}
 use Rattle.hu_chain.specs.Search.{found, occurs, IsPlain}
 use Rattle.hu_chain.proofs.Better.{better-assoc, map-better}
-use Rattle.hu_chain.proofs.Patterns.{Ends-can_grow, Ends-grown}
+use Rattle.hu_chain.proofs.lemmas.Patterns.{Ends-can_grow, Ends-grown}
 use Rattle.hu_chain.proofs.Endings.{ended, best_utility-more, best_utility-nowhere}
 use Rattle.hu_chain.proofs.Places.{best_of-chain_of, chain_of-places, place_by, place_in, places_in}
 use Rattle.hu_chain.proofs.Finding.{found-whole, place_in-after, place_in-into, place_of_item}
-use Rattle.hu_chain.proofs.Cells.{all-above, each-drop, total-above, total-item, Ascend-itemset, IsAbove}
+use Rattle.hu_chain.proofs.lemmas.Cells.{all-above, each-drop, total-above, total-item, Ascend-itemset, IsAbove}
 use Rattle.hu_chain.proofs.Tails.{totals-absolute}
-use Rattle.hu_chain.proofs.Growing.{holds-last, occurs-grown}
+use Rattle.hu_chain.proofs.lemmas.Growing.{holds-last, occurs-grown}
 
 -- ---- none is below every utility
 

@@ -26,17 +26,17 @@ use Rattle.hu_kind.specs.Cell.{pair_of, pairs_of}
 use Rattle.hu_kind.specs.Order.{ranking}
 use Rattle.hu_kind.specs.Record.{items_in}
 use Rattle.hu_kind.specs.Database.{twu, items_of}
-use Rattle.hu_kind.proofs.Members.{Member-filter, Member-from_filter}
-use Rattle.hu_kind.proofs.Occurring.{Member-ranking}
-use Rattle.hu_kind.proofs.RankingLemmas.{IsExactOrder, ranking-permutation, ranking-sorted}
+use Rattle.hu_kind.proofs.lemmas.Members.{Member-filter, Member-from_filter}
+use Rattle.hu_kind.proofs.lemmas.Occurring.{Member-ranking}
+use Rattle.hu_kind.proofs.lemmas.RankingLemmas.{IsExactOrder, ranking-permutation, ranking-sorted}
 use Rattle.hu_totals.specs.declared.totals.ItemTotal.{ItemTotal}
 use Rattle.hu_totals.specs.declared.weights.Weighed.{Weighed}
 use Rattle.hu_totals.specs.Totals.{first_seen, total_of, item_totals}
 use Rattle.hu_totals.specs.Ranked.{by_twu, ranked_items}
 use Rattle.hu_totals.specs.Weights.{weight_cmp, weights, by_weight, weight_of, numbers_of, dense_of, dense_cells}
-use Rattle.hu_totals.proofs.AddingLemmas.{Once-first_seen, Member-first_seen, Member-from_first_seen}
+use Rattle.hu_totals.proofs.lemmas.AddingLemmas.{Once-first_seen, Member-first_seen, Member-from_first_seen}
 use Rattle.hu_totals.specs.Weights.{same_item}
-use Rattle.hu_totals.proofs.SortedLists.{Once, IsDistinct-from_once, Once-from_sorted, Member-from_ranking, sorted-ranking, ranking-members}
+use Rattle.hu_totals.proofs.lemmas.SortedLists.{Once, IsDistinct-from_once, Once-from_sorted, Member-from_ranking, sorted-ranking, ranking-members}
 
 -- ---- one place more
 

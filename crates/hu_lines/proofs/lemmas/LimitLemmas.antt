@@ -8,7 +8,7 @@ use Rattle.hu_lines.specs.declared.limits.TheConstants.{LONGEST_LINE, LARGEST_IN
 use Rattle.hu_lines.specs.Pieces.{has_line_feed, first_piece, body_of, without_last}
 use Rattle.hu_lines.specs.Limits.{refusal, limit_passed}
 use Rattle.hu_lines.specs.Laws.{RefusalStands, FirstRefusalStands}
-use Rattle.hu_lines.proofs.PieceLemmas.{has_line_feed-append, first_piece-append, first_piece-append_after, first_piece_open}
+use Rattle.hu_lines.proofs.lemmas.PieceLemmas.{has_line_feed-append, first_piece-append, first_piece-append_after, first_piece_open}
 
 -- what passes no limit is within both
 passed-none : (longest largest number before inner whole : ℕ) → inner ≤ whole → limit_passed longest largest number before inner whole ≡ None → (before + whole ≤ largest) × (inner ≤ longest)

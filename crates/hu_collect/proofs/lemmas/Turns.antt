@@ -3,7 +3,7 @@ use Rattle.std.proofs.Common.{◌≡◌, true, ◌≤ℤ◌, List, [], ◌++◌,
 use Rattle.std.proofs.lemmas.Int.{ints}
 use Rattle.std.proofs.lemmas.List.Elements.{All-contains_itself, All-weaker}
 use Rattle.hu_kind.specs.declared.entry.Entry.{Entry}
-use Rattle.hu_kind.proofs.Members.{Member-append_left, Member-append_right, Member-append_cases, Member-from_contains, Contains-from_member}
+use Rattle.hu_kind.proofs.lemmas.Members.{Member-append_left, Member-append_right, Member-append_cases, Member-from_contains, Contains-from_member}
 use Rattle.hu_collect.specs.Rule.{Rule, passes, made, floor_of, IsKept, MakesSome}
 use Rattle.hu_collect.specs.Laws.{MakesInTurn, MakesByMembers, MakesByReaching, KeepsFloor}
 use Rattle.hu_collect.specs.Makes.{MakesReaching, MakesSomeOf}

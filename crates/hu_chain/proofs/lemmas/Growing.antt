@@ -15,7 +15,7 @@ use Rattle.hu_chain.specs.Grown.{grown, CanGrow}
 use Rattle.hu_chain.specs.Place.{cell_of, chain_of, element_at, totals}
 use Rattle.hu_chain.specs.Bound.{best_of}
 use Rattle.hu_chain.specs.Search.{best_past, followed_places, follows, found, found_at, joined_places, joins, left_past, occurs, walked, IsPlaceOf, IsPlain, MayFollow}
-use Rattle.hu_chain.proofs.Patterns.{Ends-after, Ends-into}
+use Rattle.hu_chain.proofs.lemmas.Patterns.{Ends-after, Ends-into}
 use Rattle.hu_chain.proofs.Endings.{ended, best_utility-more, best_utility-nowhere}
 use Rattle.hu_chain.proofs.Places.{best_of-chain_of, chain_of-places, drop-between, element_at-between, length-more, place_by, place_in, places_in}
 use Rattle.hu_chain.proofs.Finding.{chain_of-into, found-whole, place_in-after, place_of_item}

@@ -10,8 +10,8 @@ use Rattle.hu_lines.specs.declared.lines.Lines.TheInside.{Inside}
 use Rattle.hu_lines.specs.Held.{state_of, IsKept}
 use Rattle.hu_lines.specs.Lines.{State, begun, ended_piece, IsHeld, HasLine}
 use Rattle.hu_lines.specs.Laws.{HeldComesFirst, FedComesFirst}
-use Rattle.hu_lines.proofs.PieceLemmas.{has_line_feed-append, first_piece-append, first_piece_split, one_piece_of, whole_piece_first}
-use Rattle.hu_lines.proofs.LimitLemmas.{refusal-none, refusal-empty, length-body-le, length-without_last-le}
+use Rattle.hu_lines.proofs.lemmas.PieceLemmas.{has_line_feed-append, first_piece-append, first_piece_split, one_piece_of, whole_piece_first}
+use Rattle.hu_lines.proofs.lemmas.LimitLemmas.{refusal-none, refusal-empty, length-body-le, length-without_last-le}
 
 -- the bytes held and those before them are within the run's limit
 pub held_within : (s : State) → IsHeld s → s.before + length s.bytes ≤ LARGEST_INPUT

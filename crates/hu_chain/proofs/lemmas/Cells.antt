@@ -8,7 +8,7 @@ use Rattle.hu_kind.specs.declared.item.Cell.{Cell}
 use Rattle.hu_kind.specs.Cell.{pairs_of, pair_of}
 use Rattle.hu_kind.specs.Record.{any_negative, has, items_in, total, value_of, IsItemset}
 use Rattle.hu_kind.specs.Order.{Ascend}
-use Rattle.hu_kind.proofs.Occurring.{above_all}
+use Rattle.hu_kind.proofs.lemmas.Occurring.{above_all}
 use Rattle.hu_chain.specs.Place.{cell_of}
 use Rattle.hu_chain.specs.Search.{cell_in}
 

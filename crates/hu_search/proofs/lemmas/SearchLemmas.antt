@@ -9,19 +9,19 @@ use Rattle.std.specs.Bool.{if◌then◌else◌}
 use Rattle.hu_kind.specs.Record.{holds, values_of}
 use Rattle.hu_kind.specs.Database.{utility, support}
 use Rattle.hu_kind.specs.Order.{Ascend}
-use Rattle.hu_kind.proofs.Members.{Member, Member-append_left, Member-append_right, Member-append_cases, Member-from_contains, Contains-from_member}
-use Rattle.hu_kind.proofs.Occurring.{count-member}
+use Rattle.hu_kind.proofs.lemmas.Members.{Member, Member-append_left, Member-append_right, Member-append_cases, Member-from_contains, Contains-from_member}
+use Rattle.hu_kind.proofs.lemmas.Occurring.{count-member}
 use Rattle.hu_totals.specs.Ranked.{Ranking, IsRanking}
 use Rattle.hu_collect.specs.Rule.{Rule, passes, made, floor_of, IsKept}
 use Rattle.hu_collect.specs.Laws.{MakesInTurn, KeepsFloor, LeavesBelowFloor}
 use Rattle.hu_collect.specs.Ranks.{IsRankSet, key_of, is_part, CanOpen, IsGrown, RestsOn}
 use Rattle.hu_search.specs.Growth.{rank_entry, Grows, Covers}
 use Rattle.hu_collect.specs.Makes.{MakesReaching, MakesSomeOf}
-use Rattle.hu_search.proofs.Beginnings.{Begins}
-use Rattle.hu_search.proofs.Ascending.{Ascend-right, each-get}
+use Rattle.hu_search.proofs.lemmas.Beginnings.{Begins}
+use Rattle.hu_search.proofs.lemmas.Ascending.{Ascend-right, each-get}
 use Rattle.hu_search.proofs.KeyLemmas.{IsRankSet-from, is_part-key_of}
 use Rattle.hu_search.proofs.UnrankLemmas.{InTable-occurs}
-use Rattle.hu_collect.proofs.Turns.{MakesReaching-none, MakesReaching-then, MakesReaching-as, MakesSomeOf-then, MakesSomeOf-as, kept-made, empty-contains}
+use Rattle.hu_collect.proofs.lemmas.Turns.{MakesReaching-none, MakesReaching-then, MakesReaching-as, MakesSomeOf-then, MakesSomeOf-as, kept-made, empty-contains}
 
 -- ---- the set of a branch itself
 

@@ -10,7 +10,7 @@ use Rattle.hu_kind.specs.Record.{has, holds, items_in}
 use Rattle.hu_kind.specs.Database.{support, items_of}
 use Rattle.hu_kind.specs.Itemsets.{sublists, occurring_sets}
 use Rattle.hu_kind.specs.Order.{ranking, Ascend}
-use Rattle.hu_kind.proofs.Members.{Member, Member-append_left, Member-append_right, Member-append_cases, Member-map, Member-from_map, Member-flat_map, Member-filter, Member-from_filter}
+use Rattle.hu_kind.proofs.lemmas.Members.{Member, Member-append_left, Member-append_right, Member-append_cases, Member-map, Member-from_map, Member-flat_map, Member-filter, Member-from_filter}
 
 -- what holds of each element holds of a member
 pub at_member : {A : Type 0} (P : A → Type 0) (x : A) (xs : List A) → AllByRecursion P xs → Member x xs → P x

@@ -16,15 +16,15 @@ use Rattle.std.proofs.lemmas.Map.Lookups.{exact_pairs, exact_unsigned, exact_sig
 use Rattle.hu_kind.specs.Cells.{pair_cmp}
 use Rattle.hu_kind.specs.Order.{ranking, Ascend}
 use Rattle.hu_kind.specs.Record.{has, value_of, items_in, absolute_of}
-use Rattle.hu_kind.proofs.Members.{Member}
-use Rattle.hu_kind.proofs.Occurring.{at_member}
-use Rattle.hu_kind.proofs.RankingLemmas.{IsExactOrder, ranking-permutation, ranking-sorted}
+use Rattle.hu_kind.proofs.lemmas.Members.{Member}
+use Rattle.hu_kind.proofs.lemmas.Occurring.{at_member}
+use Rattle.hu_kind.proofs.lemmas.RankingLemmas.{IsExactOrder, ranking-permutation, ranking-sorted}
 use Rattle.hu_totals.specs.declared.ranked.Dense.{Dense}
 use Rattle.hu_totals.specs.Ranked.{cells_from}
 use Rattle.hu_totals.specs.View.{dense_pair}
 use Rattle.hu_totals.specs.Weights.{dense_of, dense_cells}
-use Rattle.hu_totals.proofs.RecordCells.{has-below}
-use Rattle.hu_totals.proofs.SortedLists.{Once, IsDistinct-from_once}
+use Rattle.hu_totals.proofs.lemmas.RecordCells.{has-below}
+use Rattle.hu_totals.proofs.lemmas.SortedLists.{Once, IsDistinct-from_once}
 
 -- ---- the rank of an item, by recursion
 

@@ -12,8 +12,8 @@ use Rattle.hu_kind.specs.Order.{Ascend}
 use Rattle.hu_kind.specs.Record.{has, holds, items_in}
 use Rattle.hu_kind.specs.Database.{support, items_of}
 use Rattle.hu_kind.specs.Itemsets.{is_closed, goes_with}
-use Rattle.hu_kind.proofs.Members.{Member, Member-flat_map}
-use Rattle.hu_kind.proofs.Occurring.{Member-ranking, has-member}
+use Rattle.hu_kind.proofs.lemmas.Members.{Member, Member-flat_map}
+use Rattle.hu_kind.proofs.lemmas.Occurring.{Member-ranking, has-member}
 use Rattle.hu_closed.specs.Keys.{ascends_above, holds_key, is_among, is_closed_key, is_outside, is_set_key, key_support, stands_with, IsSet}
 use Rattle.hu_closed.proofs.KeyLemmas.{ascends-next}
 use Rattle.hu_closed.proofs.ListTests.{all-at, all-from, all-not, all-same, any-members, count-same}

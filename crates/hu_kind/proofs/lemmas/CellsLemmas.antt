@@ -16,7 +16,7 @@ use Rattle.hu_kind.specs.declared.item.Cell.{Cell}
 use Rattle.hu_kind.specs.Cell.{pair_of, pairs_of}
 use Rattle.hu_kind.specs.Cells.{pair_cmp, by_item, times, twice, IsFirstTwice}
 use Rattle.hu_kind.specs.Record.{items_in}
-use Rattle.hu_kind.proofs.RankingLemmas.{IsExactOrder, ranking-permutation, ranking-sorted}
+use Rattle.hu_kind.proofs.lemmas.RankingLemmas.{IsExactOrder, ranking-permutation, ranking-sorted}
 
 times-cons : (e x : ℕ) (xs : List ℕ) → times e (x ∷ xs) ≡ cond (x == e) 1 0 + times e xs
 times-cons e x xs = sum_by-cons (λ other. cond (other == e) 1 0) x xs

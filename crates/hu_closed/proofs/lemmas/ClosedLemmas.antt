@@ -6,14 +6,14 @@ use Rattle.hu_kind.specs.declared.entry.Entry.{Entry}
 use Rattle.hu_kind.specs.Order.{entry_cmp, ranking, cut}
 use Rattle.hu_kind.specs.Record.{items_in, IsRecord}
 use Rattle.hu_kind.specs.Itemsets.{is_closed, item_entry, occurring_sets}
-use Rattle.hu_kind.proofs.Members.{Member}
-use Rattle.hu_kind.proofs.Occurring.{Member-ranking, Occurs-from_member, at_member, by_members, held-members}
+use Rattle.hu_kind.proofs.lemmas.Members.{Member}
+use Rattle.hu_kind.proofs.lemmas.Occurring.{Member-ranking, Occurs-from_member, at_member, by_members, held-members}
 use Rattle.hu_collect.specs.Rule.{Rule, floor_of, made, passes, IsKept}
-use Rattle.hu_collect.proofs.Made.{leaves_below_floor}
+use Rattle.hu_collect.proofs.lemmas.Made.{leaves_below_floor}
 use Rattle.hu_closed.specs.Keys.{is_closed_key}
 use Rattle.hu_closed.specs.ClosedOnly.{closed_rule, MakesClosed}
-use Rattle.hu_closed.proofs.Closedness.{is_closed_key-items}
-use Rattle.hu_closed.proofs.RankLemmas.{occurs-in_range}
+use Rattle.hu_closed.proofs.lemmas.Closedness.{is_closed_key-items}
+use Rattle.hu_closed.proofs.lemmas.RankLemmas.{occurs-in_range}
 
 -- ---- entries that change nothing
 

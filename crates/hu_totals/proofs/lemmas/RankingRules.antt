@@ -8,8 +8,8 @@ use Rattle.std.proofs.lemmas.Map.Steps.{length-le_from_distinct_below}
 use Rattle.hu_kind.specs.Order.{Ascend}
 use Rattle.hu_kind.specs.Record.{has, value_of, items_in, absolute_of, IsRecord}
 use Rattle.hu_kind.specs.Database.{twu, items_of}
-use Rattle.hu_kind.proofs.Members.{Member, Member-from_filter, Member-from_flat_map, Member-from_map, Contains-from_member}
-use Rattle.hu_kind.proofs.Occurring.{at_member}
+use Rattle.hu_kind.proofs.lemmas.Members.{Member, Member-from_filter, Member-from_flat_map, Member-from_map, Contains-from_member}
+use Rattle.hu_kind.proofs.lemmas.Occurring.{at_member}
 use Rattle.std.specs.Ordering.{nat_cmp}
 use Rattle.std.specs.declared.vec.Vec.{Vec}
 use Rattle.std.specs.declared.alloc.Global.{Global}
@@ -18,10 +18,10 @@ use Rattle.hu_totals.specs.declared.ranked.Dense.{Dense}
 use Rattle.hu_totals.specs.View.{pairs_in, ranking_of}
 use Rattle.hu_totals.specs.Weights.{numbers_of}
 use Rattle.hu_totals.specs.Ranked.{IsRanking, by_twu, ranked, ranked_items, cells_from, over_ranks}
-use Rattle.hu_totals.proofs.RecordCells.{Ascend-record}
-use Rattle.hu_totals.proofs.SortedLists.{Once, IsDistinct-from_once, Member-from_ranking}
-use Rattle.hu_totals.proofs.DenseLemmas.{ranks_from, cells_from-within}
-use Rattle.hu_totals.proofs.WeightLemmas.{Once-ranked_items}
+use Rattle.hu_totals.proofs.lemmas.RecordCells.{Ascend-record}
+use Rattle.hu_totals.proofs.lemmas.SortedLists.{Once, IsDistinct-from_once, Member-from_ranking}
+use Rattle.hu_totals.proofs.lemmas.DenseLemmas.{ranks_from, cells_from-within}
+use Rattle.hu_totals.proofs.lemmas.WeightLemmas.{Once-ranked_items}
 
 -- what holds of each element by recursion holds at each place
 pub All-from_each : {A : Type 0} (P : A → Type 0) (xs : List A) → AllByRecursion P xs → All P xs

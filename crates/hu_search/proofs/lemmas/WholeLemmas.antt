@@ -4,15 +4,15 @@ use Rattle.std.specs.List.{range_with_len}
 use Rattle.hu_kind.specs.declared.entry.Entry.{Entry}
 use Rattle.hu_kind.specs.Database.{support}
 use Rattle.hu_kind.specs.Itemsets.{item_patterns}
-use Rattle.hu_kind.proofs.Members.{Member-from_contains, Contains-from_member}
+use Rattle.hu_kind.proofs.lemmas.Members.{Member-from_contains, Contains-from_member}
 use Rattle.hu_totals.specs.Ranked.{Ranking, IsRanking, unranked}
 use Rattle.hu_collect.specs.Rule.{Rule, made, MakesSome}
 use Rattle.hu_collect.specs.Laws.{MakesInTurn, MakesByMembers, MakesByReaching}
 use Rattle.hu_search.specs.Growth.{Grows, Covers, InTable}
 use Rattle.hu_collect.specs.Makes.{MakesReaching, MakesSomeOf}
-use Rattle.hu_search.proofs.Ascending.{each-weaker, Member-range}
+use Rattle.hu_search.proofs.lemmas.Ascending.{each-weaker, Member-range}
 use Rattle.hu_search.proofs.UnrankLemmas.{InTable-occurs, pattern-grows, grows-pattern}
-use Rattle.hu_collect.proofs.Turns.{made-all, MakesSome-all}
+use Rattle.hu_collect.proofs.lemmas.Turns.{made-all, MakesSome-all}
 
 -- all ranks cover what grows the empty set
 pub Covers-first : (r : Ranking) (rule : Rule) (content : List Entry) (taken set : List ℕ) → IsRanking r → taken ≡ range_with_len 0 (length r.items) → set ≡ [] → Covers rule content r set taken

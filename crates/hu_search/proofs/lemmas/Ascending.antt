@@ -4,8 +4,8 @@ use Rattle.std.specs.List.{AllByRecursion, AllAdjacentBelow, range_with_len}
 use Rattle.std.proofs.lemmas.Bool.{cases_eq}
 use Rattle.hu_kind.specs.Record.{items_in}
 use Rattle.hu_kind.specs.Order.{Ascend}
-use Rattle.hu_kind.proofs.Members.{Member, Member-append_right}
-use Rattle.hu_kind.proofs.Occurring.{above_all, at_member}
+use Rattle.hu_kind.proofs.lemmas.Members.{Member, Member-append_right}
+use Rattle.hu_kind.proofs.lemmas.Occurring.{above_all, at_member}
 
 Ascend-adjacent-from : (first : ℕ × ℤ) (cells : List (ℕ × ℤ)) → AllAdjacentBelow (λ a b. a.0 < b.0) (first ∷ cells) (length (first ∷ cells)) → Ascend (items_in (first ∷ cells))
 Ascend-adjacent-from first [] up = (tt, tt)

@@ -4,7 +4,7 @@ use Rattle.std.specs.List.{AllByRecursion, AllAdjacentBelow}
 use Rattle.std.proofs.lemmas.Bool.{ne_eqb}
 use Rattle.hu_kind.specs.Order.{Ascend}
 use Rattle.hu_kind.specs.Record.{has, value_of, items_in, IsRecord}
-use Rattle.hu_kind.proofs.Occurring.{above_all}
+use Rattle.hu_kind.proofs.lemmas.Occurring.{above_all}
 
 Ascend-from : (first : ℕ × ℤ) (cells : List (ℕ × ℤ)) → AllAdjacentBelow (λ a b. a.0 < b.0) (first ∷ cells) (length (first ∷ cells)) → Ascend (items_in (first ∷ cells))
 Ascend-from first [] up = (tt, tt)

@@ -9,8 +9,8 @@ use Rattle.std.proofs.lemmas.Cmp.{tied_itself}
 use Rattle.std.proofs.lemmas.Bool.{ne_eqb, eqb-false}
 use Rattle.std.proofs.lemmas.Map.Lookups.{CmpEqualImpliesEq}
 use Rattle.hu_kind.specs.Order.{ranking}
-use Rattle.hu_kind.proofs.Members.{Member}
-use Rattle.hu_kind.proofs.Occurring.{at_member}
+use Rattle.hu_kind.proofs.lemmas.Members.{Member}
+use Rattle.hu_kind.proofs.lemmas.Occurring.{at_member}
 
 -- no number stands twice
 abbrev pub Once : List ℕ → Type 0

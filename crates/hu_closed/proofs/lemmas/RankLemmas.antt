@@ -8,18 +8,18 @@ use Rattle.std.proofs.lemmas.List.{get_or_default}
 use Rattle.hu_kind.specs.Order.{ranking}
 use Rattle.hu_kind.specs.Record.{has, items_in, IsRecord}
 use Rattle.hu_kind.specs.Database.{items_of, twu}
-use Rattle.hu_kind.proofs.Members.{Contains-from_member, Member, Member-append_cases, Member-append_left, Member-append_right, Member-from_contains, Member-from_filter, Member-from_flat_map, Member-from_map, Member-map}
-use Rattle.hu_kind.proofs.Occurring.{Ascend-ranking, Member-ranking, at_member, by_members}
+use Rattle.hu_kind.proofs.lemmas.Members.{Contains-from_member, Member, Member-append_cases, Member-append_left, Member-append_right, Member-from_contains, Member-from_filter, Member-from_flat_map, Member-from_map, Member-map}
+use Rattle.hu_kind.proofs.lemmas.Occurring.{Ascend-ranking, Member-ranking, at_member, by_members}
 use Rattle.hu_collect.specs.Ranks.{CanOpen, IsGrown, IsRankSet, key_of}
 use Rattle.hu_totals.specs.Ranked.{Ranking, by_twu, ranked, ranked_items}
-use Rattle.hu_totals.proofs.SortedLists.{Member-from_ranking, IsDistinct-from_once}
-use Rattle.hu_totals.proofs.RankingRules.{All-from_each}
-use Rattle.hu_totals.proofs.WeightLemmas.{Once-ranked_items}
+use Rattle.hu_totals.proofs.lemmas.SortedLists.{Member-from_ranking, IsDistinct-from_once}
+use Rattle.hu_totals.proofs.lemmas.RankingRules.{All-from_each}
+use Rattle.hu_totals.proofs.lemmas.WeightLemmas.{Once-ranked_items}
 use Rattle.std.proofs.lemmas.Map.Keys.{apart_from_distinct}
 use Rattle.hu_closed.specs.Keys.{closes_below, holds_key, is_among, is_closed_key, is_outside, is_set_key, stands_with, IsSet}
 use Rattle.hu_closed.specs.ClosedOnly.{IsRankingOf}
 use Rattle.hu_closed.proofs.ListTests.{all-at, all-from, any-from, any-member}
-use Rattle.hu_closed.proofs.Closedness.{closes, closes-held, is_closed_key-set, same_item, set_key-items}
+use Rattle.hu_closed.proofs.lemmas.Closedness.{closes, closes-held, is_closed_key-set, same_item, set_key-items}
 
 -- ---- ranked items occur, and items that occur are in their range
 

@@ -7,8 +7,8 @@ use Rattle.hu_chain.specs.declared.chain.Growth.{Growth}
 use Rattle.hu_chain.specs.declared.chain.Growth.TheVariants.{IntoLast, AfterLast}
 use Rattle.hu_chain.specs.Pattern.{into, last_item, Ends}
 use Rattle.hu_chain.specs.Grown.{grown, CanGrow, Leads, IsGrownFrom}
-use Rattle.hu_chain.proofs.Patterns.{Ends-after, Ends-into, last_item-after, last_item-into}
-use Rattle.hu_chain.proofs.Bounds.{grown-first}
+use Rattle.hu_chain.proofs.lemmas.Patterns.{Ends-after, Ends-into, last_item-after, last_item-into}
+use Rattle.hu_chain.proofs.lemmas.Bounds.{grown-first}
 
 -- a pattern is grown from itself
 pub grown_from-itself : (pattern : List (List ℕ)) → IsGrownFrom pattern pattern

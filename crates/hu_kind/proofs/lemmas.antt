@@ -1,0 +1,7 @@
+-- The lemmas that proofs of other crates may cite.
+pub mod CellsLemmas
+pub mod FirstLemmas
+pub mod Members
+pub mod Occurring
+pub mod RankingLemmas
+pub mod RecordLemmas

@@ -1,0 +1,4 @@
+-- The lemmas that proofs of other crates may cite.
+pub mod HeldLemmas
+pub mod LimitLemmas
+pub mod PieceLemmas

@@ -1,0 +1,8 @@
+-- The lemmas that proofs of other crates may cite.
+pub mod AddingLemmas
+pub mod DenseLemmas
+pub mod RankingRules
+pub mod RecordCells
+pub mod RoomLemmas
+pub mod SortedLists
+pub mod WeightLemmas
