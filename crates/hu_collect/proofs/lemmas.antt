@@ -3,4 +3,5 @@ pub mod Cutting
 pub mod Entries
 pub mod Floor
 pub mod Made
+pub mod Searching
 pub mod Turns
