@@ -1,5 +1,8 @@
 -- The lemmas that proofs of other crates may cite.
+pub mod Ascending
 pub mod CellsLemmas
+pub mod Each
+pub mod Earned
 pub mod FirstLemmas
 pub mod Members
 pub mod Occurring

@@ -10,3 +10,4 @@ pub mod Rows
 pub mod Token
 pub mod Cells
 pub mod First
+pub mod Laws

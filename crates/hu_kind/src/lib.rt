@@ -5,6 +5,7 @@ mod cells;
 mod entry;
 mod item;
 mod key;
+pub mod laws;
 mod memory;
 mod number;
 mod record;
