@@ -5,6 +5,7 @@ pub mod Each
 pub mod Earned
 pub mod FirstLemmas
 pub mod Members
+pub mod Numerals
 pub mod Occurring
 pub mod RankingLemmas
 pub mod RecordLemmas
