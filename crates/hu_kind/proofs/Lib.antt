@@ -1,3 +1,2 @@
 pub mod lemmas
-mod NumberLemmas
 pub mod TokenLemmas

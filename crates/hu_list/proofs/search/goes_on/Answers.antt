@@ -1,7 +1,7 @@
 use Rattle.std.proofs.Common.{◌∷◌, [], ◌++◌, ◌<◌, ◌<ℤ◌, length, arith}
 use Rattle.std.proofs.lemmas.Int.{ints}
 use Rattle.hu_collect.specs.Rule.{floor_of}
-use Rattle.hu_search.proofs.lemmas.Ascending.{each-append}
+use Rattle.hu_kind.proofs.lemmas.Each.{each-append}
 use Rattle.hu_list.proofs.LevelLemmas.{Covers-below}
 use Rattle.hu_search.proofs.lemmas.SearchLemmas.{Covers-closed, can_open}
 use Rattle.hu_list.proofs.search.goes_on.Goals as goal

@@ -1,9 +1,10 @@
--- Numbers that ascend, and facts of each element of a list.
+-- Numbers that ascend.
 use Rattle.std.proofs.Common.{◌≡◌, ℕ, zero, suc, ◌<◌, ◌≤◌, ◌+◌, ℤ, List, [], ◌∷◌, ◌++◌, length, get_or, refl, arith, subst, inl, inr, All}
 use Rattle.std.specs.List.{AllByRecursion, AllAdjacentBelow, range_with_len}
 use Rattle.std.proofs.lemmas.Bool.{cases_eq}
 use Rattle.hu_kind.specs.Record.{items_in}
 use Rattle.hu_kind.specs.Order.{Ascend}
+use Rattle.hu_kind.proofs.lemmas.Each.{each-from_all, each-weaker, each-left, each-append}
 use Rattle.hu_kind.proofs.lemmas.Members.{Member, Member-append_right}
 use Rattle.hu_kind.proofs.lemmas.Occurring.{above_all, at_member}
 
@@ -21,31 +22,10 @@ pub Ascend-adjacent : (cells : List (ℕ × ℤ)) → AllAdjacentBelow (λ a b. 
 Ascend-adjacent [] up = tt
 Ascend-adjacent (first ∷ cells) up = Ascend-adjacent-from first cells up
 
-pub each-from_all : {A : Type 0} (P : A → Type 0) (xs : List A) → All P xs → AllByRecursion P xs
-each-from_all P [] all = tt
-each-from_all P (x ∷ xs) all = (all 0 x (omega arith), each-from_all P xs (λ k d within. all (suc k) d (omega arith)))
-
-pub each-weaker : {A : Type 0} (P Q : A → Type 0) (xs : List A) → ((x : A) → P x → Q x) → AllByRecursion P xs → AllByRecursion Q xs
-each-weaker P Q [] w all = tt
-each-weaker P Q (x ∷ xs) w all = (w x all.0, each-weaker P Q xs w all.1)
-
 pub each-ascending : (records : List (List (ℕ × ℤ))) → All (λ cells. AllAdjacentBelow (λ a b. a.0 < b.0) cells (length cells)) records → AllByRecursion (λ cells. Ascend (items_in cells)) records
 each-ascending records all =
     each-weaker (λ cells. AllAdjacentBelow (λ a b. a.0 < b.0) cells (length cells)) (λ cells. Ascend (items_in cells)) records Ascend-adjacent
     (each-from_all (λ cells. AllAdjacentBelow (λ a b. a.0 < b.0) cells (length cells)) records all)
-
--- what holds of each element of two lists
-pub each-left : {A : Type 0} (P : A → Type 0) (xs ys : List A) → AllByRecursion P (xs ++ ys) → AllByRecursion P xs
-each-left P [] ys all = tt
-each-left P (x ∷ xs) ys all = (all.0, each-left P xs ys all.1)
-
-pub each-right : {A : Type 0} (P : A → Type 0) (xs ys : List A) → AllByRecursion P (xs ++ ys) → AllByRecursion P ys
-each-right P [] ys all = all
-each-right P (x ∷ xs) ys all = each-right P xs ys all.1
-
-pub each-append : {A : Type 0} (P : A → Type 0) (xs ys : List A) → AllByRecursion P xs → AllByRecursion P ys → AllByRecursion P (xs ++ ys)
-each-append P [] ys all more = more
-each-append P (x ∷ xs) ys all more = (all.0, each-append P xs ys all.1 more)
 
 -- the parts of ascending numbers
 pub Ascend-left : (xs ys : List ℕ) → Ascend (xs ++ ys) → Ascend xs
@@ -72,12 +52,6 @@ pub each-in_range : (n : ℕ) (records : List (List (ℕ × ℤ))) → All (λ c
 each-in_range n records all =
     each-weaker (λ cells. All (λ cell. cell.0 < n) cells) (λ cells. AllByRecursion (λ cell. cell.0 < n) cells) records (λ cells. each-from_all (λ cell. cell.0 < n) cells)
     (each-from_all (λ cells. All (λ cell. cell.0 < n) cells) records all)
-
--- an element of a list has a fact of each
-pub each-get : {A : Type 0} (P : A → Type 0) (xs : List A) (i : ℕ) (d : A) → AllByRecursion P xs → i < length xs → P (get_or xs i d)
-each-get P [] i d all within = absurd (omega arith)
-each-get P (x ∷ xs) zero d all within = all.0
-each-get P (x ∷ xs) (suc i) d all within = each-get P xs i d all.1 (omega arith)
 
 -- the numbers of a range
 pub Member-range : (a n k : ℕ) → a ≤ k → k < a + n → Member k (range_with_len a n)
