@@ -12,5 +12,5 @@ returns-clause-ok g c =
     let fits : SFits w128 sum = search rules in
     let entry = own_entry c.args.prefix.now c.in_ok-copy_in.field-0 c.args.rows.now (to_z w128 (of_z w128 sum)) (length c.args.rows.now)
     c.in_ok-copy_in.ensures (to_z-of_z w128 sum fits ∙ c.total_earned.ensures) refl in
-    let P : Entry → Type 0 = λ e. OnOk c.offer.result (g.C.Collect.content c.offer.new.self ≡ made (g.C.Collect.rule c.args.collect.now) (g.C.Collect.content c.args.collect.now) (e ∷ [])) in
+    let P : Entry → Type 0 = λ e. OnOk c.offer.result ((g.C.Collect.state c.offer.new.self).content ≡ made ((g.C.Collect.state c.args.collect.now).rule) ((g.C.Collect.state c.args.collect.now).content) (e ∷ [])) in
     subst P entry c.offer.ensures.ok

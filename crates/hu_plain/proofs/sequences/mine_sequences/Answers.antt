@@ -12,7 +12,7 @@ returns-clause-ok g c =
     let first = ap all_places c.deref.ensures.value ∙ c.in_ok-rows.ensures.value ∙ ap (λ rs. map first_places rs) c.records.ensures in
     let are = subst (λ rs. ArePlaces (all_places rs)) (sym c.deref.ensures.value) c.in_ok-rows.ensures.rules in
     on_ok_weaker c.search.result
-    (makes-patterns (g.C.Collect.rule c.args.collect.now) (g.C.Collect.content c.args.collect.now) (g.C.Collect.content c.search.new.collect) c.new.result found (records_of c.args.base.now) c.new.ensures first are c.law_of_members.ensures)
+    (makes-patterns ((g.C.Collect.state c.args.collect.now).rule) ((g.C.Collect.state c.args.collect.now).content) ((g.C.Collect.state c.search.new.collect).content) c.new.result found (records_of c.args.base.now) c.new.ensures first are c.law_of_members.ensures)
     c.search.ensures.ok
 
 pub returns-clause-err : goal.returns-clause-err
@@ -21,5 +21,5 @@ returns-clause-err g c =
     let first = ap all_places c.deref.ensures.value ∙ c.in_ok-rows.ensures.value ∙ ap (λ rs. map first_places rs) c.records.ensures in
     let are = subst (λ rs. ArePlaces (all_places rs)) (sym c.deref.ensures.value) c.in_ok-rows.ensures.rules in
     on_err_weaker c.search.result
-    (makes-some_patterns (g.C.Collect.rule c.args.collect.now) (g.C.Collect.content c.args.collect.now) (g.C.Collect.content c.search.new.collect) c.new.result found (records_of c.args.base.now) c.new.ensures first are)
+    (makes-some_patterns ((g.C.Collect.state c.args.collect.now).rule) ((g.C.Collect.state c.args.collect.now).content) ((g.C.Collect.state c.search.new.collect).content) c.new.result found (records_of c.args.base.now) c.new.ensures first are)
     c.search.ensures.err
