@@ -4,6 +4,7 @@ ghost use Rattle.std.specs.Prelude.{◌≡◌, [], ◌∷◌, ◌++◌, pos, IfO
 ghost use Rattle.hu_kind.specs.Itemsets.{item_patterns};
 ghost use Rattle.hu_base.specs.Base.{records_of};
 ghost use Rattle.hu_collect.specs.Rule.{made, IsKept, MakesSome};
+ghost use Rattle.hu_collect.specs.State.{Mines};
 ghost use Rattle.hu_plain.specs.Row.{grown_entry, grown_patterns, grown_rows, AreRows};
 ghost use Rattle.hu_plain.specs.Grown.{AreGrown};
 ghost use Rattle.hu_plain.specs.View.{rows_of};
@@ -24,9 +25,7 @@ pub fn mine_items<C: Collect>(
     base: &Base<Record>,
     collect: &mut C,
 ) -> Result<(), NoMemory>
-    ensures rule { (C.state collect.new).rule ≡ (C.state collect.old).rule }
-    ensures ok { OnOk result ((C.state collect.new).content ≡ made ((C.state collect.old).rule) ((C.state collect.old).content) (item_patterns (records_of base.now))) }
-    ensures err { OnErr result (MakesSome ((C.state collect.old).rule) ((C.state collect.old).content) (item_patterns (records_of base.now)) ((C.state collect.new).content)) }
+    ensures { Mines (C.state collect.old) (item_patterns (records_of base.now)) (C.state collect.new) result }
 {
     // These two tell the proof that the content is in order, and that no sum overflows.
     let _floor = collect.floor();

@@ -4,6 +4,7 @@ ghost use Rattle.std.specs.Prelude.{◌≡◌, ℤ, List, [], ◌∷◌, OnOk, O
 ghost use Rattle.hu_kind.specs.Sequence.{sequence_patterns};
 ghost use Rattle.hu_base.specs.Base.{records_of};
 ghost use Rattle.hu_collect.specs.Rule.{made, IsKept, MakesSome};
+ghost use Rattle.hu_collect.specs.State.{Mines};
 ghost use Rattle.hu_plain.specs.Makes.{MakesAllOf, MakesSomeOf};
 ghost use Rattle.hu_plain.specs.Growth.{closed, prefix_entry, stepped_key, Grows};
 ghost use Rattle.hu_plain.specs.Place.{ArePlaces};
@@ -26,9 +27,7 @@ pub fn mine_sequences<C: Collect>(
     base: &Base<SeqRecord>,
     collect: &mut C,
 ) -> Result<(), NoMemory>
-    ensures rule { (C.state collect.new).rule ≡ (C.state collect.old).rule }
-    ensures ok { OnOk result ((C.state collect.new).content ≡ made ((C.state collect.old).rule) ((C.state collect.old).content) (sequence_patterns (records_of base.now))) }
-    ensures err { OnErr result (MakesSome ((C.state collect.old).rule) ((C.state collect.old).content) (sequence_patterns (records_of base.now)) ((C.state collect.new).content)) }
+    ensures { Mines (C.state collect.old) (sequence_patterns (records_of base.now)) (C.state collect.new) result }
 {
     // These tell the proof that the content is in order, that no sum overflows, and what collectors make of members.
     let _floor = collect.floor();
