@@ -2,6 +2,7 @@
 use Rattle.std.proofs.Common.{◌≡◌, ℕ, suc, ◌+◌, ◌<◌, ◌≤◌, ◌^◌, ◌==◌, ℤ, pos, negsuc, neg_ℤ, unsigned_abs, true, false, not, nat_lt, None, Ok, List, [], ◌∷◌, length, slice_index, refl, ap, ◌∙◌, arith, decimal}
 use Rattle.std.specs.Char.{is_ascii_digit, digit_value}
 use Rattle.std.specs.Fmt.{signed_decimal}
+use Rattle.std.specs.Int.{IsInRange}
 use Rattle.std.specs.List.{All, position_from}
 use Rattle.std.specs.Result.{result_map_both}
 use Rattle.std.specs.Str.Parse.{AllDigits, digits_value}
@@ -69,6 +70,7 @@ pub record IsToken (text : List ℕ) : Type 0 where
   pub some : 0 < length text
   pub no_space : Lacks 32 text
   pub no_colon : Lacks 58 text
+  pub no_feed : Lacks 10 text
 
 pub IsToken-decimal : (n : ℕ) → n < 2 ^ 127 → IsToken (decimal n)
 IsToken-decimal n small =
@@ -77,6 +79,7 @@ IsToken-decimal n small =
       some = told.0.0;
       no_space = digits-lack_low 32 (decimal n) told.0.1 (omega arith);
       no_colon = digits-lack_high 58 (decimal n) told.0.1 (omega arith);
+      no_feed = digits-lack_low 10 (decimal n) told.0.1 (omega arith);
     }
 
 pub IsToken-signed_decimal : (z : ℤ) → unsigned_abs z < 2 ^ 127 → IsToken (signed_decimal z)
@@ -87,4 +90,20 @@ IsToken-signed_decimal (negsuc n) small =
       some = omega arith;
       no_space = All-cons (λ b. (b == 32) ≡ false) 45 (decimal (suc n)) refl digits.no_space;
       no_colon = All-cons (λ b. (b == 58) ≡ false) 45 (decimal (suc n)) refl digits.no_colon;
+      no_feed = All-cons (λ b. (b == 10) ≡ false) 45 (decimal (suc n)) refl digits.no_feed;
     }
+
+-- a number is written in so many bytes at most
+pub length-item : (n : ℕ) → n < 2 ^ 127 → length (decimal n) ≤ 39
+length-item n small = length-decimal-le_wide 39 n (omega arith) (omega arith) (omega arith)
+
+pub length-value : (z : ℤ) → unsigned_abs z < 2 ^ 127 → length (signed_decimal z) ≤ 40
+length-value (pos n) small = omega (arith, length-item n small)
+length-value (negsuc n) small = omega (arith, length-item (suc n) small)
+
+pub decimal-begins : (n : ℕ) → n < 2 ^ 127 → IsInRange 48 57 (slice_index (decimal n) 0)
+decimal-begins n small = let told = decimal_is_IsNumeral_wide n (omega arith) in begins (decimal n) told.0.0 told.0.1
+  where
+    begins : (ds : List ℕ) → 0 < length ds → AllDigits 10 ds → IsInRange 48 57 (slice_index ds 0)
+    begins [] some digits = absurd (omega (arith, some))
+    begins (d ∷ ds) some digits = digit_from_value d digits.0
