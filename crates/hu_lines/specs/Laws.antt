@@ -20,7 +20,7 @@ FirstPieceComesFirst = (bytes : List ℕ) → 0 < length bytes → pieces bytes 
 
 -- what is refused before its line ends stays refused, however the line goes on
 abbrev pub RefusalStands : Type 0
-RefusalStands = (number before : ℕ) (begun more : List ℕ) (fault : LineFault) → has_line_feed begun ≡ false
+RefusalStands = (number before : ℕ) (begun more : List ℕ) (fault : LineFault)
     → refusal number before begun ≡ Some fault → refusal number before (begun ++ more) ≡ Some fault
 
 -- so it is of the first piece of bytes, whatever bytes come after them
