@@ -5,3 +5,4 @@ pub mod Plan
 pub mod MemoryFiles
 pub mod MemorySink
 pub mod Sure
+pub mod Edge

@@ -1,7 +1,7 @@
 -- Worked rows: small texts with their pieces, lines and refusals, by computation.
 use Rattle.std.specs.Prelude.{◌≡◌, true, false, None, Some, [], ◌∷◌, refl}
 use Rattle.hu_lines.specs.declared.limits.LineFault.TheVariants.{LineTooLong, InputTooLarge}
-use Rattle.hu_lines.specs.Pieces.{pieces, lines, gathered_lines}
+use Rattle.hu_lines.specs.Pieces.{pieces, lines}
 use Rattle.hu_lines.specs.Limits.{refusal_under}
 use Rattle.hu_lines.specs.Skipped.{is_skipped_line}
 
@@ -16,10 +16,6 @@ no_empty_last_piece = refl
 -- one carriage return goes with the line feed, and from the end of the last piece; others stay
 pub lines_of_three : lines (13 ∷ 97 ∷ 13 ∷ 13 ∷ 10 ∷ 10 ∷ 98 ∷ 13 ∷ []) ≡ (13 ∷ 97 ∷ 13 ∷ []) ∷ [] ∷ (98 ∷ []) ∷ []
 lines_of_three = refl
-
--- chunks cut in a line, before its line feed and between carriage return and line feed, and an empty one
-pub lines_of_chunks : gathered_lines ((97 ∷ []) ∷ (98 ∷ 13 ∷ []) ∷ [] ∷ (10 ∷ 99 ∷ []) ∷ (10 ∷ 100 ∷ []) ∷ []) ≡ (97 ∷ 98 ∷ []) ∷ (99 ∷ []) ∷ (100 ∷ []) ∷ []
-lines_of_chunks = refl
 
 -- under limits of 3 bytes a line and 10 a run, a line of 3 bytes with its line feed is taken
 pub longest_line : refusal_under 3 10 1 0 (97 ∷ 97 ∷ 97 ∷ 10 ∷ []) ≡ None
