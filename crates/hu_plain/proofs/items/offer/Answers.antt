@@ -1,4 +1,4 @@
-use Rattle.std.proofs.Common.{◌≡◌, ◌∙◌, [], ◌∷◌, refl, subst, length, to_z, of_z, SFits, rules}
+use Rattle.std.proofs.Common.{◌∙◌, [], ◌∷◌, refl, subst, length, to_z, of_z, SFits, rules}
 use Rattle.std.proofs.lemmas.Int.{to_z-of_z}
 use mir.Syntax.{w128}
 use Rattle.hu_kind.specs.declared.entry.Entry.{Entry}
