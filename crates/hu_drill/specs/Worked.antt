@@ -1,7 +1,7 @@
 -- Worked rows: the first draws from seed 1, and small generated databases, by computation.
 use Rattle.std.specs.Prelude.{◌≡◌, pos, [], ◌∷◌, codes, map, refl}
 use Rattle.std.specs.Fmt.{digits}
-use Rattle.hu_kind.specs.Rows.{entry_of}
+use Rattle.hu_kind.specs.Worked.{entry_of}
 use Rattle.hu_drill.specs.Draws.{after_draws}
 use Rattle.hu_drill.specs.Drilled.{drilled, drilled_sequences}
 use Rattle.hu_drill.specs.Summary.{summary_of, summary_line}

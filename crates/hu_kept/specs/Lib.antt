@@ -3,4 +3,4 @@ pub mod Changes
 pub mod Touched
 pub mod Laws
 pub mod Entries
-pub mod Rows
+pub mod Worked

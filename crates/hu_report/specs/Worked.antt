@@ -4,7 +4,7 @@ use Rattle.std.specs.Fmt.{digits}
 use Rattle.hu_kind.specs.declared.task.Task.TheVariants.{Items, Closed, Sequences}
 use Rattle.hu_kind.specs.Order.{entry_cmp}
 use Rattle.hu_kind.specs.Answer.{item_answer}
-use Rattle.hu_kind.specs.Rows.{base_a, entry_of, sequence_entry_of}
+use Rattle.hu_kind.specs.Worked.{base_a, entry_of, sequence_entry_of}
 use Rattle.hu_report.specs.Text.{line_of, answer_text}
 
 -- a line of `items`

@@ -1,6 +1,6 @@
 -- Worked rows: the totals and the ranks of base A, by computation.
 use Rattle.std.specs.Prelude.{◌≡◌, ℕ, pos, [], ◌∷◌, refl}
-use Rattle.hu_kind.specs.Rows.{base_a}
+use Rattle.hu_kind.specs.Worked.{base_a}
 use Rattle.hu_totals.specs.declared.totals.ItemTotal.{ItemTotal}
 use Rattle.hu_totals.specs.Totals.{item_totals}
 use Rattle.hu_totals.specs.Ranked.{ranked_items}

@@ -1,7 +1,7 @@
 -- Worked rows: base A appended in two batches, and a value below 0, by computation.
 use Rattle.std.specs.Prelude.{◌≡◌, pos, negsuc, None, Some, false, [], ◌∷◌, take, drop, refl}
 use Rattle.hu_kind.specs.Order.{entry_cmp}
-use Rattle.hu_kind.specs.Rows.{base_a, entry_of}
+use Rattle.hu_kind.specs.Worked.{base_a, entry_of}
 use Rattle.hu_kept.specs.Kept.{Keeping, answer_of, fresh, with_batch}
 use Rattle.hu_kept.specs.Changes.{changes}
 

@@ -1,6 +1,6 @@
 -- Worked rows: the pairs and the start floors of base A, by computation.
 use Rattle.std.specs.Prelude.{◌≡◌, pos, true, false, [], ◌∷◌, refl}
-use Rattle.hu_kind.specs.Rows.{base_a}
+use Rattle.hu_kind.specs.Worked.{base_a}
 use Rattle.hu_totals.specs.Totals.{item_totals}
 use Rattle.hu_totals.specs.Ranked.{Ranking, ranked}
 use Rattle.hu_collect.specs.Pairs.{pair_twu}

@@ -4,7 +4,7 @@ use Rattle.hu_kind.specs.Sequence.{sequence_key}
 use Rattle.hu_chain.specs.declared.chain.Growth.{Growth}
 use Rattle.hu_chain.specs.declared.chain.Growth.TheVariants.{IntoLast, AfterLast}
 use Rattle.hu_chain.specs.Place.{chain_of}
-use Rattle.hu_chain.specs.Rows.{one, several_places, whole_record}
+use Rattle.hu_chain.specs.Worked.{one, several_places, whole_record}
 use Rattle.hu_span.specs.declared.step.Step.{Step}
 use Rattle.hu_span.specs.Candidate.{occurring}
 use Rattle.hu_span.specs.Gather.{items_after}

@@ -2,7 +2,7 @@
 use Rattle.std.specs.Prelude.{◌≡◌, pos, negsuc, true, false, None, Some, List, [], ◌∷◌, refl}
 use Rattle.hu_kind.specs.declared.entry.Entry.{Entry}
 use Rattle.hu_kind.specs.Order.{entry_cmp}
-use Rattle.hu_kind.specs.Rows.{entry_of}
+use Rattle.hu_kind.specs.Worked.{entry_of}
 use Rattle.hu_collect.specs.Rule.{rule_of, made, floor_of}
 use Rattle.hu_collect.specs.Ranks.{key_of, is_part}
 

@@ -1,6 +1,6 @@
 -- Worked rows: keys of base A, by computation.
 use Rattle.std.specs.Prelude.{◌≡◌, pos, negsuc, true, false, [], ◌∷◌, refl}
-use Rattle.hu_kind.specs.Rows.{base_a}
+use Rattle.hu_kind.specs.Worked.{base_a}
 use Rattle.hu_closed.specs.Keys.{key_support, is_closed_key, closes_below}
 
 pub support_of_2_3 : key_support base_a (pos 2 ∷ pos 3 ∷ []) ≡ 3

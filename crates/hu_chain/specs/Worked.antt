@@ -1,6 +1,6 @@
 -- Worked rows: the chains of small sequences, by computation.
 use Rattle.std.specs.Prelude.{◌≡◌, ℕ, ℤ, pos, None, Some, List, [], ◌∷◌, refl}
-use Rattle.hu_kind.specs.Rows.{later_is_greatest}
+use Rattle.hu_kind.specs.Worked.{later_is_greatest}
 use Rattle.hu_chain.specs.declared.place.Place.{Place}
 use Rattle.hu_chain.specs.declared.chain.Growth.TheVariants.{IntoLast, AfterLast}
 use Rattle.hu_chain.specs.Pattern.{into, after}
