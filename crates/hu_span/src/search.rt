@@ -6,6 +6,7 @@ ghost use Rattle.hu_kind.specs.Sequence.{best_utility, sequence_entry, sequence_
 ghost use Rattle.hu_base.specs.Base.{records_of};
 ghost use Rattle.hu_collect.specs.Laws.{SameMembers};
 ghost use Rattle.hu_collect.specs.Rule.{made, floor_of, IsKept, MakesSome};
+ghost use Rattle.hu_collect.specs.State.{Mines};
 ghost use Rattle.hu_chain.specs.Bound.{KeepsRules};
 ghost use Rattle.hu_span.specs.Candidate.{AreCandidates};
 ghost use Rattle.hu_span.specs.Gather.{all_items, AreMarks};
@@ -42,9 +43,7 @@ pub fn mine<C: Collect>(
     base: &Base<SeqRecord>,
     collect: &mut C,
 ) -> Result<(), NoMemory>
-    ensures rule { (C.state collect.new).rule ≡ (C.state collect.old).rule }
-    ensures ok { OnOk result ((C.state collect.new).content ≡ made ((C.state collect.old).rule) ((C.state collect.old).content) (sequence_patterns (records_of base.now))) }
-    ensures err { OnErr result (MakesSome ((C.state collect.old).rule) ((C.state collect.old).content) (sequence_patterns (records_of base.now)) ((C.state collect.new).content)) }
+    ensures { Mines (C.state collect.old) (sequence_patterns (records_of base.now)) (C.state collect.new) result }
 {
     // These tell the proof that the content is in order, that no sum overflows, and what collectors make of entries.
     let _floor = collect.floor();
