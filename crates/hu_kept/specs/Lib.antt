@@ -1,3 +1,4 @@
+pub mod Limited
 pub mod Kept
 pub mod Changes
 pub mod Touched
