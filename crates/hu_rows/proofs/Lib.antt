@@ -8,3 +8,4 @@ pub mod RunLemmas
 pub mod CellChecks
 pub mod BoundLemmas
 pub mod SettingLemmas
+pub mod TallyLemmas

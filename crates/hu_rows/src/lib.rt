@@ -11,9 +11,11 @@ mod merge;
 mod projection;
 mod rows;
 mod setting;
+mod tally;
 #[cfg(test)]
 mod tests;
 
 pub use bins::Bins;
 pub use projection::project;
 pub use rows::{Row, Rows};
+pub use tally::{Tallies, Tally};
