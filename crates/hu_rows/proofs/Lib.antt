@@ -1,3 +1,4 @@
+pub mod lemmas
 pub mod CellLemmas
 pub mod ProjectionLemmas
 pub mod AddedCells
@@ -9,3 +10,5 @@ pub mod CellChecks
 pub mod BoundLemmas
 pub mod SettingLemmas
 pub mod TallyLemmas
+pub mod NarrowingLemmas
+pub mod PlaceLemmas

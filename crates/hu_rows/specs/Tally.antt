@@ -91,6 +91,10 @@ pub record AreNoted (tallies : List Tally) (met : List ℕ) : Type 0 where
   pub below : AllByRecursion (λ rank. rank < length tallies) met
   pub each : (rank : ℕ) → Contains met rank ⊎ (tally_at tallies rank ≡ no_tally)
 
+-- what is said of each rank of the rows
+abbrev pub EachRank : (ℕ → Type 0) → List RowOf → Type 0
+EachRank P rows = AllByRecursion (λ row. AllByRecursion P (ranks_of row)) rows
+
 -- every rank of the rows is below a number
 abbrev pub AreBelow : ℕ → List RowOf → Type 0
-AreBelow n rows = AllByRecursion (λ row. AllByRecursion (λ rank. rank < n) (ranks_of row)) rows
+AreBelow n rows = EachRank (λ rank. rank < n) rows

@@ -6,6 +6,7 @@ ghost use Rattle.hu_kind.specs.Order.{Ascend};
 ghost use Rattle.hu_kind.specs.Record.{has, gain, positive_part};
 ghost use Rattle.hu_rows.specs.Rows.{AreRows, ranks_of, size_of};
 ghost use Rattle.hu_rows.specs.Tally.{no_tally, plus, tally_at, share_if, row_share, most, most_with, tail_share, tally_with, told, tail_told, IsClear, Adds, Fits, HasRoom, AreNoted, AreBelow};
+ghost use Rattle.hu_rows.specs.Handed.{reaches};
 ghost use Rattle.hu_rows.specs.View.{cells_of, row_of, rows_of};
 
 use crate::rows::{Row, Rows};
@@ -84,6 +85,14 @@ impl Tallies {
         ensures value { result ≡ tally_at self.now rank }
     {
         self.of_ranks[rank as usize]
+    }
+
+    /// Whether the bound of a rank reaches a floor.
+    pub fn reaches(&self, rank: u32, floor: i128) -> bool
+        requires { rank < length self.now }
+        ensures value { result ≡ reaches self.now floor rank }
+    {
+        self.of(rank).bound >= floor
     }
 
     /// Takes the tally of a rank, and leaves it as if nothing was told.
