@@ -75,11 +75,7 @@ impl<R: rt::Files, I: Read> DiskFiles<R, I> {
 }
 
 impl<R: rt::Files, I: Read> Files for DiskFiles<R, I> {
-    ghost contents = { λ _. None };
-
-    ghost faults = { λ d _. d };
-
-    ghost plan = { λ _. [] };
+    ghost state = { λ faults. record { contents = None; faults = λ _. faults; plan = [] } };
 
     fn get(&mut self, name: &str, at: u64, into: &mut [u8]) -> Result<usize, Failed> {
         let read = if name == INPUT_NAME {

@@ -1,8 +1,7 @@
 //! A stream of the system.
 
-ghost use Rattle.std.specs.Prelude.{◌≡◌, ℕ, [], None, take, IfOk};
+ghost use Rattle.std.specs.Prelude.{◌≡◌, ℕ, ◌<◌, ◌≤◌, [], None, length, take, IfOk};
 ghost use Rattle.std.specs.Io.KnownBytes.{Appends};
-ghost use Rattle.hu_io.specs.Sink.{TakesSome};
 
 use crate::failed::Failed;
 use crate::sink::Sink;
@@ -42,7 +41,8 @@ impl<W> StreamSink<W> {
 
 /// Writes the front of `piece` to `to`, and flushes it.
 fn write_on<W: Write>(to: &mut W, piece: &[u8]) -> io::Result<usize>
-    ensures count { TakesSome result piece.now }
+    ensures within { IfOk result (λ n. n ≤ length piece.now) }
+    ensures some { IfOk result (λ n. 0 < length piece.now → 0 < n) }
     ensures bytes { IfOk result (λ n. Appends (W.contents to.old) (W.contents to.new) (take n piece.now)) }
 {
     let count = to.write(piece)?;
@@ -54,11 +54,7 @@ fn write_on<W: Write>(to: &mut W, piece: &[u8]) -> io::Result<usize>
 }
 
 impl<W: Write> Sink for StreamSink<W> {
-    ghost bytes = { λ _. None };
-
-    ghost faults = { λ s. s };
-
-    ghost plan = { λ _. [] };
+    ghost state = { λ faults. record { bytes = None; faults = faults; plan = [] } };
 
     fn put(&mut self, piece: &[u8]) -> Result<usize, Failed> {
         match write_on(&mut self.to, piece) {

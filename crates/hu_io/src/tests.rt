@@ -1,6 +1,6 @@
 ghost use Rattle.std.specs.Prelude.{◌≡◌, ◌+◌, ◌≤◌, [], length, IsSome};
-ghost use Rattle.hu_io.specs.Count.{HasCauseAt};
 ghost use Rattle.hu_io.specs.Files.{content_in};
+ghost use Rattle.hu_io.specs.State.{Gets};
 
 use super::*;
 use std::io::{ErrorKind, Write};
@@ -10,9 +10,7 @@ use std::{env, fs, io, process};
 
 // Reads through the bound alone.
 fn read<F: Files>(files: &mut F, name: &str, at: u64, into: &mut [u8]) -> Result<usize, Failed>
-    ensures kept { F.contents files.new ≡ F.contents files.old }
-    ensures plan { F.plan files.new ≡ F.plan files.old }
-    ensures cause { HasCauseAt (F.faults files.old) (F.faults files.new) name.now result }
+    ensures { Gets (F.state files.old) (F.state files.new) name.now at into.new result }
 {
     files.get(name, at, into)
 }

@@ -22,11 +22,11 @@ fn search<G: Gates, C: Collect>(
     gates: &G,
     collect: &mut C,
 ) -> Result<(), NoMemory>
-    requires floor { ranked.now.floor ≤ℤ floor_of (C.rule collect.old) (C.content collect.old) }
-    requires rests { RestsOn (C.rule collect.old).table ranked.now.items }
-    ensures rule { C.rule collect.new ≡ C.rule collect.old }
+    requires floor { ranked.now.floor ≤ℤ floor_of ((C.state collect.old).rule) ((C.state collect.old).content) }
+    requires rests { RestsOn ((C.state collect.old).rule).table ranked.now.items }
+    ensures rule { (C.state collect.new).rule ≡ (C.state collect.old).rule }
     ensures ok { OnOk result ((records : List (List (ℕ × ℤ))) → KeepsPatterns records ranked.now
-        → C.content collect.new ≡ made (C.rule collect.old) (C.content collect.old) (item_patterns records)) }
+        → (C.state collect.new).content ≡ made ((C.state collect.old).rule) ((C.state collect.old).content) (item_patterns records)) }
 {
     let gate = gates.gate(alloc, ranked, collect.floor())?;
     hu_list::mine(alloc, ranked, collect, &gate)
@@ -40,10 +40,10 @@ pub(crate) fn searched<G: Gates, C: Collect + Drop>(
     collect: C,
     batch: Option<&RecordSets>,
 ) -> Result<C, NoMemory>
-    requires floor { ranked.now.floor ≤ℤ floor_of (C.rule collect) (C.content collect) }
-    requires rests { RestsOn (C.rule collect).table ranked.now.items }
+    requires floor { ranked.now.floor ≤ℤ floor_of ((C.state collect).rule) ((C.state collect).content) }
+    requires rests { RestsOn ((C.state collect).rule).table ranked.now.items }
     ensures ok { IfOk result (λ found. (records : List (List (ℕ × ℤ))) → KeepsPatterns records ranked.now
-        → C.content found ≡ made (within (option_copied batch.entry) (C.rule collect)) (C.content collect) (item_patterns records)) }
+        → (C.state found).content ≡ made (within (option_copied batch.entry) ((C.state collect).rule)) ((C.state collect).content) (item_patterns records)) }
 {
     let mut collect = collect;
     match batch {

@@ -8,5 +8,7 @@ pub mod Answer
 pub mod Number
 pub mod Rows
 pub mod Token
+pub mod Reading
 pub mod Cells
 pub mod First
+pub mod Laws

@@ -19,7 +19,8 @@ use Rattle.hu_list.specs.Joins.{Joins}
 use Rattle.hu_list.specs.Gathered.{lists_in}
 use Rattle.hu_list.specs.Level.{branches_from, branch_of, ranks_of, IsBranch, IsLevel, IsFork, AreJoined}
 use Rattle.hu_search.specs.Growth.{IsLow}
-use Rattle.hu_search.proofs.lemmas.Ascending.{each-weaker, each-append, each-get, Ascend-push}
+use Rattle.hu_kind.proofs.lemmas.Ascending.{Ascend-push}
+use Rattle.hu_kind.proofs.lemmas.Each.{each-weaker, each-append, each-get}
 use Rattle.hu_list.proofs.ListLemmas.{weight-list, length-nodes, AreRanked-ranking}
 
 -- ---- the branches of the empty set

@@ -16,7 +16,7 @@ use Rattle.hu_list.specs.Bounds.{BoundsGrown}
 use Rattle.hu_search.specs.Growth.{Covers}
 use Rattle.hu_list.specs.Level.{ranks_of, IsBranch, IsLevel, IsFork, AreJoined}
 use Rattle.hu_search.proofs.lemmas.SearchLemmas.{Covers-none}
-use Rattle.hu_search.proofs.lemmas.Ascending.{each-append, each-get}
+use Rattle.hu_kind.proofs.lemmas.Each.{each-append, each-get}
 use Rattle.hu_list.proofs.ListLemmas.{length-nodes}
 use Rattle.hu_list.proofs.BranchLemmas.{each-drop, Ascend-drop}
 

@@ -31,13 +31,13 @@ pub fn mine<C: Collect, G: Gate>(
     collect: &mut C,
     gate: &G,
 ) -> Result<(), NoMemory>
-    requires ranked_floor { ranked.now.floor ≤ℤ floor_of (C.rule collect.old) (C.content collect.old) }
-    requires gate_floor { G.floor gate.now ≤ℤ floor_of (C.rule collect.old) (C.content collect.old) }
+    requires ranked_floor { ranked.now.floor ≤ℤ floor_of ((C.state collect.old).rule) ((C.state collect.old).content) }
+    requires gate_floor { G.floor gate.now ≤ℤ floor_of ((C.state collect.old).rule) ((C.state collect.old).content) }
     requires right { G.IsRightFor gate.now ranked.now.records }
-    requires rests { RestsOn (C.rule collect.old).table ranked.now.items }
-    ensures rule { C.rule collect.new ≡ C.rule collect.old }
-    ensures ok { OnOk result (C.content collect.new ≡ made (C.rule collect.old) (C.content collect.old) (item_patterns (unranked ranked.now))) }
-    ensures err { OnErr result (MakesSome (C.rule collect.old) (C.content collect.old) (item_patterns (unranked ranked.now)) (C.content collect.new)) }
+    requires rests { RestsOn ((C.state collect.old).rule).table ranked.now.items }
+    ensures rule { (C.state collect.new).rule ≡ (C.state collect.old).rule }
+    ensures ok { OnOk result ((C.state collect.new).content ≡ made ((C.state collect.old).rule) ((C.state collect.old).content) (item_patterns (unranked ranked.now))) }
+    ensures err { OnErr result (MakesSome ((C.state collect.old).rule) ((C.state collect.old).content) (item_patterns (unranked ranked.now)) ((C.state collect.new).content)) }
 {
     // These tell the proof that the content is in order, and what collectors make of entries.
     let _floor = collect.floor();
@@ -68,15 +68,15 @@ fn search<C: Collect, G: Gate>(
 ) -> Result<(), NoMemory>
     requires rules { IsRanking ranked.now }
     requires level { IsLevel ranked.now (option_copied prefix) ranks.old.items branches.now }
-    requires covers { Covers (C.rule collect.old) (C.content collect.old) ranked.now ranks.old.items (ranks_of branches.now) }
-    requires kept { IsKept (C.rule collect.old) (C.content collect.old) }
-    requires floor { G.floor gate.now ≤ℤ floor_of (C.rule collect.old) (C.content collect.old) }
+    requires covers { Covers ((C.state collect.old).rule) ((C.state collect.old).content) ranked.now ranks.old.items (ranks_of branches.now) }
+    requires kept { IsKept ((C.state collect.old).rule) ((C.state collect.old).content) }
+    requires floor { G.floor gate.now ≤ℤ floor_of ((C.state collect.old).rule) ((C.state collect.old).content) }
     requires right { G.IsRightFor gate.now ranked.now.records }
-    requires rests { RestsOn (C.rule collect.old).table ranked.now.items }
-    ensures rule { C.rule collect.new ≡ C.rule collect.old }
+    requires rests { RestsOn ((C.state collect.old).rule).table ranked.now.items }
+    ensures rule { (C.state collect.new).rule ≡ (C.state collect.old).rule }
     ensures ranks { OnOk result (ranks.new.items ≡ ranks.old.items) }
-    ensures ok { OnOk result (MakesReaching (C.rule collect.old) (C.content collect.old) (Grows ranked.now ranks.old.items) (C.content collect.new)) }
-    ensures err { OnErr result (MakesSomeOf (C.rule collect.old) (C.content collect.old) (Grows ranked.now ranks.old.items) (C.content collect.new)) }
+    ensures ok { OnOk result (MakesReaching ((C.state collect.old).rule) ((C.state collect.old).content) (Grows ranked.now ranks.old.items) ((C.state collect.new).content)) }
+    ensures err { OnErr result (MakesSomeOf ((C.state collect.old).rule) ((C.state collect.old).content) (Grows ranked.now ranks.old.items) ((C.state collect.new).content)) }
 {
     law_of_turns();
     law_of_floors();
@@ -119,10 +119,10 @@ fn offer<C: Collect>(
     requires rules { IsRanking ranked.now }
     requires table { InTable ranked.now ranks.now }
     requires branch { IsBranch ranked.now ranks.now branch.now }
-    ensures rule { C.rule collect.new ≡ C.rule collect.old }
-    ensures least { pos 1 ≤ℤ floor_of (C.rule collect.old) (C.content collect.old) }
-    ensures ok { OnOk result (C.content collect.new ≡ made (C.rule collect.old) (C.content collect.old) (rank_entry ranked.now (ranks.now ++ branch.now.rank ∷ []) ∷ [])) }
-    ensures err { OnErr result (C.content collect.new ≡ C.content collect.old) }
+    ensures rule { (C.state collect.new).rule ≡ (C.state collect.old).rule }
+    ensures least { pos 1 ≤ℤ floor_of ((C.state collect.old).rule) ((C.state collect.old).content) }
+    ensures ok { OnOk result ((C.state collect.new).content ≡ made ((C.state collect.old).rule) ((C.state collect.old).content) (rank_entry ranked.now (ranks.now ++ branch.now.rank ∷ []) ∷ [])) }
+    ensures err { OnErr result ((C.state collect.new).content ≡ (C.state collect.old).content) }
 {
     law_of_low_entries();
     let utility = branch.list.sum();
@@ -150,12 +150,12 @@ fn grown<C: Collect, G: Gate>(
 ) -> Result<Vec<Branch>, NoMemory>
     requires rules { IsRanking ranked.now }
     requires fork { IsFork ranked.now (option_copied prefix) ranks.now branch.now later.now }
-    requires covers { Covers (C.rule collect.now) (C.content collect.now) ranked.now (ranks.now ++ branch.now.rank ∷ []) (ranks_of later.now) }
-    requires floor { G.floor gate.now ≤ℤ floor_of (C.rule collect.now) (C.content collect.now) }
+    requires covers { Covers ((C.state collect.now).rule) ((C.state collect.now).content) ranked.now (ranks.now ++ branch.now.rank ∷ []) (ranks_of later.now) }
+    requires floor { G.floor gate.now ≤ℤ floor_of ((C.state collect.now).rule) ((C.state collect.now).content) }
     requires right { G.IsRightFor gate.now ranked.now.records }
-    requires rests { RestsOn (C.rule collect.now).table ranked.now.items }
+    requires rests { RestsOn ((C.state collect.now).rule).table ranked.now.items }
     ensures level { IfOk result (λ grown. IsLevel ranked.now (Some branch.now.list) (ranks.now ++ branch.now.rank ∷ []) grown.items) }
-    ensures covers { IfOk result (λ grown. Covers (C.rule collect.now) (C.content collect.now) ranked.now (ranks.now ++ branch.now.rank ∷ []) (ranks_of grown.items)) }
+    ensures covers { IfOk result (λ grown. Covers ((C.state collect.now).rule) ((C.state collect.now).content) ranked.now (ranks.now ++ branch.now.rank ∷ []) (ranks_of grown.items)) }
     ensures fewer { IfOk result (λ grown. length grown.items ≤ length later.now) }
 {
     if later.is_empty() {
@@ -179,8 +179,8 @@ fn goes_on<C: Collect>(
     requires rules { IsRanking ranked.now }
     requires table { InTable ranked.now ranks.now }
     requires branch { IsBranch ranked.now ranks.now branch.now }
-    requires rests { RestsOn (C.rule collect.now).table ranked.now.items }
-    ensures { IfOk result (λ on. on ≡ false → Covers (C.rule collect.now) (C.content collect.now) ranked.now (ranks.now ++ branch.now.rank ∷ []) []) }
+    requires rests { RestsOn ((C.state collect.now).rule).table ranked.now.items }
+    ensures { IfOk result (λ on. on ≡ false → Covers ((C.state collect.now).rule) ((C.state collect.now).content) ranked.now (ranks.now ++ branch.now.rank ∷ []) []) }
 {
     if branch.list.bound() < collect.floor() {
         return Ok(false);

@@ -1,3 +1,5 @@
 pub mod lemmas
 pub mod KeyLemmas
+pub mod OpenLemmas
+mod ChildLemmas
 pub mod UnrankLemmas

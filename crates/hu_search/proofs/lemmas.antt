@@ -1,5 +1,5 @@
 -- The lemmas that proofs of other crates may cite.
-pub mod Ascending
 pub mod Beginnings
+pub mod Children
 pub mod SearchLemmas
 pub mod WholeLemmas

@@ -5,8 +5,12 @@
 //! a set of ranks. The engines over ranks stand on it; it stands on hu_kind, hu_totals and hu_collect.
 #![tactic(auto)]
 
+mod child;
 mod key;
+mod offer;
 #[cfg(test)]
 mod tests;
 
+pub use child::{Child, best_first};
 pub use key::key_of;
+pub use offer::{offer_children, opens};

@@ -1,11 +1,11 @@
 -- What a search makes of a collector's state, step by step.
-use Rattle.std.proofs.Common.{◌≡◌, true, ◌<ℤ◌, ◌≤ℤ◌, List, [], ◌∷◌, ◌++◌, refl, sym, ap, ◌∙◌, subst, inl, inr, ◌⊎◌, ◌↔◌, arith, append-nil, Contains}
+use Rattle.std.proofs.Common.{◌≡◌, true, ◌<ℤ◌, ◌≤ℤ◌, List, [], ◌∷◌, ◌++◌, sym, ap, ◌∙◌, subst, inl, inr, ◌⊎◌, ◌↔◌, arith, Contains, Result, Ok, Err, IsErr, IsOk}
 use Rattle.std.proofs.lemmas.Int.{ints}
 use Rattle.std.proofs.lemmas.List.Elements.{All-contains_itself, All-weaker}
 use Rattle.hu_kind.specs.declared.entry.Entry.{Entry}
 use Rattle.hu_kind.proofs.lemmas.Members.{Member-append_left, Member-append_right, Member-append_cases, Member-from_contains, Contains-from_member}
-use Rattle.hu_collect.specs.Rule.{Rule, passes, made, floor_of, IsKept}
-use Rattle.hu_collect.specs.State.{State, offered, floor_in, IsInOrder, OfferedSome, Reached, ReachedSome}
+use Rattle.hu_collect.specs.Rule.{Rule, passes, IsKept}
+use Rattle.hu_collect.specs.State.{State, offered, floor_in, IsInOrder, OfferedSome, Reached, ReachedSome, Searches, Mines}
 use Rattle.hu_collect.proofs.lemmas.Made.{makes_in_turn, kept-made, makes_by_members, makes_by_reaching, leaves_below_floor, keeps_floor}
 
 -- a state of a rule and a content
@@ -161,6 +161,18 @@ some-then {old = old} p q first second = record {
   is = second.is ∙ ap (λ s. offered s second.entries) first.is ∙ offered-then old first.entries second.entries;
 }
 
+-- ---- results
+
+-- a step that ended for want of memory
+pub stopped : {T E : Type 0} {P : Entry → Type 0} {old new : State} (result : Result T E) → IsErr result → ReachedSome old P new → Searches old P new result
+stopped (Ok x) none some = cc
+stopped (Err e) none some = some
+
+-- a step that ended well
+pub finished : {T E : Type 0} {P : Entry → Type 0} {old new : State} (result : Result T E) → IsOk result → Reached old P new → Searches old P new result
+finished (Ok x) fine all = all
+finished (Err e) fine all = cc
+
 -- ---- a whole search
 
 -- what leaves out only what doesn't count makes the same as all
@@ -190,3 +202,9 @@ some-all all some same = (
   All-weaker (λ e. Contains some.entries e) (λ e. Contains all e) (λ e c. same e (some.each e c)) some.entries (All-contains_itself some.entries),
   some.is,
 )
+
+-- a search for all that has a property is one for the entries that have it
+pub mined : {T E : Type 0} (P : Entry → Type 0) (old new : State) (all : List Entry) (result : Result T E) → ((e : Entry) → P e ↔ Contains all e)
+    → Searches old P new result → Mines old all new result
+mined P old new all (Ok x) same some = reached-all {P = P} all some same
+mined P old new all (Err e) same some = some-all {P = P} all some (λ x. (same x).0)

@@ -2,7 +2,7 @@ use Rattle.std.proofs.Common.{◌≡◌, ◌∷◌, [], ◌++◌, length, ap, sy
 use Rattle.std.proofs.lemmas.Bool.{eqb-true}
 use Rattle.std.specs.Option.{option_copied}
 use Rattle.hu_list.specs.Nodes.{list_of}
-use Rattle.hu_search.proofs.lemmas.Ascending.{each-right, each-left}
+use Rattle.hu_kind.proofs.lemmas.Each.{each-right, each-left}
 use Rattle.hu_list.proofs.BranchLemmas.{joins-fork, IsLow-none, branch_of-joined}
 use Rattle.hu_list.proofs.branch.joined_branch.Goals as goal
 

@@ -10,7 +10,7 @@ use Rattle.hu_totals.specs.View.{dense_pair, pairs_in}
 use Rattle.hu_list.specs.declared.list.Node.{Node}
 use Rattle.hu_list.specs.Nodes.{list_of}
 use Rattle.hu_list.specs.Gathered.{with_cells}
-use Rattle.hu_search.proofs.lemmas.Ascending.{each-ascending, each-in_range}
+use Rattle.hu_kind.proofs.lemmas.Ascending.{each-ascending, each-in_range}
 use Rattle.hu_list.proofs.SingleLemmas.{at-records, absolute-record}
 use Rattle.hu_list.proofs.GatherLemmas.{gathered-step, gathered-none}
 use Rattle.hu_list.proofs.gather.single_lists.Goals as goal

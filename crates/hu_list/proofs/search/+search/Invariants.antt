@@ -9,7 +9,7 @@ decreases-search g l = length l.branches.now
 
 abbrev pub invariant-branches : goal.invariant-branches
 invariant-branches g l = record {
-  rule : g.C.Collect.rule l.collect ≡ g.C.Collect.rule l.initial.collect;
+  rule : (g.C.Collect.state l.collect).rule ≡ (g.C.Collect.state l.initial.collect).rule;
   ranks : l.ranks.items ≡ l.initial.ranks.items;
-  made : MakesReaching (g.C.Collect.rule l.initial.collect) (g.C.Collect.content l.initial.collect) (Begins l.ranked l.initial.ranks.items (take l.at (ranks_of l.branches))) (g.C.Collect.content l.collect);
+  made : MakesReaching ((g.C.Collect.state l.initial.collect).rule) ((g.C.Collect.state l.initial.collect).content) (Begins l.ranked l.initial.ranks.items (take l.at (ranks_of l.branches))) ((g.C.Collect.state l.collect).content);
 }

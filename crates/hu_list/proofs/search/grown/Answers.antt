@@ -24,8 +24,8 @@ returns-clause-covers g c =
     let x = c.args.branch.now in
     let later = c.args.later.now in
     let floor = g.G.Gate.floor c.args.gate.now in
-    let rule = g.C.Collect.rule c.args.collect.now in
-    let content = g.C.Collect.content c.args.collect.now in
+    let rule = (g.C.Collect.state c.args.collect.now).rule in
+    let content = (g.C.Collect.state c.args.collect.now).content in
     IfOk-weaker c.joined_branches.result (λ grown. AreJoined r floor ranks x later grown.items) (λ grown. Covers rule content r (ranks ++ x.rank ∷ []) (ranks_of grown.items))
     (λ grown joined. Covers-joined r floor rule content ranks x later grown.items joined c.requires.floor c.requires.covers)
     (c.joined_branches.ensures r ranks c.requires.rules c.requires.right c.requires.fork)

@@ -11,7 +11,7 @@ returns-clause-ok g c =
     let set = c.args.ranks.now ++ c.args.branch.now.rank ∷ [] in
     let earned = c.sum-utility.ensures.utility r.records set c.requires.branch.is in
     on_ok_weaker c.offer.result
-    (offered-entry r set (g.C.Collect.rule c.args.collect.now) (g.C.Collect.content c.args.collect.now) (g.C.Collect.content c.offer.new.self) _ _ _
+    (offered-entry r set ((g.C.Collect.state c.args.collect.now).rule) ((g.C.Collect.state c.args.collect.now).content) ((g.C.Collect.state c.offer.new.self).content) _ _ _
     c.in_ok-key.ensures
     (omega (arith, ints, earned, c.sum-utility.type_inv))
     (support-list c.nodes.result.now r.records set (c.nodes.ensures.value ∙ c.requires.branch.is)))

@@ -29,7 +29,7 @@ returns-clause-ok g c =
     let are : AreMarks all_items given marks = subst (λ rs. AreMarks all_items rs marks) moved (subst (AreMarks all_items c.records.result.now) (sym c.deref-2.ensures.value) c.in_ok-marks.ensures.marks) in
     let same : SameMembers (map (λ (mark : Mark). mark.item) marks) found = items-seen c.deref.result.now c.in_ok-marks.marks.items marks c.in_ok-items.items.items found c.deref.ensures.value c.deref-2.ensures.value c.deref-3.ensures.value c.in_ok-items.ensures in
     on_ok_weaker c.search_items.result
-    (all-patterns c.law_of_turns.ensures (g.C.Collect.rule c.args.collect.now) (g.C.Collect.content c.args.collect.now) (g.C.Collect.content c.search_items.new.collect) (records_of c.args.base.now) given marks found rules
+    (all-patterns c.law_of_turns.ensures ((g.C.Collect.state c.args.collect.now).rule) ((g.C.Collect.state c.args.collect.now).content) ((g.C.Collect.state c.search_items.new.collect).content) (records_of c.args.base.now) given marks found rules
     c.records-2.ensures c.law_of_members.ensures c.law_of_reaching.ensures are same)
     c.search_items.ensures.ok
 
@@ -41,6 +41,6 @@ returns-clause-err g c =
     let moved = c.records.ensures ∙ sym c.records-2.ensures in
     let rules : AllByRecursion KeepsRules given = subst (AllByRecursion KeepsRules) moved c.in_ok-marks.ensures.rules in
     on_err_weaker c.search_items.result
-    (some-patterns c.law_of_turns.ensures (g.C.Collect.rule c.args.collect.now) (g.C.Collect.content c.args.collect.now) (g.C.Collect.content c.search_items.new.collect) (records_of c.args.base.now) given marks found rules
+    (some-patterns c.law_of_turns.ensures ((g.C.Collect.state c.args.collect.now).rule) ((g.C.Collect.state c.args.collect.now).content) ((g.C.Collect.state c.search_items.new.collect).content) (records_of c.args.base.now) given marks found rules
     c.records-2.ensures)
     c.search_items.ensures.err

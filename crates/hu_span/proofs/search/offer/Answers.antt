@@ -10,8 +10,8 @@ use Rattle.hu_span.proofs.search.offer.Goals as goal
 
 pub returns-then-utility-floor-clause-ok : goal.returns-then-utility-floor-clause-ok
 returns-then-utility-floor-clause-ok g c =
-    let rule = g.C.Collect.rule c.args.collect.now in
-    let content = g.C.Collect.content c.args.collect.now in
+    let rule = (g.C.Collect.state c.args.collect.now).rule in
+    let content = (g.C.Collect.state c.args.collect.now).content in
     let pattern = pattern_of c.args.steps.now in
     let rows = c.args.rows.now in
     let earned = c.utility_of-utility.ensures ∙ utility-rows pattern rows c.requires.level.each in
@@ -22,6 +22,6 @@ pub returns-clause-ok : goal.returns-clause-ok
 returns-clause-ok g c =
     let rows = c.args.rows.now in
     on_ok_weaker c.offer.result
-    (offered-entry (pattern_of c.args.steps.now) rows (g.C.Collect.rule c.args.collect.now) (g.C.Collect.content c.args.collect.now) (g.C.Collect.content c.offer.new.self) _ _ _
+    (offered-entry (pattern_of c.args.steps.now) rows ((g.C.Collect.state c.args.collect.now).rule) ((g.C.Collect.state c.args.collect.now).content) ((g.C.Collect.state c.offer.new.self).content) _ _ _
     c.requires.level.each c.in_ok-key.ensures (omega (arith, ints, c.utility_of-utility.ensures, c.utility_of-utility.type_inv)) refl)
     c.offer.ensures.ok
