@@ -1,4 +1,0 @@
-mod SumLemmas
-mod RankLemmas
-mod LevelLemmas
-mod TurnLemmas

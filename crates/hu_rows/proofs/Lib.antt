@@ -12,3 +12,4 @@ pub mod SettingLemmas
 pub mod TallyLemmas
 pub mod NarrowingLemmas
 pub mod PlaceLemmas
+pub mod RowRanks

@@ -2,3 +2,4 @@
 pub mod Narrowed
 pub mod Handed
 pub mod Bounded
+pub mod Counted

@@ -26,7 +26,7 @@ among-itself z (s ∷ set) (inr m) = let later = among-itself z set m in by (eqb
 
 all-among : (keep set : List ℕ) → ((z : ℕ) → Member z set → Member z keep) → AllByRecursion (λ rank. IsTrue (among rank keep)) set
 all-among keep [] sub = tt
-all-among keep (s ∷ set) sub = (subst (λ b. IsTrue b) (sym (among-itself s keep (sub s (inl refl)))) tt, all-among keep set (λ z m. sub z (inr m)))
+all-among keep (s ∷ set) sub = (among-itself s keep (sub s (inl refl)), all-among keep set (λ z m. sub z (inr m)))
 
 kept-itself : (set : List ℕ) → Ascend set → IsKeptSet set set
 kept-itself set up = record { ascending = up; kept = all-among set set (λ z m. m) }
