@@ -1,5 +1,17 @@
 //! A level of the search.
 
+ghost use Rattle.std.specs.Prelude.{◌≡◌, ◌<◌, ℕ, ◌⊎◌, pos, ◌≤ℤ◌, [], ◌∷◌, map, length, IfOk, OnOk, OnErr};
+ghost use Rattle.std.specs.List.{AllByRecursion, Contains};
+ghost use Rattle.hu_totals.specs.Ranked.{IsRanking};
+ghost use Rattle.hu_collect.specs.State.{IsInOrder, ReachedSome};
+ghost use Rattle.hu_rows.specs.Rows.{AreCounted, count_over};
+ghost use Rattle.hu_rows.specs.Tally.{AreBelow};
+ghost use Rattle.hu_rows.specs.Handed.{AreEmpty, places_at};
+ghost use Rattle.hu_rows.specs.Places.{lists_in};
+ghost use Rattle.hu_search.specs.Growth.{Grows};
+ghost use Rattle.hu_search.specs.Children.{ranks_of};
+ghost use Rattle.hu_project.specs.Level.{IsLevel, IsBoard, IsPrepared, IsChoice};
+
 use crate::children::{children_of, forget, kept_of, open_of};
 use bumpalo::Bump;
 use hu_collect::Collect;
@@ -18,7 +30,9 @@ pub(crate) struct Board {
 
 impl Board {
     /// Room for so many ranks.
-    pub(crate) fn new(alloc: Global, ranks: u32) -> Result<Board, NoMemory> {
+    pub(crate) fn new(alloc: Global, ranks: u32) -> Result<Board, NoMemory>
+        ensures { IfOk result (IsBoard ranks) }
+    {
         Ok(Board {
             tallies: Tallies::new(alloc, ranks)?,
             places: Places::new(alloc, ranks)?,
@@ -37,7 +51,11 @@ pub(crate) struct Open<'a> {
 
 impl<'a> Open<'a> {
     /// Nothing is open.
-    fn none(alloc: Global) -> Open<'a> {
+    fn none(alloc: Global) -> Open<'a>
+        ensures rows { result.rows ≡ [] }
+        ensures children { result.children.items ≡ [] }
+        ensures places { result.places.items ≡ [] }
+    {
         Open {
             rows: Rows::none(),
             children: Vec::new(alloc),
@@ -47,7 +65,7 @@ impl<'a> Open<'a> {
 }
 
 /// Offers the children of a set, and says what is open of it.
-pub(crate) fn open<'a, C: Collect>(
+pub(crate) fn open_children<'a, C: Collect>(
     alloc: Global,
     ranked: &Ranked,
     rows: &Rows<'a>,
@@ -55,7 +73,15 @@ pub(crate) fn open<'a, C: Collect>(
     ranks: &[u32],
     board: &mut Board,
     collect: &mut C,
-) -> Result<Open<'a>, NoMemory> {
+) -> Result<Open<'a>, NoMemory>
+    requires rules { IsRanking ranked.now }
+    requires ordered { IsInOrder (C.state collect.old) }
+    requires level { IsLevel (C.state collect.old) ranked.now ranks.now rows.now }
+    requires board { IsBoard (length ranked.now.items) board.old }
+    ensures board { OnOk result (IsBoard (length ranked.now.items) board.new) }
+    ensures ok { IfOk result (IsPrepared (C.state collect.old) (C.state collect.new) ranked.now ranks.now) }
+    ensures err { OnErr result (ReachedSome (C.state collect.old) (Grows ranked.now ranks.now) (C.state collect.new)) }
+{
     let met = board.tallies.tell(alloc, rows)?;
     let children = children_of(alloc, &met, &board.tallies)?;
     offer_children(alloc, ranked, ranks, &children, collect)?;
@@ -78,13 +104,25 @@ fn choose<'a>(
     kept: &[Child],
     floor: i128,
     board: &mut Board,
-) -> Result<Open<'a>, NoMemory> {
+) -> Result<Open<'a>, NoMemory>
+    requires board { IsBoard (length board.old.tallies) board.old }
+    requires below { AreBelow (length board.old.tallies) rows }
+    requires counted { AreCounted rows }
+    requires met { AllByRecursion (λ rank. rank < length board.old.tallies) met.now }
+    requires noted { (rank : ℕ) → 0 < count_over rows (rank ∷ []) → Contains met.now rank }
+    requires kept { AllByRecursion (λ child. child.rank < length board.old.tallies) kept.now }
+    requires held { (rank : ℕ) → 0 < count_over rows (rank ∷ []) → Contains (ranks_of kept.now) rank }
+    requires least { pos 1 ≤ℤ floor }
+    ensures board { OnOk result (IsBoard (length board.old.tallies) board.new) }
+    ensures ok { IfOk result (IsChoice rows.entry kept.now floor) }
+{
     board.tallies.tell_tails(&rows);
     board.places.hand_out(&rows, &board.tallies, floor)?;
     let mut children = open_of(alloc, kept, &board.tallies, floor)?;
     forget(&mut board.tallies, met);
     best_first(&mut children);
-    let places = places_of(alloc, &children, &mut board.places)?;
+    let places = places_of(alloc, &children, &board.places)?;
+    clear(alloc, &mut board.places, &children);
     Ok(Open {
         rows,
         children,
@@ -96,11 +134,26 @@ fn choose<'a>(
 fn places_of(
     alloc: Global,
     children: &[Child],
-    places: &mut Places,
-) -> Result<Vec<Vec<Place>>, NoMemory> {
+    places: &Places,
+) -> Result<Vec<Vec<Place>>, NoMemory>
+    requires below { AllByRecursion (λ child. child.rank < length places.now) children.now }
+    ensures { IfOk result (λ lists. lists_in lists.items ≡ map (λ child. places_at places.now child.rank) children.now) }
+{
     let mut lists = Vec::with_capacity(alloc, children.len())?;
     for child in children {
-        lists.push(places.take(alloc, child.rank))?;
+        lists.push(places.of(alloc, child.rank)?)?;
     }
     Ok(lists)
+}
+
+/// Takes the places of these children away.
+fn clear(alloc: Global, places: &mut Places, children: &[Child])
+    requires below { AllByRecursion (λ child. child.rank < length places.old) children.now }
+    requires each { (rank : ℕ) → Contains (ranks_of children.now) rank ⊎ (places_at places.old rank ≡ []) }
+    ensures len { length places.new ≡ length places.old }
+    ensures empty { AreEmpty places.new }
+{
+    for child in children {
+        places.take(alloc, child.rank);
+    }
 }

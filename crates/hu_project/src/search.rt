@@ -1,6 +1,18 @@
 //! The engine over projected rows.
 
-use crate::level::{Board, open};
+ghost use Rattle.std.specs.Prelude.{◌≡◌, ◌≤ℤ◌, ◌<◌, [], ◌∷◌, ◌++◌, map, length, OnOk};
+ghost use Rattle.std.specs.List.{AllByRecursion, Contains};
+ghost use Rattle.hu_kind.specs.Itemsets.{item_patterns};
+ghost use Rattle.hu_kind.specs.Order.{Ascend};
+ghost use Rattle.hu_totals.specs.Ranked.{unranked, IsRanking};
+ghost use Rattle.hu_collect.specs.Ranks.{RestsOn};
+ghost use Rattle.hu_collect.specs.State.{floor_in, IsInOrder, Searches, Mines};
+ghost use Rattle.hu_rows.specs.Rows.{AreRows};
+ghost use Rattle.hu_rows.specs.Handed.{ArePlaces, handed};
+ghost use Rattle.hu_search.specs.Growth.{Grows, InTable};
+ghost use Rattle.hu_project.specs.Level.{IsLevel, IsBoard, IsLater};
+
+use crate::level::{Board, open_children};
 use bumpalo::Bump;
 use hu_collect::Collect;
 use hu_kind::NoMemory;
@@ -9,8 +21,17 @@ use hu_search::opens;
 use hu_totals::Ranked;
 use std::alloc::Global;
 
-/// Offers the itemsets of the ranked records that can change what the collector holds.
-pub fn mine<C: Collect>(alloc: Global, ranked: &Ranked, collect: &mut C) -> Result<(), NoMemory> {
+/// Offers the itemsets of the ranked records that can change what the collector holds, with their utility and support, so
+/// that it holds what all itemsets would make. All sets with one rank more than a set are offered before any of these is
+/// entered; then they are entered best bound first, up to the first whose bound is below the floor of the moment. A step reads
+/// the cells of a set's rows some five times, and takes no time for ranks that they don't hold. Each open set has an arena of
+/// its own, which goes when the set is left; a level of the search takes a few hundred bytes of the stack. After want of memory
+/// some of the itemsets have been offered. After EFIM (Zida, Fournier-Viger, Lin, Wu and Tseng, 2015).
+pub fn mine<C: Collect>(alloc: Global, ranked: &Ranked, collect: &mut C) -> Result<(), NoMemory>
+    requires floor { ranked.now.floor ≤ℤ floor_in (C.state collect.old) }
+    requires rests { RestsOn (C.state collect.old).rule.table ranked.now.items }
+    ensures { Mines (C.state collect.old) (item_patterns (unranked ranked.now)) (C.state collect.new) result }
+{
     let mut board = Board::new(alloc, ranked.len())?;
     let boxed = Box::new(alloc, Level::new(alloc))?;
     let level = &*boxed;
@@ -51,9 +72,18 @@ fn search<'a, C: Collect>(
     ranks: &mut Vec<u32>,
     board: &mut Board,
     collect: &mut C,
-) -> Result<(), NoMemory> {
-    let open = open(alloc, ranked, rows, arena, ranks, board, collect)?;
-    for at in 0..open.children.len() {
+) -> Result<(), NoMemory>
+    requires rules { IsRanking ranked.now }
+    requires ordered { IsInOrder (C.state collect.old) }
+    requires level { IsLevel (C.state collect.old) ranked.now ranks.old.items rows.now }
+    requires board { IsBoard (length ranked.now.items) board.old }
+    requires rests { RestsOn (C.state collect.old).rule.table ranked.now.items }
+    ensures ranks { OnOk result (ranks.new.items ≡ ranks.old.items) }
+    ensures board { OnOk result (IsBoard (length ranked.now.items) board.new) }
+    ensures made { Searches (C.state collect.old) (Grows ranked.now ranks.old.items) (C.state collect.new) result }
+{
+    let open = open_children(alloc, ranked, rows, arena, ranks, board, collect)?;
+    'children: for at in 0..open.children.len() {
         let child = open.children[at];
         if child.bound < collect.floor() {
             break;
@@ -64,7 +94,7 @@ fn search<'a, C: Collect>(
     Ok(())
 }
 
-/// Offers the sets that grow a child.
+/// Offers the sets that grow a set with one rank more, which is handed rows by places.
 #[cycle(search)]
 fn enter<C: Collect>(
     alloc: Global,
@@ -75,7 +105,18 @@ fn enter<C: Collect>(
     ranks: &mut Vec<u32>,
     board: &mut Board,
     collect: &mut C,
-) -> Result<(), NoMemory> {
+) -> Result<(), NoMemory>
+    requires rules { IsRanking ranked.now }
+    requires ordered { IsInOrder (C.state collect.old) }
+    requires later { IsLater ranked.now ranks.old.items rank }
+    requires places { ArePlaces rows.now (handed rank rows.now) places.now }
+    requires level { IsLevel (C.state collect.old) ranked.now (ranks.old.items ++ rank ∷ []) (handed rank rows.now) }
+    requires board { IsBoard (length ranked.now.items) board.old }
+    requires rests { RestsOn (C.state collect.old).rule.table ranked.now.items }
+    ensures ranks { OnOk result (ranks.new.items ≡ ranks.old.items) }
+    ensures board { OnOk result (IsBoard (length ranked.now.items) board.new) }
+    ensures made { Searches (C.state collect.old) (Grows ranked.now (ranks.old.items ++ rank ∷ [])) (C.state collect.new) result }
+{
     if !opens(alloc, ranked, ranks, rank, collect)? {
         return Ok(());
     }

@@ -65,6 +65,14 @@ impl Places {
         hand_rows(&mut self.of_ranks, rows.rows(), tallies, floor)
     }
 
+    /// The places of a rank.
+    pub fn of(&self, alloc: Global, rank: u32) -> Result<Vec<Place>, NoMemory>
+        requires { rank < length self.now }
+        ensures value { IfOk result (λ list. list.items ≡ places_at self.now rank) }
+    {
+        Ok(Vec::from_slice(alloc, self.of_ranks[rank as usize].as_slice())?)
+    }
+
     /// Takes the places of a rank, and leaves it without.
     pub fn take(&mut self, alloc: Global, rank: u32) -> Vec<Place>
         requires { rank < length self.old }

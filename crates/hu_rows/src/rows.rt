@@ -103,6 +103,7 @@ impl<'a> Rows<'a> {
         ensures over { IfOk result (λ rows. (set : List ℕ) → over rows set ≡ utility ranked.now.records set) }
         ensures count { IfOk result (λ rows. (set : List ℕ) → count_over rows set ≡ support ranked.now.records set) }
         ensures apart { IfOk result AreApart }
+        ensures rules { IfOk result AreRows }
         ensures counted { IfOk result AreCounted }
         ensures ranks { IfOk result (AreBelow (length ranked.now.items)) }
     {

@@ -45,3 +45,9 @@ returns-clause-ranks c =
     (λ rows h. AreBelow-ranks (length c.args.ranked.now.items) rows (λ rank m.
     AreBelow-unmerged c.args.ranked.now c.records.ensures.rules rank (subst (λ rs. Contains (ranks_in rs) rank) is (h.ranks rank m))))
     c.merge.ensures
+
+pub returns-clause-rules : goal.returns-clause-rules
+returns-clause-rules c =
+    let is = c.in_ok-ranked_rows.ensures.value ∙ ap (map unmerged) c.records.ensures.value in
+    let given = subst AreRows (sym is) (AreRows-unmerged c.args.ranked.now c.records.ensures.rules (omega (arith, ap length c.records.ensures.value, length-map c.records.result.now pairs_in, c.in_ok-ranked_rows.ensures.few))) in
+    IfOk-weaker c.merge.result (IsMerging (rows_of c.in_ok-ranked_rows.field-0.items)) AreRows (λ rows h. h.rules given) c.merge.ensures
