@@ -28,7 +28,7 @@ use Rattle.hu_search.specs.declared.child.Child.{Child}
 use Rattle.hu_search.specs.Growth.{rank_entry, Grows, InTable}
 use Rattle.hu_search.specs.Children.{IsChild, AreChildren, ranks_of, Counts, AreEnough, IsBarren, IsBound, AreOpen}
 use Rattle.hu_project.specs.Children.{child_with, child_if, bounded, open_if}
-use Rattle.hu_project.specs.Level.{IsLater, IsExact, IsLevel, IsNarrow, AreTold}
+use Rattle.hu_project.specs.Level.{IsLater, IsExact, IsLevel, IsNarrow, AreTold, IsAfter}
 
 -- ---- numbers that reach a floor
 
@@ -64,10 +64,6 @@ counts-before {e = e} same rises counts = record {
 }
 
 -- what counts at a later state
-pub record IsAfter (s t : State) : Type 0 where
-  pub rule : t.rule ≡ s.rule
-  pub rises : floor_in s ≤ℤ floor_in t
-
 pub enough-after : {s t : State} (r : Ranking) (set ranks : List ℕ) → IsAfter s t → AreEnough s r set ranks → AreEnough t r set ranks
 enough-after {s} {t} r set ranks after enough more up occurs counts = enough more up occurs (counts-before after.rule after.rises counts)
 

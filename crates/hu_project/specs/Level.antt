@@ -1,11 +1,11 @@
 -- A level of a search over projected rows: a set of ranks, and rows that stand for it. After EFIM (Zida and others, 2015).
-use Rattle.std.specs.Prelude.{◌≡◌, ℕ, ◌<◌, ℤ, List, [], ◌∷◌, ◌++◌, length, slice_index_or}
+use Rattle.std.specs.Prelude.{◌≡◌, ℕ, ◌<◌, ℤ, ◌≤ℤ◌, List, [], ◌∷◌, ◌++◌, length, slice_index_or}
 use Rattle.std.specs.List.{AllByRecursion, Contains, flat_map}
 use Rattle.std.specs.List.Sorted.{IsPermutation}
 use Rattle.hu_kind.specs.Database.{utility, support}
 use Rattle.hu_kind.specs.Order.{Ascend}
 use Rattle.hu_totals.specs.Ranked.{Ranking}
-use Rattle.hu_collect.specs.State.{State, Reached}
+use Rattle.hu_collect.specs.State.{State, Reached, floor_in}
 use Rattle.hu_rows.specs.declared.tally.Tally.{Tally}
 use Rattle.hu_rows.specs.Rows.{RowOf, AreRows, AreCounted, over, count_over}
 use Rattle.hu_rows.specs.Tally.{AreBelow, AreNoted, IsClear, tally_at, told, tail_told}
@@ -14,7 +14,7 @@ use Rattle.hu_rows.specs.Handed.{ArePlaces, AreEmpty, handed}
 use Rattle.hu_rows.specs.Places.{lists_in}
 use Rattle.hu_search.specs.Growth.{InTable}
 use Rattle.hu_search.specs.declared.child.Child.{Child}
-use Rattle.hu_search.specs.Children.{AreEnough, IsOneOf, AreOpen, Fall}
+use Rattle.hu_search.specs.Children.{AreEnough, IsOneOf, AreOpen, Fall, IsUpto}
 use Rattle.hu_project.specs.Children.{open_if}
 use Rattle.hu_project.specs.declared.level.Board.{Board}
 use Rattle.hu_project.specs.declared.level.Open.{Open}
@@ -87,3 +87,15 @@ pub record IsChoice (given : List RowOf) (kept : List Child) (floor : ℤ) (open
   pub same : IsPermutation (flat_map (open_if tails floor) kept) open_part.children.items
   pub fall : Fall open_part.children.items
   pub places : AreHanded given open_part.children.items (lists_in open_part.places.items)
+
+-- a state comes after another: the rule is the same, and the floor is no lower
+pub record IsAfter (s t : State) : Type 0 where
+  pub rule : t.rule ≡ s.rule
+  pub rises : floor_in s ≤ℤ floor_in t
+
+-- the first of what is open was entered
+pub record IsSoFar (old now : State) (r : Ranking) (set : List ℕ) (open_part : Open) (at : ℕ) : Type 0 where
+  pub mid : State
+  pub prepared : IsPrepared old mid r set open_part
+  pub after : IsAfter mid now
+  pub made : Reached old (IsUpto r set prepared.ranks open_part.children.items at) now

@@ -86,7 +86,7 @@ fn search<'a, C: Collect>(
     'children: for at in 0..open.children.len() {
         let child = open.children[at];
         if child.bound < collect.floor() {
-            break;
+            return Ok(());
         }
         let places = open.places[at].as_slice();
         enter(alloc, ranked, &open.rows, places, child.rank, ranks, board, collect)?;

@@ -1,7 +1,5 @@
 use Rattle.std.proofs.Common.{◌≡◌, ◌+◌, ◌-◌, ◌*◌, length}
-use Rattle.hu_collect.specs.State.{Reached}
-use Rattle.hu_search.specs.Children.{IsUpto}
-use Rattle.hu_project.specs.Level.{IsBoard}
+use Rattle.hu_project.specs.Level.{IsBoard, IsSoFar}
 use Rattle.hu_project.proofs.search.+search.Given as goal
 
 -- a search by one rank more comes after an entrance to it
@@ -10,3 +8,10 @@ decreases-search g l = 2 * (length l.ranked.now.items - length l.ranks.now.items
 
 abbrev pub decreases-enter : goal.decreases-enter
 decreases-enter g l = 2 * (length l.ranked.now.items - length l.ranks.now.items)
+
+abbrev pub invariant-search-children : goal.invariant-search-children
+invariant-search-children g l = record {
+  ranks : l.ranks.items ≡ l.fn.ranks.items;
+  board : IsBoard (length l.ranked.items) l.board;
+  made : IsSoFar (g.C.Collect.state l.fn.collect) (g.C.Collect.state l.collect) l.ranked l.fn.ranks.items l.open l.at;
+}
