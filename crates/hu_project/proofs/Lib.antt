@@ -1,3 +1,5 @@
 pub mod LevelLemmas
 pub mod ChoiceLemmas
 pub mod PreparedLemmas
+pub mod TurnLemmas
+pub mod FirstLevel

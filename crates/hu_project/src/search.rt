@@ -32,6 +32,9 @@ pub fn mine<C: Collect>(alloc: Global, ranked: &Ranked, collect: &mut C) -> Resu
     requires rests { RestsOn (C.state collect.old).rule.table ranked.now.items }
     ensures { Mines (C.state collect.old) (item_patterns (unranked ranked.now)) (C.state collect.new) result }
 {
+    // These tell the proof the rules of ranked records, and that the collector is in order.
+    let _records = ranked.records();
+    let _floor = collect.floor();
     let mut board = Board::new(alloc, ranked.len())?;
     let boxed = Box::new(alloc, Level::new(alloc))?;
     let level = &*boxed;
@@ -89,7 +92,9 @@ fn search<'a, C: Collect>(
             return Ok(());
         }
         let places = open.places[at].as_slice();
-        enter(alloc, ranked, &open.rows, places, child.rank, ranks, board, collect)?;
+        enter(
+            alloc, ranked, &open.rows, places, child.rank, ranks, board, collect,
+        )?;
     }
     Ok(())
 }

@@ -41,10 +41,10 @@ places_at-push lists rank old new more within is grown other =
           let short : rank < length lists = omega (arith, length-map lists (λ (list : Vec Place Global). list.items)) in
           let read : get_or (lists_in lists) rank [] ≡ old.items = get_or-map (λ (list : Vec Place Global). list.items) lists rank old [] short ∙ ap (λ (list : Vec Place Global). list.items) (sym is) in
           rw here (
-            ap (λ r. get_or (set (lists_in lists) rank new.items) r []) e
-            ∙ get_or-set_same (lists_in lists) rank new.items [] within
-            ∙ grown
-            ∙ ap (λ ps. ps ++ more) (sym read ∙ ap (λ r. get_or (lists_in lists) r []) (sym e))
+          ap (λ r. get_or (set (lists_in lists) rank new.items) r []) e
+          ∙ get_or-set_same (lists_in lists) rank new.items [] within
+          ∙ grown
+          ∙ ap (λ ps. ps ++ more) (sym read ∙ ap (λ r. get_or (lists_in lists) r []) (sym e))
           )
       | inr ne ↦
           let no : eqb other rank ≡ false = ne_eqb other rank ne in

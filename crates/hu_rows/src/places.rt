@@ -55,7 +55,12 @@ impl Places {
 
     /// Hands each row to the ranks in it that a cell follows and whose bound reaches a floor: their places give the rows
     /// that hold them, projected by them, but for those that no cell is left of. It reads each cell once.
-    pub fn hand_out(&mut self, rows: &Rows<'_>, tallies: &Tallies, floor: i128) -> Result<(), NoMemory>
+    pub fn hand_out(
+        &mut self,
+        rows: &Rows<'_>,
+        tallies: &Tallies,
+        floor: i128,
+    ) -> Result<(), NoMemory>
         requires empty { AreEmpty self.old }
         requires below { AreBelow (length self.old) rows.now }
         requires told { length tallies.now ≡ length self.old }
@@ -165,7 +170,12 @@ fn hand_row(
     for next in 1..cells.len() {
         let cell = next - 1;
         let rank = cells[cell].rank;
-        push_place(lists, rank, Place { row, cell }, tallies.reaches(rank, floor))?;
+        push_place(
+            lists,
+            rank,
+            Place { row, cell },
+            tallies.reaches(rank, floor),
+        )?;
     }
     Ok(())
 }

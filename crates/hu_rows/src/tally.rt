@@ -116,11 +116,7 @@ const NONE: Tally = Tally {
 };
 
 /// Tells what each row says, and notes the ranks that are met for the first time.
-fn tell_rows(
-    tallies: &mut Vec<Tally>,
-    met: &mut Vec<u32>,
-    rows: &[Row<'_>],
-) -> Result<(), NoMemory>
+fn tell_rows(tallies: &mut Vec<Tally>, met: &mut Vec<u32>, rows: &[Row<'_>]) -> Result<(), NoMemory>
     requires clear { IsClear tallies.old.items }
     requires noted { AreNoted tallies.old.items met.old.items }
     requires rules { AreRows (rows_of rows.now) }
@@ -136,11 +132,7 @@ fn tell_rows(
 }
 
 /// Tells what a row says.
-fn tell_row(
-    tallies: &mut Vec<Tally>,
-    met: &mut Vec<u32>,
-    row: &Row<'_>,
-) -> Result<(), NoMemory>
+fn tell_row(tallies: &mut Vec<Tally>, met: &mut Vec<u32>, row: &Row<'_>) -> Result<(), NoMemory>
     requires ascending { Ascend (ranks_of (row_of row.now)) }
     requires below { AllByRecursion (λ rank. rank < length tallies.old.items) (ranks_of (row_of row.now)) }
     requires room { (rank : ℕ) → HasRoom (tally_at tallies.old.items rank) (row_of row.now) }
@@ -187,7 +179,11 @@ fn tell_tails(tallies: &mut Vec<Tally>, row: &Row<'_>)
         place -= 1;
         let cell = row.cells[place];
         let earned = earned_with(row.before, cell.value);
-        add(tallies, cell.rank, tail_share(earned, rest, &row.cells[place + 1..]));
+        add(
+            tallies,
+            cell.rank,
+            tail_share(earned, rest, &row.cells[place + 1..]),
+        );
         rest = with_gain(rest, cell.value);
     }
 }
