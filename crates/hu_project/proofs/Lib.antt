@@ -1,4 +1,5 @@
-mod SumLemmas
-mod RankLemmas
-mod LevelLemmas
-mod TurnLemmas
+pub mod LevelLemmas
+pub mod ChoiceLemmas
+pub mod PreparedLemmas
+pub mod TurnLemmas
+pub mod FirstLevel

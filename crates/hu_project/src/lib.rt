@@ -5,9 +5,9 @@
 //! crate stands on hu_search, hu_rows, hu_collect and hu_totals, and on bumpalo for the arenas; its tests stand on hu_base too.
 #![tactic(auto)]
 
-mod branches;
+mod children;
+mod level;
 mod search;
-mod sums;
 #[cfg(test)]
 mod tests;
 

@@ -111,7 +111,7 @@ over_row-local keep set z row up is m = by (holds set row.cells) (has z row.cell
     by false true h k = positive-least (row.before +ℤ kept_gain keep row.cells)
     by false false h k = omega (arith, ints)
 
-over_row-subtree : (keep set : List ℕ) (z : ℕ) (row : RowOf) → Ascend (ranks_of row) → IsKeptSet keep (z ∷ set) → over_row (z ∷ set) row ≤ℤ cond (has z row.cells) (subtree_share keep z row) (pos 0)
+pub over_row-subtree : (keep set : List ℕ) (z : ℕ) (row : RowOf) → Ascend (ranks_of row) → IsKeptSet keep (z ∷ set) → over_row (z ∷ set) row ≤ℤ cond (has z row.cells) (subtree_share keep z row) (pos 0)
 over_row-subtree keep set z row up is = by (has z row.cells) (holds set row.cells) refl
   where
     by : (b c : Bool) → holds set row.cells ≡ c → cond (b && c) (row.before +ℤ (value_of z row.cells +ℤ values_of set row.cells)) (pos 0) ≤ℤ cond b (subtree_share keep z row) (pos 0)
@@ -122,7 +122,7 @@ over_row-subtree keep set z row up is = by (has z row.cells) (holds set row.cell
     by true false h = positive-least (row.before +ℤ value_of z row.cells +ℤ kept_gain keep (after z row.cells))
     by false c h = omega (arith, ints)
 
-over-local : (keep set : List ℕ) (z : ℕ) (rows : List RowOf) → AllByRecursion (λ row. Ascend (ranks_of row)) rows → IsKeptSet keep set → among z set ≡ true → over rows set ≤ℤ local_bound rows keep z
+pub over-local : (keep set : List ℕ) (z : ℕ) (rows : List RowOf) → AllByRecursion (λ row. Ascend (ranks_of row)) rows → IsKeptSet keep set → among z set ≡ true → over rows set ≤ℤ local_bound rows keep z
 over-local keep set z [] up is m = omega (arith, ints)
 over-local keep set z (row ∷ rows) up is m = omega (arith, ints, over_row-local keep set z row up.0 is m, over-local keep set z rows up.1 is m)
 

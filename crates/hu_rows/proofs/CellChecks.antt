@@ -18,7 +18,7 @@ use Rattle.hu_totals.specs.declared.ranked.Dense.{Dense}
 use Rattle.hu_totals.specs.Ranked.{Ranking, IsRanking}
 use Rattle.hu_totals.specs.View.{dense_pair}
 use Rattle.hu_rows.specs.declared.rows.Row.{Row}
-use Rattle.hu_rows.specs.Rows.{RowOf, AreRows, over, count_over, size_of, count_of, ranks_of, unmerged}
+use Rattle.hu_rows.specs.Rows.{RowOf, AreRows, AreCounted, over, count_over, size_of, count_of, ranks_of, unmerged}
 use Rattle.hu_rows.specs.Projection.{after, projected_row}
 use Rattle.hu_rows.specs.View.{cells_of, row_of, rows_of, row_with, KeepRules}
 use Rattle.hu_rows.proofs.CellLemmas.{IsPlace, IsPlace-at}
@@ -181,3 +181,7 @@ AreRows-unmerged r rules few = record {
   sizes = omega (arith, sizes-unmerged r.records, rules.sum_fits);
   counts = omega (arith, counts-unmerged r.records, few);
 }
+
+pub AreCounted-unmerged : (records : List (List (ℕ × ℤ))) → AreCounted (map unmerged records)
+AreCounted-unmerged [] = tt
+AreCounted-unmerged (r ∷ rs) = (omega arith, AreCounted-unmerged rs)

@@ -105,3 +105,12 @@ Member-after z rank (cell ∷ cells) m = by (nat_lt z cell.0) refl (Member-after
     by true h ih (inl e) = (omega (arith, ltb-true z cell.0 h), inl e)
     by true h ih (inr n) = let r = ih n in (r.0, inr r.1)
     by false h ih n = let r = ih n in (r.0, inr r.1)
+
+-- and these are after z
+pub each-after-both : (P : ℕ → Type 0) (z : ℕ) (cells : List (ℕ × ℤ)) → AllByRecursion P (items_in cells) → AllByRecursion (λ rank. P rank × (z < rank)) (items_in (after z cells))
+each-after-both P z [] all = tt
+each-after-both P z (cell ∷ cells) all = by (nat_lt z cell.0) refl (each-after-both P z cells all.1)
+  where
+    by : (b : Bool) → nat_lt z cell.0 ≡ b → AllByRecursion (λ rank. P rank × (z < rank)) (items_in (after z cells)) → AllByRecursion (λ rank. P rank × (z < rank)) (items_in (cond b (cell ∷ after z cells) (after z cells)))
+    by true h ih = ((all.0, ltb-true z cell.0 h), ih)
+    by false h ih = ih

@@ -1,3 +1,4 @@
+pub mod lemmas
 pub mod CellLemmas
 pub mod ProjectionLemmas
 pub mod AddedCells
@@ -8,3 +9,7 @@ pub mod RunLemmas
 pub mod CellChecks
 pub mod BoundLemmas
 pub mod SettingLemmas
+pub mod TallyLemmas
+pub mod NarrowingLemmas
+pub mod PlaceLemmas
+pub mod RowRanks

@@ -1,5 +1,5 @@
 -- Rows of the same ranks made one: what sets earn over them stays, and in order no two have the same ranks.
-use Rattle.std.proofs.Common.{◌≡◌, ◌≢◌, ℕ, suc, ◌+◌, ◌≤◌, Bool, true, false, cond, ◌+ℤ◌, List, [], ◌∷◌, take, drop, reverse, refl, sym, ap, ◌∙◌, subst, arith, sum_by, nat_cmp, Ordering, Less, Equal, Greater}
+use Rattle.std.proofs.Common.{◌≡◌, ◌<◌, ◌≢◌, ℕ, suc, ◌+◌, ◌≤◌, Bool, true, false, cond, ◌+ℤ◌, List, [], ◌∷◌, take, drop, reverse, refl, sym, ap, ◌∙◌, subst, arith, sum_by, nat_cmp, Ordering, Less, Equal, Greater}
 use Rattle.std.specs.List.{AllByRecursion, fold, prefix_len}
 use Rattle.std.specs.Ordering.{is_lt, is_eq, ordering_reverse}
 use Rattle.std.specs.Cmp.{IsTotalOrder}
@@ -11,7 +11,7 @@ use Rattle.std.proofs.lemmas.List.Sums.{sum_by-cons}
 use Rattle.std.proofs.lemmas.Map.Lookups.{exact_bytes}
 use Rattle.hu_kind.specs.Order.{Ascend}
 use Rattle.hu_rows.specs.declared.rows.Row.{Row}
-use Rattle.hu_rows.specs.Rows.{RowOf, AreRows, AreApart, over, over_row, count_over, count_in, count_of, size_of, ranks_of}
+use Rattle.hu_rows.specs.Rows.{RowOf, AreRows, AreApart, AreCounted, over, over_row, count_over, count_in, count_of, size_of, ranks_of}
 use Rattle.hu_rows.specs.Merging.{row_cmp, added, merged, merged_from}
 use Rattle.hu_rows.specs.View.{row_of, rows_of, same_ranks}
 use Rattle.hu_rows.proofs.AddedCells.{items_in-added_cells, over_row-added, count_in-added, size_of-added}
@@ -77,6 +77,19 @@ each-merged_from P row (next ∷ rows) here all = by (is_eq (row_cmp row next)) 
 pub each-merged : (P : List ℕ → Type 0) (rows : List RowOf) → AllByRecursion (λ row. P (ranks_of row)) rows → AllByRecursion (λ row. P (ranks_of row)) (merged rows)
 each-merged P [] all = tt
 each-merged P (row ∷ rows) all = each-merged_from P row rows all.0 all.1
+
+-- merged rows stand for records where the rows do
+counted-merged_from : (row : RowOf) (rows : List RowOf) → 0 < row.count → AreCounted rows → AreCounted (merged_from row rows)
+counted-merged_from row [] here all = (here, tt)
+counted-merged_from row (next ∷ rows) here all = by (is_eq (row_cmp row next)) (λ r h. counted-merged_from r rows h all.1)
+  where
+    by : (b : Bool) → ((r : RowOf) → 0 < r.count → AreCounted (merged_from r rows)) → AreCounted (cond b (merged_from (added row next) rows) (row ∷ merged_from next rows))
+    by true ih = ih (added row next) (omega arith)
+    by false ih = (here, ih next all.0)
+
+pub counted-merged : (rows : List RowOf) → AreCounted rows → AreCounted (merged rows)
+counted-merged [] all = tt
+counted-merged (row ∷ rows) all = counted-merged_from row rows all.0 all.1
 
 -- ---- the rules of rows
 

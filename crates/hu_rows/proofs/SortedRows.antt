@@ -15,7 +15,7 @@ use Rattle.hu_rows.specs.Rows.{RowOf, AreRows, over, over_row, count_over, count
 use Rattle.hu_rows.specs.Merging.{row_cmp, merged, IsMerging}
 use Rattle.hu_rows.specs.View.{row_of, rows_of, row_below}
 use Rattle.hu_rows.proofs.CellChecks.{each-rows}
-use Rattle.hu_rows.proofs.MergingLemmas.{row_cmp_total, Rising, over-merged, count_over-merged, each-merged, AreApart-merged}
+use Rattle.hu_rows.proofs.MergingLemmas.{row_cmp_total, Rising, over-merged, count_over-merged, each-merged, AreApart-merged, AreRows-merged, counted-merged}
 
 -- ---- rows in another order
 
@@ -90,6 +90,8 @@ IsMerging-sorted rows sorted same order =
     record {
       over = λ set. over-merged set (rows_of sorted) ∙ over-permutation set (rows_of rows) (rows_of sorted) same';
       count = λ set. count_over-merged set (rows_of sorted) ∙ count_over-permutation set (rows_of rows) (rows_of sorted) same';
+      rules = λ rules. AreRows-merged (rows_of sorted) (AreRows-sorted rows sorted same rules);
+      counted = λ all. counted-merged (rows_of sorted) (by_members (λ row. 0 < row.count) (rows_of sorted) (λ row m. at_member (λ (r : RowOf). 0 < r.count) row (rows_of rows) all (Member-permutation (rows_of rows) (rows_of sorted) row same' m)));
       apart = AreApart-merged (rows_of sorted) (Rising-sorted sorted order);
       ranks = λ rank m. Contains-from_member rank (ranks_in (rows_of rows))
           (Member-ranks_permutation rank (rows_of rows) (rows_of sorted) same' (Member-merged rank (rows_of sorted) (Member-from_contains rank (ranks_in (merged (rows_of sorted))) m)));

@@ -3,5 +3,8 @@ pub mod Projection
 pub mod Merging
 pub mod Bounds
 pub mod Setting
+pub mod Tally
+pub mod Handed
+pub mod Places
 pub mod View
 pub mod Worked

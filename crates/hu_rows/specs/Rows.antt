@@ -57,6 +57,10 @@ abbrev pub AreApart : List RowOf → Type 0
 AreApart [] = ⊤
 AreApart (row ∷ rows) = AllByRecursion (λ other. ranks_of row ≢ ranks_of other) rows × AreApart rows
 
+-- every row stands for a record at least
+abbrev pub AreCounted : List RowOf → Type 0
+AreCounted rows = AllByRecursion (λ row. 0 < row.count) rows
+
 -- every rank of the rows
 abbrev pub ranks_in : List RowOf → List ℕ
 ranks_in rows = flat_map ranks_of rows

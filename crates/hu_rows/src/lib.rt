@@ -8,12 +8,18 @@
 
 mod bins;
 mod merge;
+mod narrowing;
+mod places;
 mod projection;
 mod rows;
 mod setting;
+mod tally;
 #[cfg(test)]
 mod tests;
 
 pub use bins::Bins;
+pub use narrowing::narrow;
+pub use places::{Place, Places, rows_at};
 pub use projection::project;
 pub use rows::{Row, Rows};
+pub use tally::{Tallies, Tally};

@@ -4,7 +4,8 @@ ghost use Rattle.std.specs.Prelude.{◌≡◌, ◌↔◌, ◌+◌, ◌<◌, ◌^
 ghost use Rattle.std.specs.List.{All, AllAdjacentBelow, sum_by};
 ghost use Rattle.hu_kind.specs.Database.{utility, support};
 ghost use Rattle.hu_totals.specs.View.{pairs_in};
-ghost use Rattle.hu_rows.specs.Rows.{AreRows, AreApart, over, count_over, size_of, count_of, unmerged};
+ghost use Rattle.hu_rows.specs.Rows.{AreRows, AreApart, AreCounted, over, count_over, size_of, count_of, unmerged};
+ghost use Rattle.hu_rows.specs.Tally.{AreBelow};
 ghost use Rattle.hu_rows.specs.View.{row_of, row_with, rows_of, KeepRules};
 
 use crate::merge::merge;
@@ -102,6 +103,9 @@ impl<'a> Rows<'a> {
         ensures over { IfOk result (λ rows. (set : List ℕ) → over rows set ≡ utility ranked.now.records set) }
         ensures count { IfOk result (λ rows. (set : List ℕ) → count_over rows set ≡ support ranked.now.records set) }
         ensures apart { IfOk result AreApart }
+        ensures rules { IfOk result AreRows }
+        ensures counted { IfOk result AreCounted }
+        ensures ranks { IfOk result (AreBelow (length ranked.now.items)) }
     {
         merge(alloc, ranked_rows(alloc, ranked.records())?, arena)
     }

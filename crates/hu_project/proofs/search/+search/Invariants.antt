@@ -1,19 +1,17 @@
-use Rattle.std.proofs.Common.{◌≡◌, ◌+◌, ◌-◌, ◌*◌, length, take}
-use Rattle.hu_collect.specs.Makes.{MakesReaching}
-use Rattle.hu_search.proofs.lemmas.Beginnings.{Begins}
+use Rattle.std.proofs.Common.{◌≡◌, ◌+◌, ◌-◌, ◌*◌, length}
+use Rattle.hu_project.specs.Level.{IsBoard, IsSoFar}
 use Rattle.hu_project.proofs.search.+search.Given as goal
 
--- a search of so many branches comes after a visit of more, and before one of fewer
+-- a search by one rank more comes after an entrance to it
 abbrev pub decreases-search : goal.decreases-search
-decreases-search g l = 2 * length l.branches.now.ranks.items
+decreases-search g l = 2 * (length l.ranked.now.items - length l.ranks.now.items) + 1
 
-abbrev pub decreases-visit : goal.decreases-visit
-decreases-visit g l = 2 * (length l.branches.now.ranks.items - (l.at + 1)) + 1
+abbrev pub decreases-enter : goal.decreases-enter
+decreases-enter g l = 2 * (length l.ranked.now.items - length l.ranks.now.items)
 
-abbrev pub invariant-search-branches : goal.invariant-search-branches
-invariant-search-branches g l = record {
-  rule : (g.C.Collect.state l.collect).rule ≡ (g.C.Collect.state l.initial.collect).rule;
-  ranks : l.ranks.items ≡ l.initial.ranks.items;
-  bins : l.bins.ranks ≡ l.initial.bins.ranks;
-  made : MakesReaching ((g.C.Collect.state l.initial.collect).rule) ((g.C.Collect.state l.initial.collect).content) (Begins l.ranked l.initial.ranks.items (take l.at l.branches.ranks.items)) ((g.C.Collect.state l.collect).content);
+abbrev pub invariant-search-children : goal.invariant-search-children
+invariant-search-children g l = record {
+  ranks : l.ranks.items ≡ l.fn.ranks.items;
+  board : IsBoard (length l.ranked.items) l.board;
+  made : IsSoFar (g.C.Collect.state l.fn.collect) (g.C.Collect.state l.collect) l.ranked l.fn.ranks.items l.open l.at;
 }

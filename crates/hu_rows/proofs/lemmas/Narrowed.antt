@@ -1,0 +1,177 @@
+-- Rows with the cells of some ranks alone: sets of two or more of these ranks earn over them what they earn over the rows.
+use Rattle.std.proofs.Common.{◌≡◌, ℕ, ◌+◌, ◌<◌, ◌≤◌, Bool, true, false, cond, eqb, nat_lt, ◌&&◌, ◌||◌, ℤ, pos, unsigned_abs, ◌+ℤ◌, List, [], ◌∷◌, ◌++◌, length, refl, sym, ap, ◌∙◌, subst, arith, sum_by}
+use Rattle.std.specs.List.{AllByRecursion}
+use Rattle.std.proofs.lemmas.Bool.{and_parts, eqb-true, ne_eqb, lt-ltb}
+use Rattle.std.proofs.lemmas.Int.{ints}
+use Rattle.std.proofs.lemmas.List.Sums.{sum_by-cons, sum_by-append}
+use Rattle.hu_kind.specs.Order.{Ascend}
+use Rattle.hu_kind.specs.Record.{has, holds, value_of, values_of, items_in, absolute_of}
+use Rattle.hu_rows.specs.Rows.{RowOf, AreRows, over, over_row, count_over, count_in, count_of, size_of, ranks_of}
+use Rattle.hu_rows.specs.Tally.{EachRank}
+use Rattle.hu_rows.specs.Handed.{only, row_if_two, narrowed_row, narrowed}
+use Rattle.hu_rows.proofs.ProjectionLemmas.{over-append, count_over-append}
+
+-- ---- cells
+
+module _ (p : ℕ → Bool) where
+  -- a cell that is left out says nothing of ranks that are kept
+  other : (s : ℕ) (cell : ℕ × ℤ) → p s ≡ true → p cell.0 ≡ false → eqb s cell.0 ≡ false
+  other s cell kept out = ne_eqb s cell.0 (λ e. let there : p s ≡ false = ap p e ∙ out in cc)
+
+  has-only : (s : ℕ) (cells : List (ℕ × ℤ)) → p s ≡ true → has s (only p cells) ≡ has s cells
+  has-only s [] kept = refl
+  has-only s (cell ∷ cells) kept = by (p cell.0) refl (has-only s cells kept)
+    where
+      by : (b : Bool) → p cell.0 ≡ b → has s (only p cells) ≡ has s cells → has s (cond b (cell ∷ only p cells) (only p cells)) ≡ has s (cell ∷ cells)
+      by true h ih = ap (λ r. eqb s cell.0 || r) ih
+      by false h ih = let no : eqb s cell.0 ≡ false = other s cell kept h in rw no ih
+
+  value_of-only : (s : ℕ) (cells : List (ℕ × ℤ)) → p s ≡ true → value_of s (only p cells) ≡ value_of s cells
+  value_of-only s [] kept = refl
+  value_of-only s (cell ∷ cells) kept = by (p cell.0) refl (value_of-only s cells kept)
+    where
+      by : (b : Bool) → p cell.0 ≡ b → value_of s (only p cells) ≡ value_of s cells → value_of s (cond b (cell ∷ only p cells) (only p cells)) ≡ value_of s (cell ∷ cells)
+      by true h ih = ap (λ r. cond (eqb s cell.0) cell.1 r) ih
+      by false h ih = let no : eqb s cell.0 ≡ false = other s cell kept h in rw no ih
+
+  holds-only : (set : List ℕ) (cells : List (ℕ × ℤ)) → AllByRecursion (λ s. p s ≡ true) set → holds set (only p cells) ≡ holds set cells
+  holds-only [] cells kept = refl
+  holds-only (s ∷ set) cells kept = λ j. has-only s cells kept.0 j && holds-only set cells kept.1 j
+
+  values_of-only : (set : List ℕ) (cells : List (ℕ × ℤ)) → AllByRecursion (λ s. p s ≡ true) set → values_of set (only p cells) ≡ values_of set cells
+  values_of-only [] cells kept = refl
+  values_of-only (s ∷ set) cells kept = λ j. value_of-only s cells kept.0 j +ℤ values_of-only set cells kept.1 j
+
+  each-only : (P : ℕ → Type 0) (cells : List (ℕ × ℤ)) → AllByRecursion P (items_in cells) → AllByRecursion (λ rank. P rank × (p rank ≡ true)) (items_in (only p cells))
+  each-only P [] all = tt
+  each-only P (cell ∷ cells) all = by (p cell.0) refl (each-only P cells all.1)
+    where
+      by : (b : Bool) → p cell.0 ≡ b → AllByRecursion (λ rank. P rank × (p rank ≡ true)) (items_in (only p cells)) → AllByRecursion (λ rank. P rank × (p rank ≡ true)) (items_in (cond b (cell ∷ only p cells) (only p cells)))
+      by true h ih = ((all.0, h), ih)
+      by false h ih = ih
+
+  firsts : (P Q : ℕ → Type 0) (ranks : List ℕ) → AllByRecursion (λ rank. P rank × Q rank) ranks → AllByRecursion P ranks
+  firsts P Q [] all = tt
+  firsts P Q (r ∷ ranks) all = (all.0.0, firsts P Q ranks all.1)
+
+  Ascend-only : (cells : List (ℕ × ℤ)) → Ascend (items_in cells) → Ascend (items_in (only p cells))
+  Ascend-only [] up = tt
+  Ascend-only (cell ∷ cells) up = by (p cell.0) (Ascend-only cells up.1)
+    where
+      by : (b : Bool) → Ascend (items_in (only p cells)) → Ascend (items_in (cond b (cell ∷ only p cells) (only p cells)))
+      by true ih = (firsts (λ y. cell.0 < y) (λ rank. p rank ≡ true) (items_in (only p cells)) (each-only (λ y. cell.0 < y) cells up.0), ih)
+      by false ih = ih
+
+  absolute_of-only : (cells : List (ℕ × ℤ)) → absolute_of (only p cells) ≤ absolute_of cells
+  absolute_of-only [] = omega arith
+  absolute_of-only (cell ∷ cells) = by (p cell.0) (absolute_of-only cells)
+    where
+      by : (b : Bool) → absolute_of (only p cells) ≤ absolute_of cells → absolute_of (cond b (cell ∷ only p cells) (only p cells)) ≤ absolute_of (cell ∷ cells)
+      by true ih = omega (arith, sum_by-cons (λ (c : ℕ × ℤ). unsigned_abs c.1) cell (only p cells), sum_by-cons (λ (c : ℕ × ℤ). unsigned_abs c.1) cell cells)
+      by false ih = omega (arith, sum_by-cons (λ (c : ℕ × ℤ). unsigned_abs c.1) cell cells)
+
+-- ---- a row
+
+-- a set of two ranks or more
+pub record IsPair (set : List ℕ) : Type 0 where
+  pub ascending : Ascend set
+  pub two : 1 < length set
+
+-- cells that hold two ranks are two or more
+two-held : (set : List ℕ) (cells : List (ℕ × ℤ)) → IsPair set → holds set cells ≡ true → nat_lt 1 (length cells) ≡ true
+two-held [] cells pair h = absurd (let two = pair.two in omega arith)
+two-held (a ∷ []) cells pair h = absurd (let two = pair.two in omega arith)
+two-held (a ∷ b ∷ set) [] pair h = cc
+two-held (a ∷ b ∷ set) (c ∷ d ∷ cells) pair h = lt-ltb 1 (length (c ∷ d ∷ cells)) (omega arith)
+two-held (a ∷ b ∷ set) (c ∷ []) pair h =
+    let below = pair.ascending.0.0 in
+    let first = and_parts (eqb a c.0 || false) _ h in
+    let second = and_parts (eqb b c.0 || false) _ first.1 in
+    let e = eqb-true a c.0 (or-false (eqb a c.0) first.0) in
+    let f = eqb-true b c.0 (or-false (eqb b c.0) second.0) in
+    absurd (omega arith)
+  where
+    or-false : (x : Bool) → x || false ≡ true → x ≡ true
+    or-false true k = refl
+    or-false false k = k
+
+over-row_if_two : (set : List ℕ) (before : ℤ) (count : ℕ) (cells : List (ℕ × ℤ)) → IsPair set → over (row_if_two before count cells) set ≡ cond (holds set cells) (before +ℤ values_of set cells) (pos 0)
+over-row_if_two set before count cells pair = by (nat_lt 1 (length cells)) (holds set cells) refl refl
+  where
+    by : (b c : Bool) → nat_lt 1 (length cells) ≡ b → holds set cells ≡ c → over (cond b (record { before = before; count = count; cells = cells } ∷ []) []) set ≡ cond c (before +ℤ values_of set cells) (pos 0)
+    by true true h k = rw k (omega (arith, ints))
+    by true false h k = rw k (omega (arith, ints))
+    by false true h k = let two = two-held set cells pair k in cc
+    by false false h k = refl
+
+count-row_if_two : (set : List ℕ) (before : ℤ) (count : ℕ) (cells : List (ℕ × ℤ)) → IsPair set → count_over (row_if_two before count cells) set ≡ cond (holds set cells) count 0
+count-row_if_two set before count cells pair = by (nat_lt 1 (length cells)) (holds set cells) refl refl
+  where
+    by : (b c : Bool) → nat_lt 1 (length cells) ≡ b → holds set cells ≡ c → count_over (cond b (record { before = before; count = count; cells = cells } ∷ []) []) set ≡ cond c count 0
+    by true true h k = rw k (omega arith)
+    by true false h k = rw k refl
+    by false true h k = let two = two-held set cells pair k in cc
+    by false false h k = refl
+
+-- ---- rows
+
+module _ (p : ℕ → Bool) (set : List ℕ) (pair : IsPair set) (kept : AllByRecursion (λ s. p s ≡ true) set) where
+  over-narrowed_row : (row : RowOf) → over (narrowed_row p row) set ≡ over_row set row
+  over-narrowed_row row = over-row_if_two set row.before row.count (only p row.cells) pair
+      ∙ (λ j. cond (holds-only p set row.cells kept j) (row.before +ℤ values_of-only p set row.cells kept j) (pos 0))
+
+  count-narrowed_row : (row : RowOf) → count_over (narrowed_row p row) set ≡ count_in set row
+  count-narrowed_row row = count-row_if_two set row.before row.count (only p row.cells) pair ∙ (λ j. cond (holds-only p set row.cells kept j) row.count 0)
+
+  pub over-narrowed : (rows : List RowOf) → over (narrowed p rows) set ≡ over rows set
+  over-narrowed [] = refl
+  over-narrowed (row ∷ rows) = over-append (narrowed_row p row) (narrowed p rows) set ∙ (λ j. over-narrowed_row row j +ℤ over-narrowed rows j)
+
+  pub count-narrowed : (rows : List RowOf) → count_over (narrowed p rows) set ≡ count_over rows set
+  count-narrowed [] = refl
+  count-narrowed (row ∷ rows) = count_over-append (narrowed_row p row) (narrowed p rows) set ∙ (λ j. count-narrowed_row row j + count-narrowed rows j)
+
+each-joined : {A : Type 0} (P : A → Type 0) (xs ys : List A) → AllByRecursion P xs → AllByRecursion P ys → AllByRecursion P (xs ++ ys)
+each-joined P [] ys all more = more
+each-joined P (x ∷ xs) ys all more = (all.0, each-joined P xs ys all.1 more)
+
+-- what holds of each rank of the rows holds of those of narrowed rows, and these are kept
+pub each-narrowed : (p : ℕ → Bool) (P : ℕ → Type 0) (rows : List RowOf) → EachRank P rows → EachRank (λ rank. P rank × (p rank ≡ true)) (narrowed p rows)
+each-narrowed p P [] all = tt
+each-narrowed p P (row ∷ rows) all =
+    each-joined (λ (r : RowOf). AllByRecursion (λ rank. P rank × (p rank ≡ true)) (ranks_of r)) (narrowed_row p row) (narrowed p rows) (by (nat_lt 1 (length (only p row.cells)))) (each-narrowed p P rows all.1)
+  where
+    by : (b : Bool) → EachRank (λ rank. P rank × (p rank ≡ true)) (cond b (record { before = row.before; count = row.count; cells = only p row.cells } ∷ []) [])
+    by true = (each-only p P row.cells all.0, tt)
+    by false = tt
+
+pub AreRows-narrowed : (p : ℕ → Bool) (rows : List RowOf) → AreRows rows → AreRows (narrowed p rows)
+AreRows-narrowed p rows rules = record {
+  ascending = ascending rows rules.ascending;
+  sizes = omega (arith, sizes rows, rules.sizes);
+  counts = omega (arith, counts rows, rules.counts);
+}
+  where
+    ascending : (rows : List RowOf) → AllByRecursion (λ row. Ascend (ranks_of row)) rows → AllByRecursion (λ row. Ascend (ranks_of row)) (narrowed p rows)
+    ascending [] all = tt
+    ascending (row ∷ rows) all = each-joined (λ (r : RowOf). Ascend (ranks_of r)) (narrowed_row p row) (narrowed p rows) (by (nat_lt 1 (length (only p row.cells)))) (ascending rows all.1)
+      where
+        by : (b : Bool) → AllByRecursion (λ row. Ascend (ranks_of row)) (cond b (record { before = row.before; count = row.count; cells = only p row.cells } ∷ []) [])
+        by true = (Ascend-only p row.cells all.0, tt)
+        by false = tt
+
+    sizes : (rows : List RowOf) → sum_by size_of (narrowed p rows) ≤ sum_by size_of rows
+    sizes [] = omega arith
+    sizes (row ∷ rows) = omega (arith, sum_by-append size_of (narrowed_row p row) (narrowed p rows), sum_by-cons size_of row rows, sizes rows, by (nat_lt 1 (length (only p row.cells))))
+      where
+        by : (b : Bool) → sum_by size_of (cond b (record { before = row.before; count = row.count; cells = only p row.cells } ∷ []) []) ≤ size_of row
+        by true = omega (arith, absolute_of-only p row.cells)
+        by false = omega arith
+
+    counts : (rows : List RowOf) → sum_by count_of (narrowed p rows) ≤ sum_by count_of rows
+    counts [] = omega arith
+    counts (row ∷ rows) = omega (arith, sum_by-append count_of (narrowed_row p row) (narrowed p rows), sum_by-cons count_of row rows, counts rows, by (nat_lt 1 (length (only p row.cells))))
+      where
+        by : (b : Bool) → sum_by count_of (cond b (record { before = row.before; count = row.count; cells = only p row.cells } ∷ []) []) ≤ row.count
+        by true = omega arith
+        by false = omega arith

@@ -1,0 +1,10 @@
+use Rattle.std.proofs.Common.{◌≡◌, ℕ, length, take}
+use Rattle.hu_rows.specs.Tally.{tally_at, tail_told}
+use Rattle.hu_rows.specs.View.{rows_of}
+use Rattle.hu_rows.proofs.tally.tell_row_tails.Given as goal
+
+abbrev pub invariant-loop-row : goal.invariant-loop-row
+invariant-loop-row l = record {
+  len : length l.tallies.items ≡ length l.initial.tallies.items;
+  value : (rank : ℕ) → tally_at l.tallies.items rank ≡ tail_told (rows_of (take l.row-index l.rows)) rank;
+}
