@@ -1,1 +1,5 @@
 mod PartLemmas
+mod InputLemmas
+mod IntakeLemmas
+mod FrontLemmas
+mod FileLemmas

@@ -3,4 +3,6 @@ pub mod Reason
 pub mod Formats
 pub mod Input
 pub mod Names
+pub mod View
+pub mod Intake
 pub mod Reading

@@ -8,6 +8,7 @@
 
 mod format;
 mod input;
+mod intake;
 mod part;
 mod reason;
 
