@@ -3,3 +3,4 @@ mod InputLemmas
 mod IntakeLemmas
 mod FrontLemmas
 mod FileLemmas
+mod WholeLemmas
