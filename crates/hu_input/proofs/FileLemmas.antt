@@ -93,8 +93,8 @@ module _ {R : Type 0} (reading : List ℕ → Result R Reason) (absolute : R →
         found.1,
         λ none. let at_end : Gives content at 0 into = subst (λ k. Gives content at k into) none gives in (gives_end content at into at_end room so_far).0,
         ap (λ rest. outcome reading absolute w.lines w.base (rest ++ drop (at + n) content)) (sym (drop_all n (take n into) (omega (arith, size))))
-        ∙ took.outcome (drop (at + n) content)
-        ∙ ap (outcome reading absolute v.lines v.base) (sym found.0),
+            ∙ took.outcome (drop (at + n) content)
+            ∙ ap (outcome reading absolute v.lines v.base) (sym found.0),
       )
 
   piece_told : (v w : View R) (files : FilesState) (name : List ℕ) (at n : ℕ) (into : List ℕ) (told : Option (List ℕ → Option (List ℕ))) → files.contents ≡ told
@@ -137,9 +137,12 @@ module _ {R : Type 0} (reading : List ℕ → Result R Reason) (absolute : R →
   -- a stop at a line of a file, where that line is refused for what is so of it
   pub stops_at : (old new : FilesState) (name : List ℕ) (IsSo : Refusal → List ℕ → Type 0) (stop : LineStop) (result : InputStop)
       → IsStopAt name stop result → new ≡ old → IfRefused (λ refusal. IfHas old name (IsSo refusal)) stop → StopsAt old new name IsSo result
-  stops_at old new name IsSo (line.Refused number reason) (Refused at n r) is same so =
-      (is.0, same, subst (λ k. IfHas old name (IsSo (record { number = k; reason = r }))) (sym is.1)
-        (subst (λ k. IfHas old name (IsSo (record { number = number; reason = k }))) (sym is.2) so))
+  stops_at old new name IsSo (line.Refused number reason) (Refused at n r) is same so = (
+    is.0,
+    same,
+    subst (λ k. IfHas old name (IsSo (record { number = k; reason = r }))) (sym is.1)
+        (subst (λ k. IfHas old name (IsSo (record { number = number; reason = k }))) (sym is.2) so),
+  )
   stops_at old new name IsSo (line.Refused number reason) (ReadFailed at) is same so = absurd is
   stops_at old new name IsSo (line.Refused number reason) NoMemory is same so = absurd is
   stops_at old new name IsSo line.NoMemory (Refused at n r) is same so = absurd is

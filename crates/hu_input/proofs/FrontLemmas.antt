@@ -117,7 +117,7 @@ module _ {R : Type 0} (reading : List ℕ → Result R Reason) (absolute : R →
       ap (λ s. outcome reading absolute s next (drop n piece ++ tail)) fed.is
       ∙ ap (λ s. outcome_at reading absolute s.number s.before s.bytes next (drop n piece ++ tail)) (begun_next (grown b taken) ended)
       ∙ outcome_accepted reading absolute b.number b.before v.base b.bytes taken (drop n piece ++ tail) next known.0
-          held.one (sym held.whole ∙ ended) held.within known.1 known.2
+      held.one (sym held.whole ∙ ended) held.within known.1 known.2
       ∙ ap (outcome_at reading absolute b.number b.before b.bytes v.base) (front_and_tail n piece taken tail fed.front)
 
   -- the line ended within the piece, and its record joined the base
@@ -142,6 +142,6 @@ module _ {R : Type 0} (reading : List ℕ → Result R Reason) (absolute : R →
       let known = subst (λ s. Judges reading absolute s v.base next (Err (Refused number reason))) fed.is judged in
       ap (outcome_at reading absolute b.number b.before b.bytes v.base) (sym (front_and_tail n piece taken tail fed.front))
       ∙ outcome_refused reading absolute b.number b.before v.base b.bytes taken (drop n piece ++ tail) reason
-          held.one (sym held.whole ∙ ended) held.within known.0
+      held.one (sym held.whole ∙ ended) held.within known.0
       ∙ ap (λ line. Err (record { number = line; reason = reason })) (sym known.1)
   front_stopped t next n piece NoMemory fed ended judged = tt

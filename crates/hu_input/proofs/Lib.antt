@@ -4,3 +4,4 @@ mod IntakeLemmas
 mod FrontLemmas
 mod FileLemmas
 mod WholeLemmas
+mod NamesLemmas

@@ -2,7 +2,7 @@
 use Rattle.std.proofs.Common.{◌≡◌, ℕ, ◌+◌, ◌≤◌, List, [], length, drop, Result, Ok, Err, Option, Some, None, refl, sym, ap, ◌∙◌, subst, arith, sum_by}
 use Rattle.std.specs.Prelude.{IfSome, IsSomeAnd}
 use Rattle.std.proofs.lemmas.List.{drop_all}
-use Rattle.hu_base.specs.Base.{carried_of, records_of, sum_of}
+use Rattle.hu_base.specs.Base.{carried_of, sum_of}
 use Rattle.hu_io.specs.State.{FilesState}
 use Rattle.hu_input.specs.declared.reason.Reason.{Reason}
 use Rattle.hu_input.specs.declared.intake.LineStop.{LineStop}
@@ -78,7 +78,7 @@ module _ {R : Type 0} (reading : List ℕ → Result R Reason) (absolute : R →
       (both_by first.contents name (ReadSoFar v u at) _ (ReadSoFar v w (at + n))
       (λ content known piece. let more = piece known.0 in (more.0, more.2 ∙ known.1))
       so_far (subst (λ files. IfHas files name (λ content. at ≤ length content → (at + n ≤ length content) × (n ≡ 0 → length content ≡ at)
-          × (outcome reading absolute w.lines w.base (drop (at + n) content) ≡ outcome reading absolute u.lines u.base (drop at content)))) same took.told))
+      × (outcome reading absolute w.lines w.base (drop (at + n) content) ≡ outcome reading absolute u.lines u.base (drop at content)))) same took.told))
 
   -- the last piece is empty: what is held decides the rest
   so_far_ended : (v u w : View R) (first old new : FilesState) (name : List ℕ) (at n : ℕ) → IfThere first name (ReadSoFar v u at) → old ≡ first
@@ -87,12 +87,12 @@ module _ {R : Type 0} (reading : List ℕ → Result R Reason) (absolute : R →
   so_far_ended v u w first old new name at n so_far same took none =
       both_by first.contents name (ReadSoFar v u at) _ (λ content. (length content ≡ at) × (outcome reading absolute w.lines w.base [] ≡ outcome reading absolute v.lines v.base content))
       (λ content known piece.
-          let more = piece known.0 in
-          let size : length content ≡ at = more.1 none in
-          let over : length content ≤ at + n = omega (arith, size) in
-          (size, ap (outcome reading absolute w.lines w.base) (sym (drop_all (at + n) content over)) ∙ more.2 ∙ known.1))
+      let more = piece known.0 in
+      let size : length content ≡ at = more.1 none in
+      let over : length content ≤ at + n = omega (arith, size) in
+      (size, ap (outcome reading absolute w.lines w.base) (sym (drop_all (at + n) content over)) ∙ more.2 ∙ known.1))
       so_far (subst (λ files. IfHas files name (λ content. at ≤ length content → (at + n ≤ length content) × (n ≡ 0 → length content ≡ at)
-          × (outcome reading absolute w.lines w.base (drop (at + n) content) ≡ outcome reading absolute u.lines u.base (drop at content)))) same took.told)
+      × (outcome reading absolute w.lines w.base (drop (at + n) content) ≡ outcome reading absolute u.lines u.base (drop at content)))) same took.told)
 
   has_by : (contents : Option (List ℕ → Option (List ℕ))) (name : List ℕ) (P Q : List ℕ → Type 0) → ((content : List ℕ) → P content → Q content)
       → IfSome contents (λ told. IsSomeAnd (told name) P) → IfSome contents (λ told. IsSomeAnd (told name) Q)
@@ -136,8 +136,11 @@ module _ {R : Type 0} (reading : List ℕ → Result R Reason) (absolute : R →
   pub file_stopped : (v u : View R) (first new : FilesState) (name : List ℕ) (at : ℕ) (stop : InputStop) → IsFresh v → IfThere first name (ReadSoFar v u at)
       → StopsAt first new name (RefusesPiece reading absolute u at) stop → StopsAt first new name (RefusesFile reading absolute v) stop
   file_stopped v u first new name at (Refused k number reason) fresh so_far stops =
-      let refusal : Refusal = record { number = number; reason = reason } in
-      (stops.0, stops.1, both_by first.contents name (ReadSoFar v u at) (RefusesPiece reading absolute u at refusal) (RefusesFile reading absolute v refusal)
-        (λ content known piece. sym (fresh_outcome v content fresh) ∙ sym known.1 ∙ piece known.0) so_far stops.2)
+      let refusal : Refusal = record { number = number; reason = reason } in (
+        stops.0,
+        stops.1,
+        both_by first.contents name (ReadSoFar v u at) (RefusesPiece reading absolute u at refusal) (RefusesFile reading absolute v refusal)
+            (λ content known piece. sym (fresh_outcome v content fresh) ∙ sym known.1 ∙ piece known.0) so_far stops.2,
+      )
   file_stopped v u first new name at (ReadFailed k) fresh so_far stops = stops
   file_stopped v u first new name at NoMemory fresh so_far stops = stops

@@ -1,5 +1,5 @@
 -- What is so far taken in of the files of a run, and what it makes of the bytes to come.
-use Rattle.std.specs.Prelude.{◌≡◌, ℕ, ◌+◌, ◌<◌, ◌≤◌, ◌^◌, false, Option, None, Result, Ok, Err, IfSome, IsSomeAnd, List, [], ◌++◌, length, take, drop}
+use Rattle.std.specs.Prelude.{◌≡◌, ℕ, ◌+◌, ◌<◌, ◌≤◌, ◌^◌, false, None, Result, Ok, Err, IfSome, IsSomeAnd, List, [], ◌++◌, length, drop}
 use Rattle.std.specs.Option.{option_to_list}
 use Rattle.hu_base.specs.Base.{carried_of, records_of, sum_of}
 use Rattle.hu_io.specs.State.{FilesState, Missed}

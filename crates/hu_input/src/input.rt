@@ -1,15 +1,19 @@
 //! The input of a job: all its files, taken in one after the other.
 
-ghost use Rattle.std.specs.Prelude.{pos, ◌≤ℤ◌};
+ghost use Rattle.std.specs.Prelude.{pos, ◌<◌, ◌≤ℤ◌, IfOk, vec_len};
 ghost use Rattle.hu_input.specs.Names.{texts_of};
 ghost use Rattle.hu_input.specs.Reading.{ReadsFiles};
 
 use crate::format::Format;
+use crate::intake::Intake;
 use crate::reason::Reason;
 use hu_base::Base;
 use hu_io::Files;
 use hu_kind::NoMemory;
-use std::alloc::Global;
+use std::alloc::{AllocFailed, Global};
+
+/// How many bytes are read at once.
+const BUFFER: usize = 65_536;
 
 /// Why files gave no records.
 #[derive(Clone, Copy, Debug, PartialEq, Eq)]
@@ -40,5 +44,40 @@ pub fn read_files<'a, T: Format, F: Files>(
     ensures { ReadsFiles T.reading T.Record.absolute carried
         (F.state files.old) (F.state files.new) (texts_of names.now) result }
 {
-    Err(InputStop::NoMemory)
+    let mut intake = Intake::<T>::new(alloc, carried)?;
+    let mut buffer = new_buffer(alloc)?;
+    let mut bases = Vec::new(alloc);
+    for name in names {
+        bases.push(intake.read_file(files, name.as_str(), buffer.as_mut_slice())?)?;
+    }
+    Ok(bases)
+}
+
+/// The buffer into which files are read.
+fn new_buffer(alloc: Global) -> Result<Vec<u8>, NoMemory>
+    ensures { IfOk result (λ buffer. 0 < vec_len buffer) }
+{
+    Ok(vec![in alloc; 0u8; BUFFER]?)
+}
+
+impl From<NoMemory> for InputStop<'_> {
+    ghost use Rattle.std.specs.Prelude.{◌≡◌};
+    ghost use Rattle.hu_input.specs.declared.input.InputStop.TheVariants as stop;
+
+    ghost from_gives = { λ _ e. e ≡ stop.NoMemory };
+
+    fn from(_fault: NoMemory) -> Self {
+        InputStop::NoMemory
+    }
+}
+
+impl<T: Drop> From<AllocFailed<T>> for InputStop<'_> {
+    ghost use Rattle.std.specs.Prelude.{◌≡◌};
+    ghost use Rattle.hu_input.specs.declared.input.InputStop.TheVariants as stop;
+
+    ghost from_gives = { λ _ e. e ≡ stop.NoMemory };
+
+    fn from(_failed: AllocFailed<T>) -> Self {
+        InputStop::NoMemory
+    }
 }

@@ -1,4 +1,4 @@
-use Rattle.std.proofs.Common.{◌≡◌, ◌+◌, ◌<◌, ◌≤◌, ◌^◌, Some, Ok, Err, false, sym, ap, ◌∙◌, subst, inl, inr}
+use Rattle.std.proofs.Common.{◌≡◌, ◌+◌, ◌^◌, Some, Ok, false, sym, ap, ◌∙◌, subst, inl, inr}
 use Rattle.std.proofs.lemmas.Bool.{cases_lt}
 use Rattle.hu_base.specs.Base.{sum_of}
 use Rattle.hu_base.specs.declared.base.AddFault.TheVariants.{NoMemory}
@@ -26,8 +26,8 @@ returns-clause-judged g c =
           subst IsJudged (sym w.result-is)
           (elim (cases_lt (sum_of absolute inside.base + absolute one) (2 ^ 127)) [
             | inl fits ↦ let memory : w.in-Err-SumTooLarge.field-0 ≡ NoMemory = w.in-Err-SumTooLarge.ensures.fits fits in
-              let large = w.in-Err-SumTooLarge.field-0-is in
-              cc
+                let large = w.in-Err-SumTooLarge.field-0-is in
+                cc
             | inr large ↦ (line_too_large reading absolute _ line one held read large, c.number-number.ensures.value)
           ])
       | in-Err-NoMemory w ↦ subst IsJudged (sym w.result-is) tt

@@ -1,8 +1,8 @@
-use Rattle.std.proofs.Common.{refl, ap, sym, ◌∙◌, subst}
+use Rattle.std.proofs.Common.{sym, ◌∙◌, subst}
 use Rattle.std.specs.Prelude.{IfErr, OnOk}
 use Rattle.hu_input.specs.View.{View}
 use Rattle.hu_input.specs.Intake.{IsOpen, Judges, Ends, RefusesLast}
-use Rattle.hu_input.proofs.FileLemmas.{ended_ok, ended_err, ended_whole}
+use Rattle.hu_input.proofs.FileLemmas.{ended_ok, ended_err}
 use Rattle.hu_input.proofs.intake.Intake.judge_last.Goals as goal
 
 pub returns-then-end-clause-ok : goal.returns-then-end-clause-ok

@@ -1,4 +1,4 @@
-use Rattle.std.proofs.Common.{◌≡◌, ℕ, ◌+◌, ◌-◌, length}
+use Rattle.std.proofs.Common.{◌≡◌, ◌+◌, ◌-◌, length}
 use Rattle.hu_lines.specs.declared.limits.TheConstants.{LARGEST_INPUT}
 use Rattle.hu_base.specs.Base.{carried_of}
 use Rattle.hu_input.specs.Intake.{IsOpen, bytes_in}

@@ -1,4 +1,4 @@
-use Rattle.std.proofs.Common.{◌≡◌, ℕ, ◌+◌, ◌≤◌, List, ◌++◌, length}
+use Rattle.std.proofs.Common.{◌≡◌, ℕ, ◌+◌, List, ◌++◌, length}
 use Rattle.hu_base.specs.Base.{carried_of}
 use Rattle.hu_input.specs.Intake.{IsOpen, outcome, bytes_in}
 use Rattle.hu_input.proofs.intake.Intake.take.Given as goal

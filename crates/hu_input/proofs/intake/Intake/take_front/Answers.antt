@@ -1,4 +1,4 @@
-use Rattle.std.proofs.Common.{◌≡◌, ◌∙◌, true, refl, sym, subst, Err, Ok}
+use Rattle.std.proofs.Common.{◌≡◌, ◌∙◌, true, refl, sym, subst}
 use Rattle.std.specs.Prelude.{IfErr}
 use Rattle.hu_lines.specs.Pieces.{first_piece, has_line_feed}
 use Rattle.hu_input.specs.View.{View}
