@@ -6,3 +6,4 @@ pub mod Names
 pub mod View
 pub mod Intake
 pub mod Reading
+pub mod Worked

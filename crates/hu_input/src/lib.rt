@@ -11,6 +11,8 @@ mod input;
 mod intake;
 mod part;
 mod reason;
+#[cfg(test)]
+mod tests;
 
 pub use format::{Format, Sequences, Transactions};
 pub use input::{InputStop, read_files};
