@@ -1,5 +1,5 @@
 -- What a line, a piece and the pieces of a file say.
-use Rattle.std.proofs.Common.{◌≡◌, ℕ, ◌+◌, ◌^◌, ◌<◌, true, false, cond, nat_lt, List, Result, Ok, Err, Some, None, ap, IsErrAnd, sym, ◌∙◌, arith}
+use Rattle.std.proofs.Common.{◌≡◌, ℕ, ◌+◌, ◌^◌, ◌<◌, ◌≤◌, true, false, cond, nat_lt, List, Result, Ok, Err, Some, None, ap, IsErrAnd, sym, ◌∙◌, arith}
 use Rattle.std.specs.Result.{result_err}
 use Rattle.std.proofs.lemmas.Bool.Decides.{nat_tests}
 use Rattle.hu_lines.specs.Skipped.{is_skipped_line}
@@ -11,6 +11,14 @@ pub line_accepted : {R : Type 0} (reading : List ℕ → Result R Reason) (absol
     → is_skipped_line line ≡ false → reading line ≡ Ok one → sum + absolute one < 2 ^ 127 → line_record reading absolute sum line ≡ Ok (Some one)
 line_accepted reading absolute sum line one held read fits =
     let test : nat_lt (sum + absolute one) (2 ^ 127) ≡ true = grind (arith, nat_tests) in
+    ap (λ b. cond b (Ok None) (within_sum reading absolute sum (reading line))) held
+    ∙ ap (within_sum reading absolute sum) read
+    ∙ ap (λ b. cond b (Ok (Some one)) (Err SumTooLarge)) test
+
+pub line_too_large : {R : Type 0} (reading : List ℕ → Result R Reason) (absolute : R → ℕ) (sum : ℕ) (line : List ℕ) (one : R)
+    → is_skipped_line line ≡ false → reading line ≡ Ok one → 2 ^ 127 ≤ sum + absolute one → line_record reading absolute sum line ≡ Err SumTooLarge
+line_too_large reading absolute sum line one held read large =
+    let test : nat_lt (sum + absolute one) (2 ^ 127) ≡ false = grind (arith, nat_tests) in
     ap (λ b. cond b (Ok None) (within_sum reading absolute sum (reading line))) held
     ∙ ap (within_sum reading absolute sum) read
     ∙ ap (λ b. cond b (Ok (Some one)) (Err SumTooLarge)) test

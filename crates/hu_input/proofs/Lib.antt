@@ -3,4 +3,5 @@ mod InputLemmas
 mod IntakeLemmas
 mod FrontLemmas
 mod FileLemmas
+mod WholeLemmas
 mod NamesLemmas

@@ -2,5 +2,8 @@ pub mod Part
 pub mod Reason
 pub mod Formats
 pub mod Input
+pub mod Names
+pub mod View
 pub mod Intake
 pub mod Reading
+pub mod Worked

@@ -1,19 +1,20 @@
-//! The taking in of files: bytes to lines, lines to records, records to a base.
+//! The taking in of files: bytes to lines, lines to records, the records of a file to its base.
 
-ghost use Rattle.std.specs.Prelude.{◌≡◌, ℕ, ◌+◌, ◌<◌, ◌≤◌, List, [], length, OnOk, IfOk, IfSome, Result};
-ghost use Rattle.hu_base.specs.Base.{carried_of};
-ghost use Rattle.hu_io.specs.Count.{Rose};
+ghost use Rattle.std.specs.Prelude.{◌≡◌, ◌<◌, ◌^◌, [], length, pos, unsigned_abs, ◌≤ℤ◌, OnOk, IfOk, IfErr};
+ghost use Rattle.hu_base.specs.Base.{sum_of};
 ghost use Rattle.hu_lines.specs.Lines.{HasLine, at_end};
-ghost use Rattle.hu_input.specs.Intake.{IsOpen, Judges, IsAtStart, TakesFront, TakesIn, Finishes, ReadsPiece, ReadsFile, bytes_in};
-ghost use Rattle.hu_input.specs.declared.reason.Reason.{Reason};
+ghost use Rattle.hu_input.specs.Intake.{IsOpen, IsFresh, IsStopAt, Judges, Took, Refuses, RefusesLast, Ends, Closes, ReadsPiece, ReadsFile};
 
 use crate::format::Format;
+use crate::input::InputStop;
 use crate::reason::Reason;
 use hu_base::{AddFault, Base};
 use hu_io::{Failed, Files};
 use hu_kind::NoMemory;
 use hu_lines::{LineFault, Lines, is_skipped};
 use std::alloc::Global;
+use std::marker::Model;
+use std::mem;
 
 /// Why taking in stopped.
 pub(crate) enum LineStop {
@@ -23,15 +24,23 @@ pub(crate) enum LineStop {
     NoMemory,
 }
 
-/// Why reading a file stopped.
-pub(crate) enum FileStop {
-    /// Taking in stopped at a line.
-    Line(LineStop),
-    /// A read failed.
-    ReadFailed,
+impl LineStop {
+    /// The same in the file of this name.
+    fn in_file(self, name: &str) -> InputStop<'_>
+        ensures { IsStopAt name.now self result }
+    {
+        match self {
+            LineStop::Refused { number, reason } => InputStop::Refused {
+                name,
+                number,
+                reason,
+            },
+            LineStop::NoMemory => InputStop::NoMemory,
+        }
+    }
 }
 
-/// What was taken in so far: the line that is held, and the records.
+/// What was taken in so far: the line that is held, and the records of the file.
 #[derive(Drop)]
 pub(crate) struct Intake<T: Format> {
     alloc: Global,
@@ -39,99 +48,106 @@ pub(crate) struct Intake<T: Format> {
     base: Base<T::Record>,
 }
 
+impl<T: Format> Model for Intake<T> {
+    ghost use Rattle.hu_input.specs.View.{View};
+
+    ghost Value = { View T.Record };
+
+    ghost view = { λ i. record { lines = i.lines; base = i.base } };
+}
+
 impl<T: Format> Intake<T> {
-    /// Nothing was taken in.
-    pub(crate) fn new(alloc: Global) -> Result<Intake<T>, NoMemory>
-        ensures start { IfOk result (λ intake. IsAtStart intake.lines) }
+    /// Nothing was taken in, and the sum begins at `carried`. It takes the room of one longest line.
+    pub(crate) fn new(alloc: Global, carried: i128) -> Result<Intake<T>, NoMemory>
+        requires { pos 0 ≤ℤ carried }
+        ensures fresh { IfOk result (λ intake. IsFresh intake) }
         ensures first { IfOk result (λ intake. intake.lines.before ≡ 0) }
-        ensures none { IfOk result (λ intake. intake.base ≡ (0, [])) }
+        ensures sum { IfOk result (λ intake. intake.base.0 ≡ unsigned_abs carried) }
     {
         Ok(Intake {
             alloc,
             lines: Lines::new(alloc)?,
-            base: Base::after(alloc, 0),
+            base: Base::after(alloc, carried),
         })
     }
 
-    /// The records.
-    pub(crate) fn into_base(self) -> Base<T::Record>
-        ensures { result ≡ self.base }
-    {
-        self.base
-    }
-
-    /// Reads a file to its end, in pieces of the buffer's size, and takes in its lines. A refused line is answered
-    /// before any further read.
-    pub(crate) fn read_file<F: Files>(
+    /// Reads a file to its end, in pieces of the buffer's size, and gives its records; the next file begins after their
+    /// sum. A refused line is answered before any further read.
+    pub(crate) fn read_file<'a, F: Files>(
         &mut self,
         files: &mut F,
-        name: &str,
+        name: &'a str,
         buffer: &mut [u8],
-    ) -> Result<(), FileStop>
-        requires start { IsAtStart self.old.lines }
+    ) -> Result<Base<T::Record>, InputStop<'a>>
+        requires fresh { IsFresh self.old }
         requires some { 0 < length buffer.old }
-        ensures read { IfSome (F.contents files.old) (λ told. ReadsFile T.reading T.Record.absolute self.old.lines self.old.base self.new.lines self.new.base (told name.now) result) }
-        ensures next { OnOk result (IsAtStart self.new.lines) }
-        ensures failed { result ≡ Err FileStop.ReadFailed → Rose (F.faults files.old name.now) (F.faults files.new name.now) }
-        ensures later { (other : List ℕ) → F.faults files.old other ≤ F.faults files.new other }
-        ensures contents { F.contents files.new ≡ F.contents files.old }
-        ensures plan { F.plan files.new ≡ F.plan files.old }
-        ensures carried { carried_of self.new.base ≡ carried_of self.old.base }
+        ensures { ReadsFile T.reading T.Record.absolute self.old self.new
+            (F.state files.old) (F.state files.new) name.now result }
     {
         let mut at = 0;
         loop {
             let count = self.read_piece(files, name, at, buffer)?;
             if count == 0 {
-                self.end_file()?;
-                return Ok(());
+                break;
             }
             at += count as u64;
+        }
+        match self.end_file() {
+            Ok(base) => Ok(base),
+            Err(stop) => Err(stop.in_file(name)),
         }
     }
 
     /// Reads a piece of a file from a place on, and takes it in.
-    fn read_piece<F: Files>(
+    fn read_piece<'a, F: Files>(
         &mut self,
         files: &mut F,
-        name: &str,
+        name: &'a str,
         at: u64,
         buffer: &mut [u8],
-    ) -> Result<usize, FileStop>
+    ) -> Result<usize, InputStop<'a>>
         requires open { IsOpen self.old.lines }
         requires some { 0 < length buffer.old }
-        ensures read { IfSome (F.contents files.old) (λ told. ReadsPiece T.reading T.Record.absolute self.old.lines self.old.base self.new.lines self.new.base (told name.now) at result) }
-        ensures open { OnOk result (IsOpen self.new.lines) }
-        ensures count { IfOk result (λ n. bytes_in self.new.lines ≡ bytes_in self.old.lines + n) }
-        ensures failed { result ≡ Err FileStop.ReadFailed → Rose (F.faults files.old name.now) (F.faults files.new name.now) }
-        ensures later { (other : List ℕ) → F.faults files.old other ≤ F.faults files.new other }
-        ensures contents { F.contents files.new ≡ F.contents files.old }
-        ensures plan { F.plan files.new ≡ F.plan files.old }
-        ensures carried { carried_of self.new.base ≡ carried_of self.old.base }
+        ensures { ReadsPiece T.reading T.Record.absolute self.old self.new
+            (F.state files.old) (F.state files.new) name.now at result }
     {
-        let count = files.get(name, at, buffer)?;
-        self.take(&buffer[..count])?;
-        Ok(count)
+        let count = match files.get(name, at, buffer) {
+            Ok(count) => count,
+            Err(Failed) => return Err(InputStop::ReadFailed { name }),
+        };
+        match self.take(&buffer[..count]) {
+            Ok(()) => Ok(count),
+            Err(stop) => Err(stop.in_file(name)),
+        }
     }
 
-    /// Ends the file, whose last line may have no line feed, and begins the next.
-    fn end_file(&mut self) -> Result<(), LineStop>
+    /// Ends the file, whose last line may have no line feed, and gives its records; the next begins after their sum.
+    fn end_file(&mut self) -> Result<Base<T::Record>, LineStop>
         requires { IsOpen self.old.lines }
-        ensures finished { Finishes T.reading T.Record.absolute self.old.lines self.old.base self.new.base result }
-        ensures next { OnOk result (IsAtStart self.new.lines) }
-        ensures count { OnOk result (self.new.lines.before ≡ bytes_in self.old.lines) }
-        ensures carried { carried_of self.new.base ≡ carried_of self.old.base }
+        ensures ok { IfOk result (Closes T.reading T.Record.absolute self.old self.new) }
+        ensures err { IfErr result (RefusesLast T.reading T.Record.absolute self.old) }
     {
         self.judge_last()?;
         self.lines.next_file();
-        Ok(())
+        Ok(self.take_base())
+    }
+
+    /// Gives the records, and begins a base after their sum.
+    fn take_base(&mut self) -> Base<T::Record>
+        ensures given { result ≡ self.old.base }
+        ensures next { self.new.base ≡ (sum_of T.Record.absolute self.old.base, []) }
+        ensures lines { self.new.lines ≡ self.old.lines }
+        ensures fits { sum_of T.Record.absolute self.old.base < 2 ^ 127 }
+    {
+        let next = Base::after(self.alloc, self.base.sum());
+        mem::replace(&mut self.base, next)
     }
 
     /// Ends the file, and judges its last line where that has no line feed.
     fn judge_last(&mut self) -> Result<(), LineStop>
         requires { IsOpen self.old.lines }
-        ensures finished { Finishes T.reading T.Record.absolute self.old.lines self.old.base self.new.base result }
-        ensures lines { self.new.lines ≡ at_end self.old.lines }
-        ensures carried { carried_of self.new.base ≡ carried_of self.old.base }
+        ensures ok { OnOk result (Ends T.reading T.Record.absolute self.old self.new) }
+        ensures err { IfErr result (RefusesLast T.reading T.Record.absolute self.old) }
     {
         if self.lines.end() {
             self.judge()
@@ -143,10 +159,8 @@ impl<T: Format> Intake<T> {
     /// Takes in a piece of the file.
     fn take(&mut self, piece: &[u8]) -> Result<(), LineStop>
         requires { IsOpen self.old.lines }
-        ensures taken { TakesIn T.reading T.Record.absolute self.old.lines self.old.base self.new.lines self.new.base piece.now result }
-        ensures open { OnOk result (IsOpen self.new.lines) }
-        ensures count { OnOk result (bytes_in self.new.lines ≡ bytes_in self.old.lines + length piece.now) }
-        ensures carried { carried_of self.new.base ≡ carried_of self.old.base }
+        ensures ok { OnOk result (Took T.reading T.Record.absolute self.old self.new piece.now (length piece.now)) }
+        ensures err { IfErr result (Refuses T.reading T.Record.absolute self.old piece.now) }
     {
         let mut rest = piece;
         while !rest.is_empty() {
@@ -160,11 +174,8 @@ impl<T: Format> Intake<T> {
     fn take_front(&mut self, piece: &[u8]) -> Result<usize, LineStop>
         requires open { IsOpen self.old.lines }
         requires some { 0 < length piece.now }
-        ensures taken { TakesFront T.reading T.Record.absolute self.old.lines self.old.base self.new.lines self.new.base piece.now result }
-        ensures open { OnOk result (IsOpen self.new.lines) }
-        ensures count { IfOk result (λ taken. bytes_in self.new.lines ≡ bytes_in self.old.lines + taken) }
-        ensures within { IfOk result (λ taken. (0 < taken) × (taken ≤ length piece.now)) }
-        ensures carried { carried_of self.new.base ≡ carried_of self.old.base }
+        ensures ok { IfOk result (Took T.reading T.Record.absolute self.old self.new piece.now) }
+        ensures err { IfErr result (Refuses T.reading T.Record.absolute self.old piece.now) }
     {
         let fed = self.lines.feed(piece)?;
         if fed.whole {
@@ -178,7 +189,6 @@ impl<T: Format> Intake<T> {
         requires { HasLine self.old.lines }
         ensures judged { Judges T.reading T.Record.absolute self.old.lines self.old.base self.new.base result }
         ensures lines { self.new.lines ≡ self.old.lines }
-        ensures carried { carried_of self.new.base ≡ carried_of self.old.base }
     {
         let line = self.lines.line();
         if is_skipped(line) {
@@ -208,28 +218,6 @@ impl From<NoMemory> for LineStop {
 
     fn from(_fault: NoMemory) -> LineStop {
         LineStop::NoMemory
-    }
-}
-
-impl From<LineStop> for FileStop {
-    ghost use Rattle.std.specs.Prelude.{◌≡◌};
-    ghost use Rattle.hu_input.specs.declared.intake.FileStop.TheVariants.{Line};
-
-    ghost from_gives = { λ stop e. e ≡ Line stop };
-
-    fn from(stop: LineStop) -> FileStop {
-        FileStop::Line(stop)
-    }
-}
-
-impl From<Failed> for FileStop {
-    ghost use Rattle.std.specs.Prelude.{◌≡◌};
-    ghost use Rattle.hu_input.specs.declared.intake.FileStop.TheVariants.{ReadFailed};
-
-    ghost from_gives = { λ _ e. e ≡ ReadFailed };
-
-    fn from(_failed: Failed) -> FileStop {
-        FileStop::ReadFailed
     }
 }
 

@@ -11,8 +11,10 @@ mod input;
 mod intake;
 mod part;
 mod reason;
+#[cfg(test)]
+mod tests;
 
 pub use format::{Format, Sequences, Transactions};
 pub use input::{InputStop, read_files};
 pub use part::{Part, tell};
-pub use reason::Reason;
+pub use reason::{Parts, Reason};

@@ -1,14 +1,15 @@
-use Rattle.std.proofs.Common.{◌≡◌, ◌<◌, ◌≤◌, ℕ, List, take, vec_len}
-use Rattle.hu_run.specs.Words.{texts_of}
-use Rattle.hu_input.specs.Intake.{IsAtStart}
-use Rattle.hu_input.proofs.NamesLemmas.{SoFar}
+use Rattle.std.proofs.Common.{◌≡◌, ◌<◌, take, vec_len}
+use Rattle.hu_base.specs.Base.{carried_of}
+use Rattle.hu_input.specs.Names.{texts_of}
+use Rattle.hu_input.specs.Intake.{IsFresh}
+use Rattle.hu_input.proofs.NamesLemmas.{AreRead}
 use Rattle.hu_input.proofs.input.read_files.Given as goal
 
-abbrev pub invariant-loop-word : goal.invariant-loop-word
-invariant-loop-word g l =
-    IsAtStart l.intake.lines
-    × (0 < vec_len l.buffer)
-    × (g.F.Files.contents l.files ≡ g.F.Files.contents l.initial.files)
-    × (g.F.Files.plan l.files ≡ g.F.Files.plan l.initial.files)
-    × ((other : List ℕ) → g.F.Files.faults l.initial.files other ≤ g.F.Files.faults l.files other)
-    × SoFar g.T.Format.reading g.T.Record.Absolute.absolute (g.F.Files.contents l.initial.files) (take l.word-index (texts_of l.names)) l.intake.lines.before l.intake.base
+abbrev pub invariant-loop-name : goal.invariant-loop-name
+invariant-loop-name g l = record {
+  fresh : IsFresh l.intake;
+  room : 0 < vec_len l.buffer;
+  same : g.F.Files.state l.files ≡ g.F.Files.state l.initial.files;
+  read : AreRead g.T.Format.reading g.T.Record.Absolute.absolute (carried_of l.initial.intake.base) (g.F.Files.state l.initial.files)
+      (take l.name-index (texts_of l.names)) l.intake l.bases.items;
+}

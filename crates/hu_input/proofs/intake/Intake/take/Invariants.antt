@@ -3,6 +3,7 @@ use Rattle.hu_base.specs.Base.{carried_of}
 use Rattle.hu_input.specs.Intake.{IsOpen, outcome, bytes_in}
 use Rattle.hu_input.proofs.intake.Intake.take.Given as goal
 
+-- what is left of the piece decides the rest
 abbrev pub invariant-loop-rest : goal.invariant-loop-rest
 invariant-loop-rest g l =
     IsOpen l.self.lines

@@ -1,50 +1,80 @@
-use Rattle.std.proofs.Common.{◌≡◌, ◌∙◌, true, sym, ap, subst, drop, ◌++◌, Err, Ok}
-use Rattle.hu_lines.specs.Lines.{IsHeld}
+use Rattle.std.proofs.Common.{◌≡◌, ◌∙◌, true, refl, sym, subst}
+use Rattle.std.specs.Prelude.{IfErr}
 use Rattle.hu_lines.specs.Pieces.{first_piece, has_line_feed}
-use Rattle.hu_input.specs.Intake.{TakesFront, Judges, outcome}
+use Rattle.hu_input.specs.View.{View}
+use Rattle.hu_input.specs.Intake.{Refuses, Took, IsOpen}
+use Rattle.hu_input.proofs.FrontLemmas.{IsFed, front_limited, front_goes_on, front_joined, front_stopped}
 use Rattle.hu_input.proofs.InputLemmas.{err_is}
-use Rattle.hu_input.proofs.FrontLemmas.{front_limited, front_goes_on, front_joined, front_stopped}
 use Rattle.hu_input.proofs.intake.Intake.take_front.Goals as goal
 
-pub returns-in_err-fed-clause-taken : goal.returns-in_err-fed-clause-taken
-returns-in_err-fed-clause-taken g c =
-    let s = c.args.self.now in
-    subst (TakesFront g.T.Format.reading g.T.Record.Absolute.absolute s.lines s.base c.feed.new.self s.base c.args.piece.now) (sym (err_is _ _ c.from_residual.ensures.1))
-    (front_limited g.T.Format.reading g.T.Record.Absolute.absolute s.lines s.base c.feed.new.self s.base c.args.piece.now c.in_err-fed.field-0.0 c.requires.open c.requires.some
-    (sym c.in_err-fed.ensures.refusal))
-
-pub returns-in_ok-judge-clause-taken : goal.returns-in_ok-judge-clause-taken
-returns-in_ok-judge-clause-taken g c =
-    let s = c.args.self.now in
+pub returns-in_err-fed-clause-err : goal.returns-in_err-fed-clause-err
+returns-in_err-fed-clause-err g c =
     let reading = g.T.Format.reading in
     let absolute = g.T.Record.Absolute.absolute in
+    let inside = c.self.inside in
+    let v : View g.row.T-Record.Denot = record { lines = inside.lines; base = inside.base } in
     let piece = c.args.piece.now in
-    let ended : has_line_feed (first_piece piece) ≡ true = sym c.in_ok-fed.ensures.whole ∙ c.if-fed.true in
-    let is = c.in_ok-fed.ensures.ok in
-    λ tail. ap (λ t. outcome reading absolute t c.judge.new.self.base (drop c.in_ok-fed.fed.taken piece ++ tail)) (c.in_ok-judge.ensures.lines ∙ is)
-    ∙ front_joined reading absolute s.lines s.base c.in_ok-fed.fed.taken piece (first_piece piece) c.judge.new.self.base c.in_ok-fed.ensures.front ended
-    (subst IsHeld is c.in_ok-fed.ensures.held)
-    (subst (λ t. Judges reading absolute t s.base c.judge.new.self.base (Ok tt)) is c.in_ok-judge.ensures.judged) tail
+    subst (λ u. IfErr c.from_residual.result (Refuses reading absolute u piece)) c.self.view_is
+    (subst (λ r. IfErr r (Refuses reading absolute v piece)) (sym (err_is _ _ c.from_residual.ensures.1))
+    (front_limited reading absolute v piece c.in_err-fed.field-0.0 (subst (λ u. IsOpen u.lines) (sym c.self.view_is) c.requires.open) c.requires.some (sym c.in_err-fed.ensures.refusal)))
 
-pub returns-else-fed-clause-taken : goal.returns-else-fed-clause-taken
-returns-else-fed-clause-taken g c =
-    let s = c.args.self.now in
+pub returns-in_err-judge-clause-err : goal.returns-in_err-judge-clause-err
+returns-in_err-judge-clause-err g c =
     let reading = g.T.Format.reading in
     let absolute = g.T.Record.Absolute.absolute in
+    let inside = c.self.inside in
+    let v : View g.row.T-Record.Denot = record { lines = inside.lines; base = inside.base } in
     let piece = c.args.piece.now in
-    λ tail. ap (λ t. outcome reading absolute t s.base (drop c.in_ok-fed.fed.taken piece ++ tail)) c.in_ok-fed.ensures.ok
-    ∙ front_goes_on reading absolute s.lines s.base c.in_ok-fed.fed.taken piece (first_piece piece) c.in_ok-fed.ensures.front
-    (sym c.in_ok-fed.ensures.whole ∙ c.if-fed.false) tail
+    let e = c.in_ok-fed.ensures in
+    let fed : IsFed v.lines c.feed.new.self piece c.in_ok-fed.fed.taken = record {
+      is = e.ok;
+      opened = record { not_ended = e.going; accepted = e.accepted; held = e.held };
+      taken = e.taken;
+      front = e.front;
+      within = e.within;
+      some = e.some;
+    } in
+    let ended : has_line_feed (first_piece piece) ≡ true = sym e.whole ∙ c.if-fed.true in
+    subst (λ u. IfErr c.from_residual-in_err-judge.result (Refuses reading absolute u piece)) c.self.view_is
+    (subst (λ r. IfErr r (Refuses reading absolute v piece)) (sym (err_is _ _ c.from_residual-in_err-judge.ensures.1))
+    (front_stopped reading absolute v c.feed.new.self c.judge.new.self.base c.in_ok-fed.fed.taken piece c.in_err-judge.field-0.0 fed ended c.in_err-judge.ensures.judged))
 
-pub returns-in_err-judge-clause-taken : goal.returns-in_err-judge-clause-taken
-returns-in_err-judge-clause-taken g c =
-    let s = c.args.self.now in
+pub returns-in_ok-judge-clause-ok : goal.returns-in_ok-judge-clause-ok
+returns-in_ok-judge-clause-ok g c =
     let reading = g.T.Format.reading in
     let absolute = g.T.Record.Absolute.absolute in
+    let inside = c.self.inside in
+    let v : View g.row.T-Record.Denot = record { lines = inside.lines; base = inside.base } in
     let piece = c.args.piece.now in
-    let ended : has_line_feed (first_piece piece) ≡ true = sym c.in_ok-fed.ensures.whole ∙ c.if-fed.true in
-    let is = c.in_ok-fed.ensures.ok in
-    subst (TakesFront reading absolute s.lines s.base c.judge.new.self.lines c.judge.new.self.base piece) (sym (err_is _ _ c.from_residual-in_err-judge.ensures.1))
-    (front_stopped reading absolute s.lines s.base c.judge.new.self.lines c.in_ok-fed.fed.taken piece (first_piece piece) c.judge.new.self.base c.in_err-judge.field-0.0
-    c.in_ok-fed.ensures.front ended (subst IsHeld is c.in_ok-fed.ensures.held)
-    (subst (λ t. Judges reading absolute t s.base c.judge.new.self.base (Err c.in_err-judge.field-0.0)) is c.in_err-judge.ensures.judged))
+    let e = c.in_ok-fed.ensures in
+    let fed : IsFed v.lines c.feed.new.self piece c.in_ok-fed.fed.taken = record {
+      is = e.ok;
+      opened = record { not_ended = e.going; accepted = e.accepted; held = e.held };
+      taken = e.taken;
+      front = e.front;
+      within = e.within;
+      some = e.some;
+    } in
+    let ended : has_line_feed (first_piece piece) ≡ true = sym e.whole ∙ c.if-fed.true in
+    subst (λ u. Took reading absolute u c.judge.new.self piece c.in_ok-fed.fed.taken) c.self.view_is
+    (front_joined reading absolute v c.judge.new.self c.feed.new.self c.in_ok-fed.fed.taken piece fed ended c.in_ok-judge.ensures.lines c.in_ok-judge.ensures.judged)
+
+pub returns-else-fed-clause-ok : goal.returns-else-fed-clause-ok
+returns-else-fed-clause-ok g c =
+    let reading = g.T.Format.reading in
+    let absolute = g.T.Record.Absolute.absolute in
+    let inside = c.self.inside in
+    let v : View g.row.T-Record.Denot = record { lines = inside.lines; base = inside.base } in
+    let w : View g.row.T-Record.Denot = record { lines = c.feed.new.self; base = inside.base } in
+    let piece = c.args.piece.now in
+    let e = c.in_ok-fed.ensures in
+    let fed : IsFed v.lines w.lines piece c.in_ok-fed.fed.taken = record {
+      is = e.ok;
+      opened = record { not_ended = e.going; accepted = e.accepted; held = e.held };
+      taken = e.taken;
+      front = e.front;
+      within = e.within;
+      some = e.some;
+    } in
+    subst (λ u. Took reading absolute u w piece c.in_ok-fed.fed.taken) c.self.view_is
+    (front_goes_on reading absolute v w c.in_ok-fed.fed.taken piece fed (sym e.whole ∙ c.if-fed.false) refl)
