@@ -5,6 +5,7 @@ ghost use Rattle.hu_kind.specs.Itemsets.{item_patterns};
 ghost use Rattle.hu_totals.specs.Ranked.{unranked, IsRanking};
 ghost use Rattle.hu_collect.specs.Rule.{made, floor_of, IsKept, MakesSome};
 ghost use Rattle.hu_collect.specs.Ranks.{RestsOn};
+ghost use Rattle.hu_collect.specs.State.{floor_in, Mines};
 ghost use Rattle.hu_search.specs.Growth.{rank_entry, Grows, Covers, InTable};
 ghost use Rattle.hu_list.specs.Level.{ranks_of, IsBranch, IsLevel, IsFork};
 ghost use Rattle.hu_collect.specs.Makes.{MakesReaching, MakesSomeOf};
@@ -31,13 +32,11 @@ pub fn mine<C: Collect, G: Gate>(
     collect: &mut C,
     gate: &G,
 ) -> Result<(), NoMemory>
-    requires ranked_floor { ranked.now.floor ≤ℤ floor_of ((C.state collect.old).rule) ((C.state collect.old).content) }
-    requires gate_floor { G.floor gate.now ≤ℤ floor_of ((C.state collect.old).rule) ((C.state collect.old).content) }
+    requires ranked_floor { ranked.now.floor ≤ℤ floor_in (C.state collect.old) }
+    requires gate_floor { G.floor gate.now ≤ℤ floor_in (C.state collect.old) }
     requires right { G.IsRightFor gate.now ranked.now.records }
-    requires rests { RestsOn ((C.state collect.old).rule).table ranked.now.items }
-    ensures rule { (C.state collect.new).rule ≡ (C.state collect.old).rule }
-    ensures ok { OnOk result ((C.state collect.new).content ≡ made ((C.state collect.old).rule) ((C.state collect.old).content) (item_patterns (unranked ranked.now))) }
-    ensures err { OnErr result (MakesSome ((C.state collect.old).rule) ((C.state collect.old).content) (item_patterns (unranked ranked.now)) ((C.state collect.new).content)) }
+    requires rests { RestsOn (C.state collect.old).rule.table ranked.now.items }
+    ensures { Mines (C.state collect.old) (item_patterns (unranked ranked.now)) (C.state collect.new) result }
 {
     // These tell the proof that the content is in order, and what collectors make of entries.
     let _floor = collect.floor();
