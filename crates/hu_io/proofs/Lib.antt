@@ -1,2 +1,2 @@
-mod Appended
-mod Lookups
+pub mod lemmas
+mod LookupLemmas
