@@ -1,6 +1,6 @@
 //! The first token of a text, read as a number.
 
-ghost use Rattle.std.specs.Prelude.{◌≡◌, ◌<◌, [], length, pos, IfSome, IfNone};
+ghost use Rattle.std.specs.Prelude.{◌≡◌, ◌<◌, ◌≤◌, [], length, pos, slice_index, IsTrue, IfSome, IfNone};
 ghost use Rattle.hu_kind.specs.Number.{number, signed_number};
 ghost use Rattle.hu_kind.specs.Token.{tokens};
 ghost use Rattle.hu_kind.specs.Reading.{IsFirstRead, BeginsWith};
@@ -47,11 +47,19 @@ fn short_number(text: &[u8]) -> Option<(u64, usize)>
     ensures { IfSome result (λ r. BeginsWith number text.now (pos r.0) r.1) }
 {
     let (value, count) = front_digits(text);
-    if count > 0 && text.get(count).is_none_or(|byte| *byte == b' ') {
+    if count > 0 && is_end(text, count) {
         Some((value, count))
     } else {
         None
     }
+}
+
+/// Whether a text ends at a place, or a space stands there.
+fn is_end(text: &[u8], place: usize) -> bool
+    requires { place ≤ length text.now }
+    ensures { IsTrue result → place < length text.now → slice_index text.now place ≡ 32 }
+{
+    place == text.len() || text[place] == b' '
 }
 
 /// The number and the length of the token with which a text begins, where that is 1 to 18 digits, perhaps after a `-`.

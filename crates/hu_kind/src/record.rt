@@ -112,7 +112,7 @@ pub(crate) fn is_itemset(cells: &[Cell]) -> bool
 }
 
 /// Whether the items ascend strictly.
-fn ascends(cells: &[Cell]) -> bool
+pub(crate) fn ascends(cells: &[Cell]) -> bool
     ensures { IsTrue result ↔ AllAdjacentBelow (λ a b. a.item.0 < b.item.0) cells.now (length cells.now) }
 {
     for i in 1..cells.len() {

@@ -1,6 +1,5 @@
-use Rattle.std.proofs.Common.{◌+◌, ap, sym, ◌∙◌, arith, refl}
-use Rattle.std.specs.Option.{option_map_or}
-use Rattle.hu_kind.specs.declared.number.NumberFault.TheVariants.{NotDigit, TooLarge}
+use Rattle.std.proofs.Common.{ap, sym, arith, refl}
+use Rattle.hu_kind.specs.declared.number.NumberFault.TheVariants.{NotDigit}
 use Rattle.hu_kind.proofs.lemmas.Numerals.{other_place-some, other_place-none}
 use Rattle.hu_kind.proofs.number.fault_after.Goals as goal
 

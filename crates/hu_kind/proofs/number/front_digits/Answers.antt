@@ -1,5 +1,4 @@
-use Rattle.std.proofs.Common.{◌≡◌, ◌+◌, ◌<◌, ◌^◌, ◌-◌, take, get_or, arith, sym}
-use Rattle.std.specs.Str.Parse.{digits_value}
+use Rattle.std.proofs.Common.{◌+◌, arith, sym}
 use Rattle.hu_kind.proofs.lemmas.Numerals.{next_digit, front-small}
 use Rattle.hu_kind.proofs.number.front_digits.Goals as goal
 

@@ -1,4 +1,4 @@
-use Rattle.std.proofs.Common.{◌≡◌, ◌+◌, ◌<◌, ◌≤◌, ◌^◌, take, length, sym, ap, ◌∙◌, arith}
+use Rattle.std.proofs.Common.{◌<◌, length, sym, ap, ◌∙◌, arith}
 use Rattle.std.specs.Str.Parse.{digits_value}
 use Rattle.std.proofs.lemmas.List.{take_all}
 use Rattle.std.proofs.lemmas.Bool.Decides.{nat_tests}
@@ -14,4 +14,4 @@ returns-then-count-text-clause-value c =
     let whole = take_all count text (omega (arith, c.if-count-text.true)) in
     let some : 0 < length text = grind (arith, nat_tests) in
     sym (digits_from-value c.args.at c.from.result text some (rw whole at front.digits) (omega (arith, c.if-count-text.true, front.few))
-        (ap (digits_value 10) (sym whole) ∙ sym front.value ∙ sym c.from.ensures) (omega (arith, c.from.ensures, front.value)))
+    (ap (digits_value 10) (sym whole) ∙ sym front.value ∙ sym c.from.ensures) (omega (arith, c.from.ensures, front.value)))

@@ -1,4 +1,4 @@
-use Rattle.std.proofs.Common.{◌≡◌, pos, refl, rules, subst, sym, ap, ◌∙◌, sum_by, FitsSigned}
+use Rattle.std.proofs.Common.{pos, refl, rules, subst, sym, ap, ◌∙◌, sum_by, FitsSigned}
 use Rattle.std.specs.Int.{w128}
 use Rattle.std.proofs.lemmas.Int.{to_z-of_z}
 use Rattle.hu_kind.specs.Cell.{absolute_value, AreRecord}
@@ -11,13 +11,12 @@ returns-in_err-absolute-clause-valid c =
 
 pub invariant_of-result : goal.invariant_of-result
 invariant_of-result c =
-    let fits : FitsSigned w128 c.in_ok-absolute.absolute = search rules in
-    (
+    let fits : FitsSigned w128 c.in_ok-absolute.absolute = search rules in (
       IsRecord-from_cells _ (subst AreRecord c.deref.ensures.value (c.in_ok-absolute.ensures).0),
       to_z-of_z w128 c.in_ok-absolute.absolute fits
-      ∙ (c.in_ok-absolute.ensures).1
-      ∙ ap (λ cells. pos (sum_by absolute_value cells)) c.deref.ensures.value
-      ∙ ap pos (sym (absolute_of-pairs_of c.args.cells.items)),
+          ∙ (c.in_ok-absolute.ensures).1
+          ∙ ap (λ cells. pos (sum_by absolute_value cells)) c.deref.ensures.value
+          ∙ ap pos (sym (absolute_of-pairs_of c.args.cells.items)),
     )
 
 pub returns-clause-valid : goal.returns-clause-valid
