@@ -22,16 +22,19 @@ impl Sums {
         ensures plain { IfSome result (λ sums. sums.plain ≡ total (pairs_of cells.now)) }
         ensures positive { IfSome result (λ sums. sums.positive ≡ gain (pairs_of cells.now)) }
     {
-        let mut absolute = 0i128;
+        let mut absolute = 0u128;
         let mut plain = 0i128;
         let mut positive = 0i128;
         for cell in cells {
-            absolute = absolute.checked_add_unsigned(cell.value.unsigned_abs())?;
+            absolute += cell.value.unsigned_abs();
+            if absolute > i128::MAX as u128 {
+                return None;
+            }
             plain += cell.value;
             positive += positive_part(cell.value);
         }
         Some(Sums {
-            absolute,
+            absolute: absolute as i128,
             plain,
             positive,
         })
