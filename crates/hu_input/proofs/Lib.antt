@@ -1,6 +1,1 @@
 mod PartLemmas
-mod InputLemmas
-mod IntakeLemmas
-mod FrontLemmas
-mod FileLemmas
-mod NamesLemmas

@@ -2,5 +2,5 @@ pub mod Part
 pub mod Reason
 pub mod Formats
 pub mod Input
-pub mod Intake
+pub mod Names
 pub mod Reading

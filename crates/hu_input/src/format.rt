@@ -10,9 +10,11 @@ use hu_trans::{Fault, read_record};
 use std::alloc::Global;
 
 /// A form of line, read as one record.
-pub(crate) trait Format {
+pub trait Format {
+    /// What a line holds.
     type Record: Absolute;
 
+    // The record that a line says, or why it is refused.
     ghost reading: { List ℕ → Result Self.Record Reason };
 
     /// The record that a line says, or why it is refused, where there is memory.
@@ -21,8 +23,8 @@ pub(crate) trait Format {
         ensures { IfOk result (λ told. told ≡ reading line.now) };
 }
 
-/// Transaction lines.
-pub(crate) struct Transactions;
+/// Transaction lines, as hu_trans reads them.
+pub struct Transactions;
 
 impl Format for Transactions {
     ghost use Rattle.hu_input.specs.Formats.{transaction_reading};
@@ -40,8 +42,8 @@ impl Format for Transactions {
     }
 }
 
-/// Sequence lines.
-pub(crate) struct Sequences;
+/// Sequence lines, as hu_seq reads them.
+pub struct Sequences;
 
 impl Format for Sequences {
     ghost use Rattle.hu_input.specs.Formats.{sequence_reading};

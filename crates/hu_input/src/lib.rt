@@ -8,11 +8,10 @@
 
 mod format;
 mod input;
-mod intake;
 mod part;
 mod reason;
 
 pub use format::{Format, Sequences, Transactions};
 pub use input::{InputStop, read_files};
 pub use part::{Part, tell};
-pub use reason::Reason;
+pub use reason::{Parts, Reason};

@@ -1,33 +1,32 @@
 //! Lines on the error stream, part by part.
 
-ghost use Rattle.std.specs.Prelude.{◌≡◌, flat_map};
-ghost use Rattle.hu_io.specs.Count.{HasCause};
-ghost use Rattle.hu_io.specs.Sink.{PutsAll};
+ghost use Rattle.std.specs.Prelude.{flat_map};
+ghost use Rattle.hu_io.specs.State.{PutsAll};
 ghost use Rattle.hu_input.specs.Part.{part_text, Tells};
 
 use hu_io::{Failed, Sink, put_all};
 use itoa::Buffer;
 
 /// A part of a line.
-#[derive(Clone, Copy)]
-pub(crate) enum Part<'a> {
+#[derive(Clone, Copy, Debug, PartialEq, Eq)]
+pub enum Part<'a> {
+    /// These bytes.
     Text(&'a str),
+    /// A number in decimal digits, with a minus sign where it is below 0.
     Number(i128),
 }
 
-/// Puts a line, and tells nothing where that fails.
-pub(crate) fn tell<E: Sink>(err: &mut E, line: &[Part<'_>])
-    ensures told { Tells (E.bytes err.old) (E.bytes err.new) (E.faults err.old) (E.faults err.new) (flat_map part_text line.now) }
-    ensures plan { E.plan err.new ≡ E.plan err.old }
+/// Puts a line, part by part, and tells nothing of a failure, which leaves a front of it. It takes no memory, and calls
+/// the sink at least once for each part that isn't empty.
+pub fn tell<E: Sink>(err: &mut E, parts: &[Part<'_>])
+    ensures { Tells (E.state err.old) (E.state err.new) (flat_map part_text parts.now) }
 {
-    let _ = put_parts(err, line);
+    let _ = put_parts(err, parts);
 }
 
 /// Puts parts, one after the other. It takes no memory.
 fn put_parts<S: Sink>(sink: &mut S, parts: &[Part<'_>]) -> Result<(), Failed>
-    ensures bytes { PutsAll (S.bytes sink.old) (S.bytes sink.new) result (flat_map part_text parts.now) }
-    ensures cause { HasCause (S.faults sink.old) (S.faults sink.new) result }
-    ensures plan { S.plan sink.new ≡ S.plan sink.old }
+    ensures { PutsAll (S.state sink.old) (S.state sink.new) result (flat_map part_text parts.now) }
 {
     for part in parts {
         put_part(sink, *part)?;
@@ -37,9 +36,7 @@ fn put_parts<S: Sink>(sink: &mut S, parts: &[Part<'_>]) -> Result<(), Failed>
 
 /// Puts a part.
 fn put_part<S: Sink>(sink: &mut S, part: Part<'_>) -> Result<(), Failed>
-    ensures bytes { PutsAll (S.bytes sink.old) (S.bytes sink.new) result (part_text part.entry) }
-    ensures cause { HasCause (S.faults sink.old) (S.faults sink.new) result }
-    ensures plan { S.plan sink.new ≡ S.plan sink.old }
+    ensures { PutsAll (S.state sink.old) (S.state sink.new) result (part_text part.entry) }
 {
     match part {
         Part::Text(text) => put_all(sink, text.as_bytes()),

@@ -26,11 +26,11 @@ pub enum Reason {
 }
 
 /// A text in four parts, some of them empty.
-pub(crate) type Parts = [Part<'static>; 4];
+pub type Parts = [Part<'static>; 4];
 
 impl Reason {
-    /// The reason in words.
-    pub(crate) fn parts(&self) -> Parts
+    /// The reason in words, in constant time and without memory.
+    pub fn parts(&self) -> Parts
         ensures { flat_map part_text result ≡ reason_text self.now }
     {
         match self {

@@ -1,20 +1,16 @@
-use Rattle.std.proofs.Common.{◌+◌, ◌++◌, subst, take, drop}
+use Rattle.std.proofs.Common.{◌+◌, drop, subst, take}
 use Rattle.std.specs.Prelude.{flat_map}
-use Rattle.hu_io.specs.Sink.{PutsAll}
-use Rattle.hu_report.proofs.lemmas.PutLemmas.{PutsAll-append, PutsAll-longer}
+use Rattle.hu_io.specs.State.{Broke}
 use Rattle.hu_input.specs.Part.{part_text}
-use Rattle.hu_input.proofs.PartLemmas.{flat_map-split}
+use Rattle.hu_input.proofs.PartLemmas.{flat_map-split, Appended-Broke, PutsAll-Broke}
 use Rattle.hu_input.proofs.part.put_parts.Goals as goal
 
-pub returns-in_err-put_part-clause-bytes : goal.returns-in_err-put_part-clause-bytes
-returns-in_err-put_part-clause-bytes g c =
-    let old = g.S.Sink.bytes c.args.sink.now in
-    let now = g.S.Sink.bytes c.loop-part.sink in
-    let new = g.S.Sink.bytes c.put_part.new.sink in
+pub returns-in_err-put_part : goal.returns-in_err-put_part
+returns-in_err-put_part g c =
+    let old = g.S.Sink.state c.args.sink.now in
+    let new = g.S.Sink.state c.put_part.new.sink in
     let parts = c.args.parts.now in
     let i = c.loop-part.part-index in
-    let rest = flat_map part_text (drop (i + 1) parts) in
-    let result = c.from_residual.result in
-    subst (PutsAll old new result) (flat_map-split part_text parts i _ c.loop-part-test.true)
-    (PutsAll-append old now new result (flat_map part_text (take i parts)) (_ ++ rest) c.loop-part.invariant.0
-    (PutsAll-longer now new c.in_err-put_part.field-0.0 result _ rest c.from_residual.ensures.0 c.in_err-put_part.ensures.bytes))
+    PutsAll-Broke old new c.from_residual.result (flat_map part_text parts) c.from_residual.ensures.0
+    (subst (Broke old new) (flat_map-split part_text parts i _ c.loop-part-test.true)
+    (Appended-Broke old (g.S.Sink.state c.loop-part.sink) new (flat_map part_text (take i parts)) _ (flat_map part_text (drop (i + 1) parts)) c.loop-part.invariant c.in_err-put_part.ensures))
