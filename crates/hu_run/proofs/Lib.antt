@@ -1,2 +1,4 @@
-mod MineLemmas
-mod TopLemmas
+mod BatchLemmas
+mod EarnedLemmas
+mod EndLemmas
+mod LineLemmas
