@@ -5,3 +5,4 @@ pub mod Stop
 pub mod Answer
 pub mod Run
 pub mod Attempt
+pub mod Worked
