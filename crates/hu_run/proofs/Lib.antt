@@ -2,3 +2,4 @@ mod BatchLemmas
 mod EarnedLemmas
 mod EndLemmas
 mod LineLemmas
+mod SureLemmas

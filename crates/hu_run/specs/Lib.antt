@@ -4,5 +4,6 @@ pub mod Ending
 pub mod Stop
 pub mod Answer
 pub mod Run
+pub mod Laws
 pub mod Attempt
 pub mod Worked

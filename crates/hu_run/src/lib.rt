@@ -9,6 +9,7 @@
 
 mod answer;
 mod jobs;
+pub mod laws;
 mod stop;
 mod top;
 mod words;
