@@ -153,3 +153,12 @@ drilled_sequences-more seed records elements one base next before is more =
     let all = ap (λ l. l ++ one ∷ []) (ap records_of before) ∙ ap (λ r. drilled_sequences seed records elements ++ r ∷ []) is
     ∙ sym (map-range_with_len_more (λ n. elements_of elements (after_draws (4 * elements * n) seed)) 0 records records (omega arith)) in
     more ∙ (λ i. (carried_of (before i), all i))
+
+-- each of these sequences keeps the rules of a sequence
+AllIsSequence-range : (seed elements from records : ℕ) → 1 ≤ elements → elements ≤ 2048 → AllByRecursion IsSequence (map (λ n. elements_of elements (after_draws (4 * elements * n) seed)) (range_with_len from records))
+AllIsSequence-range seed elements from zero some few = tt
+AllIsSequence-range seed elements from (suc n) some few =
+    (IsSequence-elements_of elements (after_draws (4 * elements * from) seed) some few, AllIsSequence-range seed elements (from + 1) n some few)
+
+pub AllIsSequence-drilled : (seed records elements : ℕ) → 1 ≤ elements → elements ≤ 2048 → AllByRecursion IsSequence (drilled_sequences seed records elements)
+AllIsSequence-drilled seed records elements some few = AllIsSequence-range seed elements 0 records some few

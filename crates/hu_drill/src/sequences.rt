@@ -1,6 +1,10 @@
 //! Generated sequences.
 
 ghost use Rattle.std.specs.Prelude.{◌≡◌, ◌≤◌, ◌*◌, IfOk, OnOk};
+ghost use Rattle.std.specs.List.{sum_by, AllByRecursion};
+ghost use Rattle.hu_kind.specs.Record.{absolute_of};
+ghost use Rattle.hu_kind.specs.Sequence.{IsSequence};
+ghost use Rattle.hu_base.specs.Base.{records_of};
 ghost use Rattle.hu_drill.specs.Draws.{after_draws};
 ghost use Rattle.hu_drill.specs.Drilled.{drilled_sequences, element_from, elements_of};
 
@@ -22,7 +26,9 @@ pub fn make_sequences(
     requires records { records ≤ 1000000 }
     requires some { 1 ≤ elements }
     requires elements { elements ≤ 2048 }
-    ensures { IfOk result (λ base. base ≡ (0, drilled_sequences seed records elements)) }
+    ensures value { IfOk result (λ base. base ≡ (0, drilled_sequences seed records elements)) }
+    ensures sum { IfOk result (λ base. sum_by (sum_by absolute_of) (records_of base) ≤ 409600 * records) }
+    ensures rules { IfOk result (λ base. AllByRecursion IsSequence (records_of base)) }
 {
     let mut draws = Draws { state: seed };
     let mut base = Base::after(alloc, 0);

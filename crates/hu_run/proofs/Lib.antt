@@ -1,2 +1,5 @@
-mod MineLemmas
-mod TopLemmas
+mod BatchLemmas
+mod EarnedLemmas
+mod EndLemmas
+mod LineLemmas
+mod SureLemmas

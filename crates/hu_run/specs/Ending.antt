@@ -2,7 +2,6 @@
 use Rattle.std.specs.Prelude.{ℕ, ℤ, Option, Some, Result, Ok, Err, List}
 use Rattle.std.specs.Option.{option_map}
 use Rattle.std.specs.List.{sum_by}
-use Rattle.hu_kind.specs.declared.entry.Entry.{Entry}
 use Rattle.hu_kind.specs.declared.task.Task.{Task}
 use Rattle.hu_kind.specs.declared.task.Task.TheVariants.{Items, Closed, Sequences}
 use Rattle.hu_kind.specs.Answer.{item_answer, closed_answer, sequence_answer}

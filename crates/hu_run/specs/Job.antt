@@ -1,5 +1,5 @@
 -- The words of the command line as a job: TASK ENGINE MIN TOP FILE [BATCH ..], or drill SEED.
-use Rattle.std.specs.Prelude.{ℕ, nat_lt, Bool, true, false, not, ◌&&◌, ℤ, pos, int_le, unsigned_abs, Option, None, Some, Result, Ok, Err, List, [], length, drop, codes, slice_index_or, if◌then◌else◌}
+use Rattle.std.specs.Prelude.{◌≡◌, ⊤, ℕ, ◌≤◌, nat_lt, Bool, true, false, ◌&&◌, ℤ, pos, ◌≤ℤ◌, int_le, unsigned_abs, IfSome, Option, None, Some, Result, Ok, Err, List, [], length, drop, codes, slice_index_or, if◌then◌else◌}
 use Rattle.std.specs.Option.{option_and_then, option_map}
 use Rattle.std.specs.Result.{result_ok}
 use Rattle.std.specs.Str.{bytes_eq}
@@ -83,6 +83,10 @@ pub data Asked : Type 0 where
   mine : Mining → Asked
   drill : ℕ → Asked
 
+-- mining by these numbers
+abbrev pub mining : Task → Engine → ℤ → Option ℕ → Asked
+mining task engine least top = mine (record { task = task; engine = engine; least = least; top = top })
+
 -- the word at a place
 abbrev pub word_at : List (List ℕ) → ℕ → List ℕ
 word_at words i = slice_index_or words i []
@@ -96,7 +100,7 @@ mining_job words = do
   least ← or_fault (least_of (word_at words 2)) BadMinimum
   top ← or_fault (top_of (word_at words 3)) BadTop
   few ← refuse_if (nat_lt 68 (length words)) TooManyFiles
-  Ok (mine (record { task = task; engine = engine; least = least; top = top }))
+  Ok (mining task engine least top)
 
 -- the job of words that begin with `drill`, or their first fault
 abbrev pub drill_job : List (List ℕ) → Result Asked WordFault
@@ -110,14 +114,28 @@ drill_job words = do
 abbrev pub job : List (List ℕ) → Result Asked WordFault
 job words = if bytes_eq (word_at words 0) (codes "drill") then drill_job words else mining_job words
 
--- the names of the files of a job
-abbrev pub names_of : Asked → List (List ℕ) → List (List ℕ)
-names_of (mine mining) words = drop 4 words
+-- the words that name the files of a job
+abbrev pub names_of : {W : Type 0} → Asked → List W → List W
+names_of (mine m) words = drop 4 words
 names_of (drill seed) words = []
+
+-- a seed in its range
+abbrev pub IsSeed : ℕ → Type 0
+IsSeed seed = (1 ≤ seed) × (seed ≤ 2147483646)
+
+-- the numbers of a job are in their ranges, and its task offers its engine
+abbrev pub IsLawful : Asked → Type 0
+IsLawful (mine m) = (offers m.task m.engine ≡ true) × (pos 1 ≤ℤ m.least) × IfSome m.top (λ k. 1 ≤ k)
+IsLawful (drill seed) = IsSeed seed
+
+-- a job that reads no file
+abbrev pub IsDrill : Asked → Type 0
+IsDrill (mine m) = ⊥
+IsDrill (drill seed) = ⊤
 
 -- what a `Job` asks for
 abbrev pub asked_of : Job → Asked
-asked_of (words.Mine task engine least top names) = mine (record { task = task; engine = engine; least = least; top = top })
+asked_of (words.Mine task engine least top names) = mining task engine least top
 asked_of (words.Drill seed) = drill seed
 
 -- the names of its files

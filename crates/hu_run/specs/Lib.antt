@@ -2,4 +2,8 @@ pub mod Job
 pub mod Drill
 pub mod Ending
 pub mod Stop
+pub mod Answer
 pub mod Run
+pub mod Laws
+pub mod Attempt
+pub mod Worked

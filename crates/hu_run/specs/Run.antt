@@ -1,10 +1,9 @@
 -- What a run promises of its words, files and streams.
-use Rattle.std.specs.Prelude.{◌≡◌, ◌≢◌, ◌↔◌, ◌⊎◌, ℕ, ◌≤◌, Some, List, take, slice_get, codes, IsOkAnd, IsErr, IfErr, IsSomeAnd, IfSome, ⊤}
+use Rattle.std.specs.Prelude.{◌≡◌, ◌≢◌, ◌↔◌, ◌⊎◌, ℕ, ◌≤◌, Some, List, take, slice_get, codes, IsOkAnd, IsErr, IfErr, IfOk, IfSome, ⊤}
 use Rattle.std.specs.List.{Contains}
 use Rattle.hu_io.specs.Count.{Rose}
 use Rattle.hu_io.specs.State.{SinkState, FilesState, Appended, Broke}
 use Rattle.hu_input.specs.Input.{Refusal}
-use Rattle.hu_run.specs.declared.words.WordFault.{WordFault}
 use Rattle.hu_run.specs.Job.{Asked, job, names_of}
 use Rattle.hu_run.specs.Ending.{Ending, writes, refuses, lacks, ending, status_of}
 use Rattle.hu_run.specs.Stop.{told_line, word_text, refusal_line, read_failed_line}
@@ -19,6 +18,18 @@ pub record Streams : Type 0 where
   pub err : SinkState
   pub err_after : SinkState
 
+-- those of a run
+abbrev pub streams : List (List ℕ) → FilesState → FilesState → SinkState → SinkState → SinkState → SinkState → Streams
+streams words files files_after out out_after err err_after = record {
+  words = words;
+  files = files;
+  files_after = files_after;
+  out = out;
+  out_after = out_after;
+  err = err;
+  err_after = err_after;
+}
+
 -- a line was told on `err`: it was appended, or a proper front of it was and the count rose
 abbrev pub Tells : Streams → List ℕ → Type 0
 Tells s line = Appended s.err s.err_after line ⊎ Broke s.err s.err_after line
@@ -27,9 +38,9 @@ Tells s line = Appended s.err s.err_after line ⊎ Broke s.err s.err_after line
 abbrev pub ComesTo : Streams → (Ending → Type 0) → Type 0
 ComesTo s fact = IsOkAnd (job s.words) (λ asked. IfSome (ending asked s.files.contents (names_of asked s.words)) fact)
 
--- the words are a job, its contents are told, and this is so of what it comes to
-abbrev pub IsToldToComeTo : Streams → (Ending → Type 0) → Type 0
-IsToldToComeTo s fact = IsOkAnd (job s.words) (λ asked. IsSomeAnd (ending asked s.files.contents (names_of asked s.words)) fact)
+-- where the words are a job and its contents are told, this is so of what it comes to
+abbrev pub WhereTold : Streams → (Ending → Type 0) → Type 0
+WhereTold s fact = IfOk (job s.words) (λ asked. IfSome (ending asked s.files.contents (names_of asked s.words)) fact)
 
 -- the ending is a text, and this is so of it
 abbrev pub Writing : (List ℕ → Type 0) → Ending → Type 0
@@ -58,7 +69,8 @@ TellsUnread s asked = (i : ℕ) × (name : List ℕ) × (slice_get (names_of ask
 
 -- no count of a named file or of `out` rose
 pub record Unharmed (s : Streams) : Type 0 where
-  pub files : IsOkAnd (job s.words) (λ asked. (name : List ℕ) → Contains (names_of asked s.words) name → ¬ Rose (s.files.faults name) (s.files_after.faults name))
+  pub files : IsOkAnd (job s.words) (λ asked. (name : List ℕ) → Contains (names_of asked s.words) name
+      → ¬ Rose (s.files.faults name) (s.files_after.faults name))
   pub out : ¬ Rose s.out.faults s.out_after.faults
 
 -- what a run promises of its status
@@ -79,8 +91,8 @@ pub record Runs (s : Streams) (status : ℕ) : Type 0 where
   pub broken_told : status ≡ 4 → Tells s (told_line (codes "write failed"))
   pub memory_told : status ≡ 5 → Tells s (told_line (codes "out of memory"))
   -- where no count rose the status is that of the ending, or want of memory; a missing file raises its own count
-  pub complete : IsToldToComeTo s (λ e. Unharmed s → (status ≡ status_of e) ⊎ (status ≡ 5))
-  pub lacking : IsToldToComeTo s (λ e. Lacking e → (status ≡ 3) ⊎ (status ≡ 5))
+  pub complete : WhereTold s (λ e. Unharmed s → (status ≡ status_of e) ⊎ (status ≡ 5))
+  pub lacking : WhereTold s (λ e. Lacking e → (status ≡ 3) ⊎ (status ≡ 5))
   -- counts rise only where the status says so, and never fall
   pub files_same : status ≢ 3 → s.files_after ≡ s.files
   pub files_later : (name : List ℕ) → s.files.faults name ≤ s.files_after.faults name

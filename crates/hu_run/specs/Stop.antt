@@ -12,12 +12,13 @@ use Rattle.hu_run.specs.declared.stop.Stop.TheVariants.{Words, Refused, ReadFail
 -- the reason of refused words
 abbrev pub word_text : WordFault → List ℕ
 word_text word.TooFewWords = codes "too few words"
+word_text word.TooManyWords = codes "too many words"
+word_text word.BadSeed = codes "bad seed"
 word_text word.TaskUnknown = codes "unknown task"
 word_text word.EngineNotOffered = codes "engine not offered"
 word_text word.BadMinimum = codes "bad minimum"
 word_text word.BadTop = codes "bad top"
 word_text word.TooManyFiles = codes "too many files"
-word_text word.NotBuilt = codes "not built yet"
 
 -- the line that tells a text
 abbrev pub told_line : List ℕ → List ℕ
@@ -40,12 +41,12 @@ stop_line WriteFailed = told_line (codes "write failed")
 stop_line NoMemory = told_line (codes "out of memory")
 
 -- the status of a stop
-abbrev pub status_of : Stop → ℕ
-status_of (Refused name number reason) = 1
-status_of (Words fault) = 2
-status_of (ReadFailed name) = 3
-status_of WriteFailed = 4
-status_of NoMemory = 5
+abbrev pub stop_status : Stop → ℕ
+stop_status (Refused name number reason) = 1
+stop_status (Words fault) = 2
+stop_status (ReadFailed name) = 3
+stop_status WriteFailed = 4
+stop_status NoMemory = 5
 
 -- the stop of a run where its files gave no base
 abbrev pub stop_of_input : InputStop → Stop

@@ -1,22 +1,20 @@
-//! The top call of hupm: [`run`] reads the words, reads the files in order, mines, writes the answer and tells of what
-//! stops it. What it promises is the whole of the program: the definitions are in `specs/Run.antt`, that of the words in
-//! `specs/Words.antt` ([`read_words`]), that of the input in `specs/Input.antt`, the texts of refusals in
-//! `specs/Stop.antt`. It stands on the readers of lines and transactions, bases, collectors, engines and the report.
+//! The top call of hupm: [`run`] reads the words, does their job over the named files, writes its text and tells of
+//! what stops it.
+//!
+//! What it promises is the whole of the program, and stands in `specs/`: `Job` says what words ask for
+//! ([`read_words`]), `Ending` what a job comes to over the contents of its files, `Run` what a run makes of its
+//! streams by that. A job is a file of `jobs/`, which answers with its text or with what stops it. The crate stands on
+//! hu_input, which reads, on hu_mine, which mines, and on hu_report and hu_drill, which write.
 #![tactic(auto)]
 
-mod format;
-mod input;
-mod intake;
-mod mine;
-mod part;
-mod ranked;
-mod reason;
+mod answer;
+mod jobs;
+pub mod laws;
 mod stop;
-#[cfg(test)]
-mod tests;
 mod top;
 mod words;
 
-pub use reason::Reason;
+pub use hu_input::Reason;
+pub use hu_mine::Engine;
 pub use top::run;
-pub use words::{Engine, Job, WordFault, read_words};
+pub use words::{Job, WordFault, read_words};

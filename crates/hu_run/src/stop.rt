@@ -2,12 +2,10 @@
 
 ghost use Rattle.std.specs.Prelude.{◌≡◌};
 ghost use Rattle.hu_input.specs.Part.{Tells};
-ghost use Rattle.hu_run.specs.Stop.{status_of, stop_line, told_line, refusal_line, word_text};
+ghost use Rattle.hu_run.specs.Stop.{stop_status, stop_line, told_line, refusal_line, word_text};
 
-use crate::input::InputStop;
-use crate::part::{Part, tell};
-use crate::reason::Reason;
 use crate::words::WordFault;
+use hu_input::{InputStop, Part, Reason, tell};
 use hu_io::{Failed, Sink};
 use hu_kind::NoMemory;
 
@@ -35,7 +33,7 @@ pub(crate) enum Stop<'a> {
 impl Stop<'_> {
     /// The status with which the program ends.
     pub(crate) fn status(&self) -> u8
-        ensures { result ≡ status_of self.now }
+        ensures { result ≡ stop_status self.now }
     {
         match self {
             Stop::Refused { .. } => 1,
@@ -48,8 +46,7 @@ impl Stop<'_> {
 
     /// Tells of it in one line.
     pub(crate) fn tell<E: Sink>(&self, err: &mut E)
-        ensures told { Tells (E.bytes err.old) (E.bytes err.new) (E.faults err.old) (E.faults err.new) (stop_line self.now) }
-        ensures plan { E.plan err.new ≡ E.plan err.old }
+        ensures { Tells (E.state err.old) (E.state err.new) (stop_line self.now) }
     {
         match self {
             Stop::Words(fault) => tell_text(err, word_text(*fault)),
@@ -74,8 +71,7 @@ impl Stop<'_> {
 
 /// Tells a text.
 fn tell_text<E: Sink>(err: &mut E, text: &str)
-    ensures told { Tells (E.bytes err.old) (E.bytes err.new) (E.faults err.old) (E.faults err.new) (told_line text.now) }
-    ensures plan { E.plan err.new ≡ E.plan err.old }
+    ensures { Tells (E.state err.old) (E.state err.new) (told_line text.now) }
 {
     tell(
         err,
@@ -85,8 +81,7 @@ fn tell_text<E: Sink>(err: &mut E, text: &str)
 
 /// Tells of a line that is refused.
 fn tell_refusal<E: Sink>(err: &mut E, name: &str, number: u64, reason: Reason)
-    ensures told { Tells (E.bytes err.old) (E.bytes err.new) (E.faults err.old) (E.faults err.new) (refusal_line name.now number reason) }
-    ensures plan { E.plan err.new ≡ E.plan err.old }
+    ensures { Tells (E.state err.old) (E.state err.new) (refusal_line name.now number reason) }
 {
     let [first, second, third, fourth] = reason.parts();
     tell(
@@ -112,12 +107,13 @@ fn word_text(fault: WordFault) -> &'static str
 {
     match fault {
         WordFault::TooFewWords => "too few words",
+        WordFault::TooManyWords => "too many words",
+        WordFault::BadSeed => "bad seed",
         WordFault::TaskUnknown => "unknown task",
         WordFault::EngineNotOffered => "engine not offered",
         WordFault::BadMinimum => "bad minimum",
         WordFault::BadTop => "bad top",
         WordFault::TooManyFiles => "too many files",
-        WordFault::NotBuilt => "not built yet",
     }
 }
 

@@ -1,26 +1,14 @@
 //! The words of the command line.
 
-ghost use Rattle.std.specs.Prelude.{◌≡◌, ◌≤◌, pos, ◌≤ℤ◌, true, Some, drop, IfOk, IfSome};
+ghost use Rattle.std.specs.Prelude.{◌≡◌, ◌≤◌, true, pos, ◌≤ℤ◌, codes, IfOk, IfSome};
 ghost use Rattle.std.specs.Result.{result_err};
-ghost use Rattle.hu_run.specs.Words.{task_of, engine_of, offered_engine, least_of, top_of, offers, is_built, job, texts_of};
-ghost use Rattle.hu_run.specs.Jobs.{mining_of, files_of};
+ghost use Rattle.std.specs.Str.{bytes_eq};
+ghost use Rattle.hu_input.specs.Names.{texts_of};
+ghost use Rattle.hu_run.specs.Job.{task_of, engine_of, offered_engine, least_of, top_of, seed_of, word_at, job, mining_job, drill_job, names_of, asked_of, files_of, IsSeed, IsLawful};
+ghost use Rattle.hu_mine.specs.Engine.{offers};
 
 use hu_kind::{Task, read_number};
-
-/// An engine: the way in which patterns are searched. All engines of a task give the same answer.
-#[derive(Clone, Copy, Debug, PartialEq, Eq)]
-pub enum Engine {
-    /// Every pattern that occurs is tried.
-    Plain,
-    /// Utility lists.
-    Lists,
-    /// Projected and merged rows.
-    Project,
-    /// A kept answer to which batches are appended.
-    Kept,
-    /// Utility chains, for sequences.
-    Chain,
-}
+use hu_mine::Engine;
 
 /// What the words ask for.
 #[derive(Clone, Copy, Debug)]
@@ -33,13 +21,21 @@ pub enum Job<'a> {
         top: Option<u32>,
         names: &'a [String],
     },
+    /// The patterns of generated records, which a seed tells, by one engine after another.
+    Drill {
+        seed: u32,
+    },
 }
 
 /// Why words are no job. Where several are, the first of this list is meant.
 #[derive(Clone, Copy, Debug, PartialEq, Eq)]
 pub enum WordFault {
-    /// There are fewer than five words.
+    /// There are fewer than five words, or fewer than two where the first is `drill`.
     TooFewWords,
+    /// The first word is `drill`, and there are more than two.
+    TooManyWords,
+    /// The first word is `drill`, and the second is no number from 1 to 2,147,483,646.
+    BadSeed,
     /// The first word is no task.
     TaskUnknown,
     /// The second word is no engine that the task offers.
@@ -50,18 +46,52 @@ pub enum WordFault {
     BadTop,
     /// There are more than 64 names of files.
     TooManyFiles,
-    /// The job isn't built yet.
-    NotBuilt,
 }
 
 /// The job of the words, or their first fault. It takes no memory.
 pub fn read_words(words: &[String]) -> Result<Job<'_>, WordFault>
     ensures fault { result_err result ≡ result_err (job (texts_of words.now)) }
-    ensures job { IfOk result (λ found. job (texts_of words.now) ≡ Ok (mining_of found)) }
-    ensures names { IfOk result (λ found. files_of found ≡ drop 4 words.now) }
-    ensures least { IfOk result (λ found. pos 1 ≤ℤ (mining_of found).least) }
-    ensures top { IfOk result (λ found. IfSome (mining_of found).top (λ k. 1 ≤ k)) }
-    ensures built { IfOk result (λ found. is_built (mining_of found).task (mining_of found).engine ≡ true) }
+    ensures job { IfOk result (λ found. job (texts_of words.now) ≡ Ok (asked_of found)) }
+    ensures names { IfOk result (λ found. files_of found ≡ names_of (asked_of found) words.now) }
+    ensures lawful { IfOk result (λ found. IsLawful (asked_of found)) }
+{
+    if begins_with_drill(words) {
+        read_drill(words)
+    } else {
+        read_mining(words)
+    }
+}
+
+/// Whether the first word is `drill`.
+fn begins_with_drill(words: &[String]) -> bool
+    ensures { result ≡ bytes_eq (word_at (texts_of words.now) 0) (codes "drill") }
+{
+    !words.is_empty() && words[0].as_str() == "drill"
+}
+
+/// The drill that words ask for of which the first is `drill`, or their first fault.
+fn read_drill(words: &[String]) -> Result<Job<'_>, WordFault>
+    ensures fault { result_err result ≡ result_err (drill_job (texts_of words.now)) }
+    ensures job { IfOk result (λ found. drill_job (texts_of words.now) ≡ Ok (asked_of found)) }
+    ensures names { IfOk result (λ found. files_of found ≡ names_of (asked_of found) words.now) }
+    ensures lawful { IfOk result (λ found. IsLawful (asked_of found)) }
+{
+    if words.len() < 2 {
+        return Err(WordFault::TooFewWords);
+    }
+    if words.len() > 2 {
+        return Err(WordFault::TooManyWords);
+    }
+    let seed = read_seed(&words[1]).ok_or(WordFault::BadSeed)?;
+    Ok(Job::Drill { seed })
+}
+
+/// The mining that words ask for, or their first fault.
+fn read_mining(words: &[String]) -> Result<Job<'_>, WordFault>
+    ensures fault { result_err result ≡ result_err (mining_job (texts_of words.now)) }
+    ensures job { IfOk result (λ found. mining_job (texts_of words.now) ≡ Ok (asked_of found)) }
+    ensures names { IfOk result (λ found. files_of found ≡ names_of (asked_of found) words.now) }
+    ensures lawful { IfOk result (λ found. IsLawful (asked_of found)) }
 {
     if words.len() < 5 {
         return Err(WordFault::TooFewWords);
@@ -73,9 +103,6 @@ pub fn read_words(words: &[String]) -> Result<Job<'_>, WordFault>
     let names = &words[4..];
     if names.len() > 64 {
         return Err(WordFault::TooManyFiles);
-    }
-    if !is_built(task, engine) {
-        return Err(WordFault::NotBuilt);
     }
     Ok(Job::Mine {
         task,
@@ -114,32 +141,10 @@ fn named_engine(word: &str) -> Option<Engine>
 
 /// The engine that a word names, where the task offers it.
 fn read_engine(task: Task, word: &str) -> Option<Engine>
-    ensures { result ≡ offered_engine task word.now }
+    ensures value { result ≡ offered_engine task word.now }
+    ensures offered { IfSome result (λ engine. offers task engine ≡ true) }
 {
-    named_engine(word).filter(|engine| offers(task, *engine))
-}
-
-/// Whether a task offers an engine.
-fn offers(task: Task, engine: Engine) -> bool
-    ensures { result ≡ offers task engine }
-{
-    match (task, engine) {
-        (Task::Items | Task::Closed, Engine::Chain) => false,
-        (Task::Items | Task::Closed, _) => true,
-        (Task::Sequences, Engine::Plain | Engine::Chain) => true,
-        (Task::Sequences, _) => false,
-    }
-}
-
-/// Whether an engine is built for a task.
-fn is_built(task: Task, engine: Engine) -> bool
-    ensures { result ≡ is_built task engine }
-{
-    matches!(
-        (task, engine),
-        (Task::Items | Task::Closed, Engine::Plain | Engine::Lists)
-            | (Task::Sequences, Engine::Plain | Engine::Chain)
-    )
+    named_engine(word).filter(|engine| engine.serves(task))
 }
 
 /// The least utility that a word says.
@@ -160,6 +165,17 @@ fn read_top(word: &str) -> Option<Option<u32>>
     }
     match read_number(word.as_bytes()) {
         Ok(n) if 1 <= n && n <= 1_000_000 => Some(Some(n as u32)),
+        _ => None,
+    }
+}
+
+/// The seed that a word says.
+fn read_seed(word: &str) -> Option<u32>
+    ensures value { result ≡ seed_of word.now }
+    ensures range { IfSome result IsSeed }
+{
+    match read_number(word.as_bytes()) {
+        Ok(n) if 1 <= n && n <= 2_147_483_646 => Some(n as u32),
         _ => None,
     }
 }

@@ -1,6 +1,6 @@
-use Rattle.std.proofs.Common.{◌∙◌, ◌*◌, ap, arith}
+use Rattle.std.proofs.Common.{◌∙◌, ◌*◌, sum_by, ap, arith}
 use Rattle.hu_kind.specs.Record.{absolute_of}
-use Rattle.hu_base.specs.Base.{sum_of}
+use Rattle.hu_base.specs.Base.{records_of, sum_of}
 use Rattle.hu_drill.specs.Draws.{after_draws}
 use Rattle.hu_drill.specs.Drilled.{cells_of}
 use Rattle.hu_drill.proofs.DrawLemmas.{after_draws-more}
@@ -32,3 +32,8 @@ loop-preserved c =
       value = drilled-more c.args.seed c.loop.counter items c.in_ok-next_record.field-0 c.loop.base c.append.new.base kept.value
           (c.in_ok-next_record.ensures.value ∙ ap (cells_of items) kept.state) c.in_ok-append.ensures;
     }
+
+pub returns-clause-sum : goal.returns-clause-sum
+returns-clause-sum c =
+    let made = ap (λ b. sum_by absolute_of (records_of b)) c.loop.invariant.value in
+    omega (arith, made, sum-drilled c.args.seed c.loop.counter c.args.items c.requires.items)

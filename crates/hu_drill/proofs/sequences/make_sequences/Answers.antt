@@ -1,10 +1,12 @@
-use Rattle.std.proofs.Common.{◌∙◌, ◌*◌, sum_by, ap, arith}
+use Rattle.std.proofs.Common.{◌∙◌, ◌*◌, sum_by, ap, sym, subst, arith}
+use Rattle.std.specs.List.{AllByRecursion}
+use Rattle.hu_kind.specs.Sequence.{IsSequence}
 use Rattle.hu_kind.specs.Record.{absolute_of}
-use Rattle.hu_base.specs.Base.{sum_of}
+use Rattle.hu_base.specs.Base.{records_of, sum_of}
 use Rattle.hu_drill.specs.Draws.{after_draws}
 use Rattle.hu_drill.specs.Drilled.{elements_of}
 use Rattle.hu_drill.proofs.DrawLemmas.{after_draws-more}
-use Rattle.hu_drill.proofs.DrilledLemmas.{sum-elements_of, sum-drilled_sequences, drilled_sequences-more}
+use Rattle.hu_drill.proofs.DrilledLemmas.{sum-elements_of, sum-drilled_sequences, AllIsSequence-drilled, drilled_sequences-more}
 use Rattle.hu_drill.proofs.sequences.make_sequences.Goals as goal
 
 pub append-requires : goal.append-requires
@@ -32,3 +34,13 @@ loop-preserved c =
       value = drilled_sequences-more c.args.seed c.loop.counter elements c.in_ok-next_sequence.field-0 c.loop.base c.append.new.base kept.value
           (c.in_ok-next_sequence.ensures.value ∙ ap (elements_of elements) kept.state) c.in_ok-append.ensures;
     }
+
+pub returns-clause-sum : goal.returns-clause-sum
+returns-clause-sum c =
+    let made = ap (λ b. sum_by (sum_by absolute_of) (records_of b)) c.loop.invariant.value in
+    omega (arith, made, sum-drilled_sequences c.args.seed c.loop.counter c.args.elements c.requires.elements)
+
+pub returns-clause-rules : goal.returns-clause-rules
+returns-clause-rules c =
+    subst (λ b. AllByRecursion IsSequence (records_of b)) (sym c.loop.invariant.value)
+    (AllIsSequence-drilled c.args.seed c.loop.counter c.args.elements c.requires.some c.requires.elements)

@@ -1,0 +1,343 @@
+-- What the end of an attempt says of the status.
+use Rattle.std.proofs.Common.{◌≡◌, ℕ, ◌≤◌, List, Result, Ok, Err, Option, Some, None, ap, sym, subst, refl, inl, inr, arith}
+use Rattle.std.specs.Prelude.{◌≢◌, IsErr, IsOkAnd, IfOk, IfErr, IfSome, slice_get, codes, ⊤}
+use Rattle.std.specs.Result.{result_err}
+use Rattle.std.specs.List.{Contains}
+use Rattle.std.proofs.lemmas.Result.{IfOk-weaker}
+use Rattle.std.proofs.lemmas.Option.{slice_get_within, get_or_from_slice_get}
+use Rattle.hu_io.specs.State.{SinkState, FilesState, Appended, Broke, Missed}
+use Rattle.hu_input.specs.Input.{Refusal}
+use Rattle.hu_run.specs.declared.words.WordFault.{WordFault}
+use Rattle.hu_run.specs.declared.stop.Stop.{Stop}
+use Rattle.hu_run.specs.declared.stop.Stop.TheVariants.{Words, Refused, ReadFailed, WriteFailed, NoMemory}
+use Rattle.hu_run.specs.Job.{Asked, job, names_of}
+use Rattle.hu_run.specs.Ending.{Ending, ending, status_of}
+use Rattle.hu_run.specs.Stop.{stop_status, stop_line, told_line, word_text, refusal_line, read_failed_line}
+use Rattle.hu_run.specs.Run.{Streams, Runs, Tells, ComesTo, WhereTold, Writing, Lacking, Unharmed}
+use Rattle.hu_run.specs.Attempt.{HasRefusal, HasFailed, Puts, Ends}
+
+-- ---- results and options
+
+-- the result that has this error
+pub err_of : {A E : Type 0} (r : Result A E) (e : E) → Some e ≡ result_err r → r ≡ Err e
+err_of (Ok a) e is = cc
+err_of (Err d) e is = let same : e ≡ d = cc in ap Err (sym same)
+
+from_ok : {A E : Type 0} (r : Result A E) (P : A → Type 0) (Q : Type 0) → ((x : A) → P x → Q) → IsOkAnd r P → Q
+from_ok (Ok x) P Q f p = f x p
+from_ok (Err e) P Q f p = absurd p
+
+and_ok : {A E : Type 0} (r : Result A E) (P Q : A → Type 0) → ((x : A) → P x → Q x) → IsOkAnd r P → IsOkAnd r Q
+and_ok (Ok x) P Q f p = f x p
+and_ok (Err e) P Q f p = absurd p
+
+if_ok : {A E : Type 0} (r : Result A E) (P Q : A → Type 0) → ((x : A) → P x → Q x) → IsOkAnd r P → IfOk r Q
+if_ok (Ok x) P Q f p = f x p
+if_ok (Err e) P Q f p = tt
+
+any_ok : {A E : Type 0} (r : Result A E) (Q : A → Type 0) → ((x : A) → Q x) → IfOk r Q
+any_ok (Ok x) Q f = f x
+any_ok (Err e) Q f = tt
+
+no_ok : {A E : Type 0} (r : Result A E) (e : E) (Q : A → Type 0) → r ≡ Err e → IfOk r Q
+no_ok r e Q is = subst (λ x. IfOk x Q) (sym is) tt
+
+both_ok : {A E : Type 0} (r : Result A E) (P Q : A → Type 0) → ((x : A) → P x → Q x → ⊥) → IsOkAnd r P → IsOkAnd r Q → ⊥
+both_ok (Ok x) P Q f p q = f x p q
+both_ok (Err e) P Q f p q = p
+
+ok_no_err : {A E : Type 0} (r : Result A E) (P : A → Type 0) → IsOkAnd r P → IsErr r → ⊥
+ok_no_err (Ok x) P p err = cc
+ok_no_err (Err e) P p err = p
+
+if_err : {A E : Type 0} (r : Result A E) (P : A → Type 0) (Q : E → Type 0) → IsOkAnd r P → IfErr r Q
+if_err (Ok x) P Q p = tt
+if_err (Err e) P Q p = absurd p
+
+if_some : {A : Type 0} (o : Option A) (P Q : A → Type 0) → ((x : A) → P x → Q x) → IfSome o P → IfSome o Q
+if_some None P Q f p = tt
+if_some (Some x) P Q f p = f x p
+
+any_some : {A : Type 0} (o : Option A) (Q : A → Type 0) → ((x : A) → Q x) → IfSome o Q
+any_some None Q f = tt
+any_some (Some x) Q f = f x
+
+-- a name at a place is one of the names
+place_is_among : (names : List (List ℕ)) (i : ℕ) (name : List ℕ) → slice_get names i ≡ Some name → Contains names name
+place_is_among names i name place = (i, slice_get_within names i name place, get_or_from_slice_get names i name name place)
+
+-- ---- what is kept
+
+record KeepsFiles (old new : FilesState) : Type 0 where
+  later : (name : List ℕ) → old.faults name ≤ new.faults name
+  contents : new.contents ≡ old.contents
+  plan : new.plan ≡ old.plan
+
+files-same : (old new : FilesState) → new ≡ old → KeepsFiles old new
+files-same old new same = record {
+  later = λ name. omega (arith, ap (λ f. f.faults name) same);
+  contents = ap (λ f. f.contents) same;
+  plan = ap (λ f. f.plan) same;
+}
+
+files-missed : (old new : FilesState) (name : List ℕ) → Missed old new name → KeepsFiles old new
+files-missed old new name missed = record { later = missed.later; contents = missed.contents; plan = missed.plan }
+
+record KeepsSink (old new : SinkState) : Type 0 where
+  later : old.faults ≤ new.faults
+  plan : new.plan ≡ old.plan
+
+sink-same : (old new : SinkState) → new ≡ old → KeepsSink old new
+sink-same old new same = record { later = omega (arith, ap (λ s. s.faults) same); plan = ap (λ s. s.plan) same }
+
+sink-put : {old new : SinkState} {text : List ℕ} → Appended old new text → KeepsSink old new
+sink-put put = record { later = omega (arith, put.faults); plan = put.plan }
+
+sink-told : (s : Streams) (line : List ℕ) → Tells s line → KeepsSink s.err s.err_after
+sink-told s line (inl put) = sink-put put
+sink-told s line (inr broke) = record { later = broke.later; plan = broke.plan }
+
+module _ (s : Streams) where
+  -- what a job comes to
+  abbrev comes_to : Asked → Option Ending
+  comes_to asked = ending asked s.files.contents (names_of asked s.words)
+
+  abbrev EndsBy : Result (Unit {0}) Stop → Type 0
+  EndsBy result = Ends s.words s.files s.files_after s.out s.out_after result
+
+  -- what the files and `out` are after each status
+  record Kept (status : ℕ) : Type 0 where
+    files : KeepsFiles s.files s.files_after
+    files_same : status ≢ 3 → s.files_after ≡ s.files
+    out : KeepsSink s.out s.out_after
+    out_same : status ≢ 4 → s.out_after.faults ≡ s.out.faults
+
+  kept-stopped : (status : ℕ) → s.files_after ≡ s.files → s.out_after ≡ s.out → Kept status
+  kept-stopped status files out = record {
+    files = files-same s.files s.files_after files;
+    files_same = λ _. files;
+    out = sink-same s.out s.out_after out;
+    out_same = λ _. ap (λ o. o.faults) out;
+  }
+
+  kept-written : (status : ℕ) → s.files_after ≡ s.files → KeepsSink s.out s.out_after → (status ≢ 4 → s.out_after.faults ≡ s.out.faults) → Kept status
+  kept-written status files out same = record { files = files-same s.files s.files_after files; files_same = λ _. files; out = out; out_same = same }
+
+  kept-unread : (name : List ℕ) → Missed s.files s.files_after name → s.out_after ≡ s.out → Kept 3
+  kept-unread name missed out = record {
+    files = files-missed s.files s.files_after name missed;
+    files_same = λ not. absurd (not refl);
+    out = sink-same s.out s.out_after out;
+    out_same = λ _. ap (λ o. o.faults) out;
+  }
+
+  -- ---- each end
+
+  where_told : {P Q : Ending → Type 0} → ((e : Ending) → P e → Q e) → WhereTold s P → WhereTold s Q
+  where_told {P} {Q} f told = IfOk-weaker (job s.words) _ _ (λ asked p. if_some (comes_to asked) P Q f p) told
+
+  text-done : (fact : List ℕ → Type 0) → Puts s.words s.files s.files_after fact → ComesTo s (Writing fact)
+  text-done fact ends = and_ok (job s.words) _ _ (λ asked p. if_some (comes_to asked) _ _ (λ e is. subst (Writing fact) (sym is) p.2) p.1.ending) ends
+
+  text-status : (fact : List ℕ → Type 0) → Puts s.words s.files s.files_after fact → WhereTold s (λ e. 0 ≡ status_of e)
+  text-status fact ends = if_ok (job s.words) _ _ (λ asked p. if_some (comes_to asked) _ _ (λ e is. sym (ap status_of is)) p.1.ending) ends
+
+  text-not-lacking : (fact : List ℕ → Type 0) (Q : Type 0) → Puts s.words s.files s.files_after fact → WhereTold s (λ e. Lacking e → Q)
+  text-not-lacking fact Q ends =
+      if_ok (job s.words) _ _ (λ asked p. if_some (comes_to asked) _ _ (λ e is lacking. absurd (subst Lacking is lacking)) p.1.ending) ends
+
+  -- the whole text was appended
+  done : Puts s.words s.files s.files_after (Appended s.out s.out_after) → s.err_after ≡ s.err → Runs s 0
+  done ends silent =
+      let told = sink-same s.err s.err_after silent in
+      let same : s.files_after ≡ s.files = from_ok (job s.words) _ _ (λ asked p. p.1.same) ends in
+      let put : (text : List ℕ) × Appended s.out s.out_after text = from_ok (job s.words) _ _ (λ asked p. (p.0, p.2)) ends in
+      let kept = kept-written 0 same (sink-put put.1) (λ _. put.1.faults) in
+      record {
+        within = omega arith;
+        done = λ _. text-done (Appended s.out s.out_after) ends;
+        refused = λ is. absurd (omega (arith, is));
+        no_job = (λ is. absurd (omega (arith, is)), λ err. absurd (ok_no_err (job s.words) _ ends err));
+        no_job_told = if_err (job s.words) _ _ ends;
+        unread = λ is. absurd (omega (arith, is));
+        broken = λ is. absurd (omega (arith, is));
+        broken_rose = λ is. absurd (omega (arith, is));
+        broken_told = λ is. absurd (omega (arith, is));
+        memory_told = λ is. absurd (omega (arith, is));
+        complete = where_told (λ e is unharmed. inl is) (text-status (Appended s.out s.out_after) ends);
+        lacking = text-not-lacking (Appended s.out s.out_after) _ ends;
+        files_same = kept.files_same;
+        files_later = kept.files.later;
+        out_same = kept.out_same;
+        out_later = kept.out.later;
+        err_later = told.later;
+        contents = kept.files.contents;
+        files_plan = kept.files.plan;
+        out_plan = kept.out.plan;
+        err_plan = told.plan;
+      }
+
+  -- a proper front of it was
+  broken : Puts s.words s.files s.files_after (Broke s.out s.out_after) → Tells s (told_line (codes "write failed")) → Runs s 4
+  broken ends told_ =
+      let told = sink-told s (told_line (codes "write failed")) told_ in
+      let same : s.files_after ≡ s.files = from_ok (job s.words) _ _ (λ asked p. p.1.same) ends in
+      let put : (text : List ℕ) × Broke s.out s.out_after text = from_ok (job s.words) _ _ (λ asked p. (p.0, p.2)) ends in
+      let kept = kept-written 4 same (record { later = put.1.later; plan = put.1.plan }) (λ not. absurd (not refl)) in
+      record {
+        within = omega arith;
+        done = λ is. absurd (omega (arith, is));
+        refused = λ is. absurd (omega (arith, is));
+        no_job = (λ is. absurd (omega (arith, is)), λ err. absurd (ok_no_err (job s.words) _ ends err));
+        no_job_told = if_err (job s.words) _ _ ends;
+        unread = λ is. absurd (omega (arith, is));
+        broken = λ _. text-done (Broke s.out s.out_after) ends;
+        broken_rose = λ _. put.1.rose;
+        broken_told = λ _. told_;
+        memory_told = λ is. absurd (omega (arith, is));
+        complete = where_told (λ e is unharmed. absurd (unharmed.out put.1.rose)) (text-status (Broke s.out s.out_after) ends);
+        lacking = text-not-lacking (Broke s.out s.out_after) _ ends;
+        files_same = kept.files_same;
+        files_later = kept.files.later;
+        out_same = kept.out_same;
+        out_later = kept.out.later;
+        err_later = told.later;
+        contents = kept.files.contents;
+        files_plan = kept.files.plan;
+        out_plan = kept.out.plan;
+        err_plan = told.plan;
+      }
+
+  -- a line is refused
+  refused : (name : List ℕ) (refusal : Refusal)
+      → IsOkAnd (job s.words) (λ asked. HasRefusal asked s.files s.files_after (names_of asked s.words) name refusal) → s.out_after ≡ s.out
+      → Tells s (refusal_line name refusal.number refusal.reason) → Runs s 1
+  refused name refusal ends unwritten told_ =
+      let told = sink-told s (refusal_line name refusal.number refusal.reason) told_ in
+      let same : s.files_after ≡ s.files = from_ok (job s.words) _ _ (λ asked p. p.same) ends in
+      let kept = kept-stopped 1 same unwritten in
+      record {
+        within = omega arith;
+        done = λ is. absurd (omega (arith, is));
+        refused = λ _. and_ok (job s.words) _ _ (λ asked p. (name, refusal, p.named, p.ending, told_)) ends;
+        no_job = (λ is. absurd (omega (arith, is)), λ err. absurd (ok_no_err (job s.words) _ ends err));
+        no_job_told = if_err (job s.words) _ _ ends;
+        unread = λ is. absurd (omega (arith, is));
+        broken = λ is. absurd (omega (arith, is));
+        broken_rose = λ is. absurd (omega (arith, is));
+        broken_told = λ is. absurd (omega (arith, is));
+        memory_told = λ is. absurd (omega (arith, is));
+        complete = if_ok (job s.words) _ _ (λ asked p. if_some (comes_to asked) _ _ (λ e is unharmed. inl (sym (ap status_of is))) p.ending) ends;
+        lacking = if_ok (job s.words) _ _ (λ asked p. if_some (comes_to asked) _ _ (λ e is lacking. absurd (subst Lacking is lacking)) p.ending) ends;
+        files_same = kept.files_same;
+        files_later = kept.files.later;
+        out_same = kept.out_same;
+        out_later = kept.out.later;
+        err_later = told.later;
+        contents = kept.files.contents;
+        files_plan = kept.files.plan;
+        out_plan = kept.out.plan;
+        err_plan = told.plan;
+      }
+
+  -- a read failed
+  unread : (name : List ℕ)
+      → IsOkAnd (job s.words) (λ asked. HasFailed asked s.files s.files_after (names_of asked s.words) name) → s.out_after ≡ s.out → Tells s (read_failed_line name) → Runs s 3
+  unread name ends unwritten told_ =
+      let told = sink-told s (read_failed_line name) told_ in
+      let missed : Missed s.files s.files_after name = from_ok (job s.words) _ _ (λ asked p. p.missed) ends in
+      let harmed : Unharmed s → ⊥ = λ unharmed. both_ok (job s.words) _ _ (λ asked p none.
+      none name (place_is_among (names_of asked s.words) p.place name p.named) p.missed.rose) ends unharmed.files in
+      let kept = kept-unread name missed unwritten in
+      record {
+        within = omega arith;
+        done = λ is. absurd (omega (arith, is));
+        refused = λ is. absurd (omega (arith, is));
+        no_job = (λ is. absurd (omega (arith, is)), λ err. absurd (ok_no_err (job s.words) _ ends err));
+        no_job_told = if_err (job s.words) _ _ ends;
+        unread = λ _. and_ok (job s.words) _ _ (λ asked p. (p.place, name, p.named, p.missed.rose, p.accepted, told_)) ends;
+        broken = λ is. absurd (omega (arith, is));
+        broken_rose = λ is. absurd (omega (arith, is));
+        broken_told = λ is. absurd (omega (arith, is));
+        memory_told = λ is. absurd (omega (arith, is));
+        complete = any_ok (job s.words) _ (λ asked. any_some (comes_to asked) _ (λ e unharmed. absurd (harmed unharmed)));
+        lacking = any_ok (job s.words) _ (λ asked. any_some (comes_to asked) _ (λ e lacking. inl refl));
+        files_same = kept.files_same;
+        files_later = kept.files.later;
+        out_same = kept.out_same;
+        out_later = kept.out.later;
+        err_later = told.later;
+        contents = kept.files.contents;
+        files_plan = kept.files.plan;
+        out_plan = kept.out.plan;
+        err_plan = told.plan;
+      }
+
+  -- there is no memory
+  out_of_memory : IsOkAnd (job s.words) (λ asked. ⊤) → s.files_after ≡ s.files → s.out_after ≡ s.out → Tells s (told_line (codes "out of memory")) → Runs s 5
+  out_of_memory ends same unwritten told_ =
+      let told = sink-told s (told_line (codes "out of memory")) told_ in
+      let kept = kept-stopped 5 same unwritten in
+      record {
+        within = omega arith;
+        done = λ is. absurd (omega (arith, is));
+        refused = λ is. absurd (omega (arith, is));
+        no_job = (λ is. absurd (omega (arith, is)), λ err. absurd (ok_no_err (job s.words) _ ends err));
+        no_job_told = if_err (job s.words) _ _ ends;
+        unread = λ is. absurd (omega (arith, is));
+        broken = λ is. absurd (omega (arith, is));
+        broken_rose = λ is. absurd (omega (arith, is));
+        broken_told = λ is. absurd (omega (arith, is));
+        memory_told = λ _. told_;
+        complete = any_ok (job s.words) _ (λ asked. any_some (comes_to asked) _ (λ e unharmed. inr refl));
+        lacking = any_ok (job s.words) _ (λ asked. any_some (comes_to asked) _ (λ e lacking. inr refl));
+        files_same = kept.files_same;
+        files_later = kept.files.later;
+        out_same = kept.out_same;
+        out_later = kept.out.later;
+        err_later = told.later;
+        contents = kept.files.contents;
+        files_plan = kept.files.plan;
+        out_plan = kept.out.plan;
+        err_plan = told.plan;
+      }
+
+  -- the words are no job
+  no_job : (fault : WordFault) → job s.words ≡ Err fault → s.files_after ≡ s.files → s.out_after ≡ s.out → Tells s (told_line (word_text fault)) → Runs s 2
+  no_job fault is same unwritten told_ =
+      let told = sink-told s (told_line (word_text fault)) told_ in
+      let kept = kept-stopped 2 same unwritten in
+      record {
+        within = omega arith;
+        done = λ never. absurd (omega (arith, never));
+        refused = λ never. absurd (omega (arith, never));
+        no_job = (λ _. subst IsErr (sym is) refl, λ _. refl);
+        no_job_told = subst (λ j. IfErr j (λ f. Tells s (told_line (word_text f)))) (sym is) told_;
+        unread = λ never. absurd (omega (arith, never));
+        broken = λ never. absurd (omega (arith, never));
+        broken_rose = λ never. absurd (omega (arith, never));
+        broken_told = λ never. absurd (omega (arith, never));
+        memory_told = λ never. absurd (omega (arith, never));
+        complete = no_ok (job s.words) fault _ is;
+        lacking = no_ok (job s.words) fault _ is;
+        files_same = kept.files_same;
+        files_later = kept.files.later;
+        out_same = kept.out_same;
+        out_later = kept.out.later;
+        err_later = told.later;
+        contents = kept.files.contents;
+        files_plan = kept.files.plan;
+        out_plan = kept.out.plan;
+        err_plan = told.plan;
+      }
+
+  -- what the attempt stopped at, and what was told of it
+  pub stopped : (stop : Stop) → EndsBy (Err stop) → Tells s (stop_line stop) → Runs s (stop_status stop)
+  stopped (Words fault) ends told = no_job fault ends.0 ends.1 ends.2 told
+  stopped (Refused name number reason) ends told = refused name.now (record { number = number; reason = reason }) ends.0 ends.1 told
+  stopped (ReadFailed name) ends told = unread name.now ends.0 ends.1 told
+  stopped WriteFailed ends told = broken ends told
+  stopped NoMemory ends told = out_of_memory (and_ok (job s.words) _ _ (λ asked p. tt) ends.0) (from_ok (job s.words) _ _ (λ asked p. p) ends.0) ends.1 told
+
+  pub finished : EndsBy (Ok tt) → s.err_after ≡ s.err → Runs s 0
+  finished ends silent = done ends silent

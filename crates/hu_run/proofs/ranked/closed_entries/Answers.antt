@@ -1,5 +1,0 @@
-use Rattle.hu_closed.proofs.lemmas.RankLemmas.{IsRankingOf-made}
-use Rattle.hu_run.proofs.ranked.closed_entries.Goals as goal
-
-pub closed_from-requires-clause-ranks : goal.closed_from-requires-clause-ranks
-closed_from-requires-clause-ranks g c = IsRankingOf-made _ _ _ _ c.in_ok-sets.ensures c.in_ok-ranked.ensures.value

@@ -1,0 +1,38 @@
+//! The jobs: each answers with its text, or with what stops it.
+
+ghost use Rattle.std.specs.Prelude.{◌≡◌};
+ghost use Rattle.hu_input.specs.Names.{texts_of};
+ghost use Rattle.hu_run.specs.Job.{asked_of, files_of, IsLawful, IsDrill};
+ghost use Rattle.hu_run.specs.Attempt.{Answers};
+
+mod drill;
+mod mine;
+
+use crate::answer::Answer;
+use crate::stop::Stop;
+use crate::words::Job;
+use hu_io::Files;
+use std::alloc::Global;
+
+/// The answer of a job over its files, or what stops it.
+pub(crate) fn answer<'a, F: Files>(
+    alloc: Global,
+    job: &Job<'a>,
+    files: &mut F,
+) -> Result<Answer, Stop<'a>>
+    requires { IsLawful (asked_of job.now) }
+    ensures answers { Answers (asked_of job.now)
+        (F.state files.old) (F.state files.new) (texts_of (files_of job.now)) result }
+    ensures drilled { IsDrill (asked_of job.now) → files.new ≡ files.old }
+{
+    match *job {
+        Job::Mine {
+            task,
+            engine,
+            least,
+            top,
+            names,
+        } => mine::answer(alloc, files, task, engine, least, top, names),
+        Job::Drill { seed } => Ok(drill::answer(alloc, seed)?),
+    }
+}

@@ -1,0 +1,147 @@
+//! A drill: seven answers to generated records.
+
+ghost use Rattle.std.specs.Prelude.{◌≡◌, ◌<◌, ◌≤◌, ◌^◌, true, length, IfOk};
+ghost use Rattle.std.specs.List.{sum_by, AllByRecursion};
+ghost use Rattle.hu_kind.specs.declared.task.Task.TheVariants.{Items, Closed};
+ghost use Rattle.hu_kind.specs.Record.{absolute_of};
+ghost use Rattle.hu_kind.specs.Sequence.{IsSequence};
+ghost use Rattle.hu_base.specs.Base.{records_in, records_of};
+ghost use Rattle.hu_mine.specs.Engine.{offers};
+ghost use Rattle.hu_run.specs.Job.{IsSeed};
+ghost use Rattle.hu_run.specs.Answer.{text_of};
+ghost use Rattle.hu_run.specs.Drill.{drill_text, drill_records, drill_sequences, items_summary, closed_summary, sequences_summary};
+
+use crate::answer::{Answer, Line};
+use hu_base::{AddFault, Base};
+use hu_drill::{Summary, make, make_sequences};
+use hu_kind::{Absolute, NoMemory, Record, SeqRecord};
+use hu_mine::{Engine, closed_entries, item_entries, sequence_entries};
+use std::alloc::Global;
+
+/// The summaries of what each engine but the plain one answers.
+pub(crate) fn answer(alloc: Global, seed: u32) -> Result<Answer, NoMemory>
+    requires { IsSeed seed }
+    ensures { IfOk result (λ answer. text_of answer ≡ drill_text seed) }
+{
+    let lists = items(alloc, seed, Engine::Lists)?;
+    let project = items(alloc, seed, Engine::Project)?;
+    let kept = items(alloc, seed, Engine::Kept)?;
+    let closed_lists = closed(alloc, seed, Engine::Lists)?;
+    let closed_project = closed(alloc, seed, Engine::Project)?;
+    let closed_kept = closed(alloc, seed, Engine::Kept)?;
+    let chain = sequences(alloc, seed)?;
+    let lines = vec![in alloc;
+        Line::new("items lists", lists),
+        Line::new("items project", project),
+        Line::new("items kept", kept),
+        Line::new("closed lists", closed_lists),
+        Line::new("closed project", closed_project),
+        Line::new("closed kept", closed_kept),
+        Line::new("seq chain", chain),
+    ]?;
+    Ok(Answer::Lines(lines))
+}
+
+/// That of the first 100 itemsets.
+fn items(alloc: Global, seed: u32, engine: Engine) -> Result<Summary, NoMemory>
+    requires seed { IsSeed seed }
+    requires offered { offers Items engine ≡ true }
+    ensures { IfOk result (λ summary. summary ≡ items_summary seed) }
+{
+    let batches = batches(alloc, seed, engine)?;
+    let entries = item_entries(alloc, batches, engine, 1, Some(100))?;
+    Ok(Summary::of(&entries))
+}
+
+/// That of the first 100 closed ones that earn at least 10,000.
+fn closed(alloc: Global, seed: u32, engine: Engine) -> Result<Summary, NoMemory>
+    requires seed { IsSeed seed }
+    requires offered { offers Closed engine ≡ true }
+    ensures { IfOk result (λ summary. summary ≡ closed_summary seed) }
+{
+    let batches = batches(alloc, seed, engine)?;
+    let entries = closed_entries(alloc, batches, engine, 10_000, Some(100))?;
+    Ok(Summary::of(&entries))
+}
+
+/// That of the first 20 sequences.
+fn sequences(alloc: Global, seed: u32) -> Result<Summary, NoMemory>
+    requires { IsSeed seed }
+    ensures { IfOk result (λ summary. summary ≡ sequences_summary seed) }
+{
+    let base = sequence_base(alloc, seed)?;
+    let batches = vec![in alloc; base]?;
+    let entries = sequence_entries(alloc, batches, Engine::Chain, 1, Some(20))?;
+    Ok(Summary::of(&entries))
+}
+
+/// The sequences of a drill.
+fn sequence_base(alloc: Global, seed: u32) -> Result<Base<SeqRecord>, NoMemory>
+    requires { IsSeed seed }
+    ensures value { IfOk result (λ base. records_of base ≡ drill_sequences seed) }
+    ensures fit { IfOk result (λ base. sum_by (sum_by absolute_of) (records_of base) ≤ 81920000) }
+    ensures rules { IfOk result (λ base. AllByRecursion IsSequence (records_of base)) }
+{
+    make_sequences(alloc, seed, 200, 8)
+}
+
+/// The records of a drill.
+fn record_base(alloc: Global, seed: u32) -> Result<Base<Record>, NoMemory>
+    requires { IsSeed seed }
+    ensures value { IfOk result (λ base. records_of base ≡ drill_records seed) }
+    ensures fit { IfOk result (λ base. sum_by absolute_of (records_of base) ≤ 819200000) }
+    ensures count { IfOk result (λ base. length (records_of base) ≡ 2000) }
+{
+    make(alloc, seed, 2000, 30)
+}
+
+/// The records of a drill, in three batches for the kept engine.
+fn batches(alloc: Global, seed: u32, engine: Engine) -> Result<Vec<Base<Record>>, NoMemory>
+    requires { IsSeed seed }
+    ensures records { IfOk result (λ batches. records_in batches.items ≡ drill_records seed) }
+    ensures fit { IfOk result (λ batches. sum_by absolute_of (records_in batches.items) ≤ 819200000) }
+{
+    let base = record_base(alloc, seed)?;
+    match engine {
+        Engine::Kept => in_three(alloc, base),
+        _ => Ok(vec![in alloc; base]?),
+    }
+}
+
+/// A base of 2,000 records as batches of 1,900, 50 and 50.
+fn in_three(alloc: Global, base: Base<Record>) -> Result<Vec<Base<Record>>, NoMemory>
+    requires count { length (records_of base) ≡ 2000 }
+    requires fit { sum_by absolute_of (records_of base) ≤ 819200000 }
+    ensures { IfOk result (λ batches. records_in batches.items ≡ records_of base) }
+{
+    let mut first = base;
+    let second = copy(alloc, &first.records()[1900..1950])?;
+    let third = copy(alloc, &first.records()[1950..])?;
+    first.shorten(1900);
+    Ok(vec![in alloc; first, second, third]?)
+}
+
+/// A base of copies of these records.
+fn copy(alloc: Global, records: &[Record]) -> Result<Base<Record>, NoMemory>
+    requires { sum_by absolute_of records.now < 2 ^ 127 }
+    ensures { IfOk result (λ base. base ≡ (0, records.now)) }
+{
+    let mut base = Base::after(alloc, 0);
+    for one in records {
+        match base.add(copy_record(alloc, one)?) {
+            Ok(()) => {}
+            Err(AddFault::NoMemory) => return Err(NoMemory),
+            Err(AddFault::SumTooLarge { .. }) => unreachable!(),
+        }
+    }
+    Ok(base)
+}
+
+/// A copy of a record.
+fn copy_record(alloc: Global, one: &Record) -> Result<Record, NoMemory>
+    ensures { IfOk result (λ copy. copy ≡ one.now) }
+{
+    let mut cells = Vec::new(alloc);
+    cells.extend_from_slice(one.cells())?;
+    Ok(Record::with_sum(cells, one.absolute()))
+}
