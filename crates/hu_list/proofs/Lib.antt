@@ -6,6 +6,7 @@ pub mod GrowthLemmas
 pub mod LeftLemmas
 pub mod ChosenLemmas
 pub mod GrownLemmas
+pub mod SearchLemmas
 pub mod NodeSums
 pub mod SetLemmas
 pub mod ListLemmas

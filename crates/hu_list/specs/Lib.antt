@@ -6,4 +6,5 @@ pub mod Tails
 pub mod View
 pub mod Passes
 pub mod Level
+pub mod Board
 pub mod Rows

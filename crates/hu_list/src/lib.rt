@@ -12,12 +12,14 @@ mod grow;
 mod level;
 mod list;
 mod merge;
+mod search;
 mod single;
 mod slots;
 mod sums;
 mod tail;
 
 pub use list::{Node, UtilityList};
+pub use search::mine;
 
 #[cfg(test)]
 mod tests;

@@ -1,11 +1,12 @@
-//! The lists of a small base, written out.
+//! The lists and the itemsets of small bases, written out.
 
 ghost use Rattle.std.specs.Prelude.{◌≡◌, [], ◌∷◌, IfOk};
 ghost use Rattle.hu_list.specs.Nodes.{list_of};
 
-use crate::UtilityList;
+use crate::{UtilityList, mine};
 use hu_base::Base;
-use hu_kind::{Cell, Item, NoMemory, Record};
+use hu_collect::{All, NoGate, Top};
+use hu_kind::{Cell, Entry, Item, NoMemory, Record};
 use hu_totals::{Ranked, Totals};
 use std::alloc::Global;
 use std::process::Abort;
@@ -60,6 +61,18 @@ fn ranked_at(
     Ok(Ranked::of(alloc, &base, &totals, floor)?)
 }
 
+/// A line for each entry: its items, its utility and its support.
+fn told(alloc: Global, entries: &[Entry]) -> Result<String, Fail> {
+    let mut text = String::new(alloc);
+    for entry in entries {
+        for number in entry.key.numbers() {
+            text.push_str(&format!(in alloc; "{number} ")?)?;
+        }
+        text.push_str(&format!(in alloc; "#UTIL: {} #SUP: {}\n", entry.utility, entry.support)?)?;
+    }
+    Ok(text)
+}
+
 /// The nodes of a list, its sum and its bound.
 fn told_list(alloc: Global, list: &UtilityList) -> Result<String, Fail> {
     let mut text = String::new(alloc);
@@ -68,6 +81,34 @@ fn told_list(alloc: Global, list: &UtilityList) -> Result<String, Fail> {
     }
     text.push_str(&format!(in alloc; "{} {}", list.sum(), list.bound())?)?;
     Ok(text)
+}
+
+/// The lines of all itemsets of at least a utility.
+fn mined(
+    rt: &impl Abort,
+    alloc: Global,
+    records: &[&[(u32, i128)]],
+    start: i128,
+) -> Result<String, Fail> {
+    assert!(rt; start >= 1);
+    let ranked = ranked_at(rt, alloc, records, start)?;
+    let mut collect = All::new(alloc, start);
+    mine(alloc, &ranked, &mut collect, &NoGate)?;
+    told(alloc, &collect.into_entries()?)
+}
+
+/// The lines of the first k itemsets.
+fn mined_top(
+    rt: &impl Abort,
+    alloc: Global,
+    records: &[&[(u32, i128)]],
+    k: u32,
+) -> Result<String, Fail> {
+    assert!(rt; k >= 1);
+    let ranked = ranked_at(rt, alloc, records, 1)?;
+    let mut collect = Top::new(alloc, k, 1);
+    mine(alloc, &ranked, &mut collect, &NoGate)?;
+    told(alloc, &collect.into_entries()?)
 }
 
 /// The list of two ranks.
@@ -137,5 +178,51 @@ fn lists_of_base_a(rt: HostRuntime) -> Result<(), Fail> {
         told_list(rt.alloc(), &of_4_2_5)?.as_str(),
         "(0, 19, 1) (1, 17, 3) 36 40"
     );
+    Ok(())
+}
+
+#[test]
+fn base_a_at_30(rt: HostRuntime) -> Result<(), Fail> {
+    let text = mined(&rt, rt.alloc(), &BASE_A, 30)?;
+    assert_eq!(rt;
+        text.as_str(),
+        "2 3 4 5 #UTIL: 40 #SUP: 2\n2 3 5 #UTIL: 37 #SUP: 3\n2 4 5 #UTIL: 36 #SUP: 2\n2 3 4 #UTIL: 34 #SUP: 2\n1 3 5 #UTIL: 31 #SUP: 2\n2 5 #UTIL: 31 #SUP: 3\n1 2 3 4 5 6 #UTIL: 30 #SUP: 1\n2 4 #UTIL: 30 #SUP: 2\n"
+    );
+    Ok(())
+}
+
+#[test]
+fn the_first_of_base_a(rt: HostRuntime) -> Result<(), Fail> {
+    let three = mined_top(&rt, rt.alloc(), &BASE_A, 3)?;
+    assert_eq!(rt;
+        three.as_str(),
+        "2 3 4 5 #UTIL: 40 #SUP: 2\n2 3 5 #UTIL: 37 #SUP: 3\n2 4 5 #UTIL: 36 #SUP: 2\n"
+    );
+    // Two sets earn 31, and the one with the smaller key stays.
+    let five = mined_top(&rt, rt.alloc(), &BASE_A, 5)?;
+    assert_eq!(rt;
+        five.as_str(),
+        "2 3 4 5 #UTIL: 40 #SUP: 2\n2 3 5 #UTIL: 37 #SUP: 3\n2 4 5 #UTIL: 36 #SUP: 2\n2 3 4 #UTIL: 34 #SUP: 2\n1 3 5 #UTIL: 31 #SUP: 2\n"
+    );
+    Ok(())
+}
+
+#[test]
+fn small_bases(rt: HostRuntime) -> Result<(), Fail> {
+    let zero: [&[(u32, i128)]; 1] = [&[(1, 5), (2, 0)]];
+    assert_eq!(rt;
+        mined(&rt, rt.alloc(), &zero, 5)?.as_str(),
+        "1 #UTIL: 5 #SUP: 1\n1 2 #UTIL: 5 #SUP: 1\n"
+    );
+    let signed: [&[(u32, i128)]; 3] = [
+        &[(1, -10), (2, 3)],
+        &[(1, 4), (2, 1), (3, 6)],
+        &[(2, 2), (3, 3)],
+    ];
+    assert_eq!(rt;
+        mined(&rt, rt.alloc(), &signed, 10)?.as_str(),
+        "2 3 #UTIL: 12 #SUP: 2\n1 2 3 #UTIL: 11 #SUP: 1\n1 3 #UTIL: 10 #SUP: 1\n"
+    );
+    assert_eq!(rt; mined(&rt, rt.alloc(), &[], 1)?.as_str(), "");
     Ok(())
 }
