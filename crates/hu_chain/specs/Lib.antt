@@ -3,4 +3,4 @@ pub mod Grown
 pub mod Place
 pub mod Bound
 pub mod Search
-pub mod Rows
+pub mod Worked

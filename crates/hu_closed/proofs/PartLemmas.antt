@@ -6,9 +6,9 @@ use Rattle.hu_kind.specs.Order.{Ascend}
 use Rattle.hu_kind.proofs.lemmas.Members.{Member, Member-append_cases, Member-append_left, Member-append_right}
 use Rattle.hu_kind.proofs.lemmas.Occurring.{Ascend-ranking, at_member}
 use Rattle.hu_collect.specs.Rule.{Rule}
-use Rattle.hu_collect.specs.Ranks.{IsGrown, RestsOn, is_part, key_of}
+use Rattle.hu_collect.specs.Ranks.{IsGrown, IsShut, RestsOn, is_part, key_of}
 use Rattle.hu_closed.specs.Keys.{is_closed_key}
-use Rattle.hu_closed.specs.ClosedOnly.{closed_rule, WantsNone}
+use Rattle.hu_closed.specs.ClosedOnly.{closed_rule}
 use Rattle.hu_closed.proofs.lemmas.Closedness.{same_item}
 use Rattle.hu_closed.proofs.lemmas.RankLemmas.{items_at, items_at-member, member-items_at}
 
@@ -62,11 +62,11 @@ grown-by None table key last grown rests g =
 grown-by (Some t) table key last grown rests g = subst (λ t. IsGrown (Some t) key last grown) (sym rests) g
 
 -- where the inner rule wants none of them
-pub wants-inner : (inner : Rule) (records : List (List (ℕ × ℤ))) (table : List ℕ) (key : List ℤ) (last : ℕ) → RestsOn inner.table table → WantsNone inner key last → WantsNone (closed_rule inner records table) key last
+pub wants-inner : (inner : Rule) (records : List (List (ℕ × ℤ))) (table : List ℕ) (key : List ℤ) (last : ℕ) → RestsOn inner.table table → IsShut inner key last → IsShut (closed_rule inner records table) key last
 wants-inner inner records table key last rests none grown g =
     and_left (inner.wants grown) (is_closed_key records grown) (none grown (grown-by inner.table table key last grown rests g))
 
 -- where none of them is closed
 pub wants-closed : (inner : Rule) (records : List (List (ℕ × ℤ))) (table : List ℕ) (key : List ℤ) (last : ℕ) → ((grown : List ℤ) → IsGrown (Some table) key last grown → is_closed_key records grown ≡ false)
-    → WantsNone (closed_rule inner records table) key last
+    → IsShut (closed_rule inner records table) key last
 wants-closed inner records table key last none grown g = and_right (inner.wants grown) (is_closed_key records grown) (none grown g)

@@ -1,9 +1,9 @@
 -- A collector of closed patterns is seen as the inner collector, the records and the item of each rank.
-use Rattle.std.specs.Prelude.{◌≡◌, ℕ, ℤ, false, ◌&&◌, Option, Some, List}
-use Rattle.hu_kind.specs.declared.entry.Entry.{Entry}
+use Rattle.std.specs.Prelude.{◌≡◌, ℕ, ℤ, ◌&&◌, Option, Some, List}
 use Rattle.hu_kind.specs.Itemsets.{item_patterns, closed_patterns}
-use Rattle.hu_collect.specs.Rule.{Rule, made}
-use Rattle.hu_collect.specs.Ranks.{IsGrown, RestsOn}
+use Rattle.hu_collect.specs.Rule.{Rule}
+use Rattle.hu_collect.specs.Ranks.{RestsOn}
+use Rattle.hu_collect.specs.State.{State, offered}
 use Rattle.hu_totals.specs.Ranked.{Ranking, ranked}
 use Rattle.hu_closed.specs.Keys.{is_closed_key}
 
@@ -37,10 +37,11 @@ pub record AreOfOne (inner : Option (List ℕ)) (records : List (List (ℕ × �
   pub base : IsRankingOf records ranking
   pub rests : RestsOn inner ranking.items
 
--- a rule wants no key that is this one, alone or grown by its table
-abbrev pub WantsNone : Rule → List ℤ → ℕ → Type 0
-WantsNone rule key last = (grown : List ℤ) → IsGrown rule.table key last grown → rule.wants grown ≡ false
+-- the state of a collector of closed keys around an inner one
+abbrev pub closed_state : State → List (List (ℕ × ℤ)) → List ℕ → State
+closed_state inner records table = record { rule = closed_rule inner.rule records table; content = inner.content }
 
--- by the rule of closed keys the patterns of records make what by the inner rule the closed ones make
-abbrev pub MakesClosed : List (List (ℕ × ℤ)) → Rule → Rule → Type 0
-MakesClosed records inner closed = (content : List Entry) → made closed content (item_patterns records) ≡ made inner content (closed_patterns records)
+-- offered all patterns of its records, it is around what the inner one is that was offered the closed ones
+abbrev pub MakesClosed : List (List (ℕ × ℤ)) → List ℕ → State → Type 0
+MakesClosed records table inner =
+    offered (closed_state inner records table) (item_patterns records) ≡ closed_state (offered inner (closed_patterns records)) records table

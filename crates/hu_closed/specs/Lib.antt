@@ -1,4 +1,4 @@
 pub mod Keys
 pub mod Holders
 pub mod ClosedOnly
-pub mod Rows
+pub mod Worked

@@ -1,10 +1,10 @@
 //! The collector of closed patterns.
 
-ghost use Rattle.std.specs.Prelude.{◌≡◌, ◌⊎◌, ◌∷◌, [], ℤ, pos, ◌≤ℤ◌, true, false, Some, List, OnOk, OnErr};
-ghost use Rattle.hu_collect.specs.Rule.{made, floor_of, IsKept};
-ghost use Rattle.hu_collect.specs.Ranks.{CanOpen, IsGrown, RestsOn};
+ghost use Rattle.std.specs.Prelude.{◌≡◌, ◌⊎◌, ◌∷◌, [], true, false, Some};
+ghost use Rattle.hu_collect.specs.Ranks.{CanOpen, IsShut, RestsOn};
+ghost use Rattle.hu_collect.specs.State.{offered};
 ghost use Rattle.hu_closed.specs.Keys.{closes_below, is_closed_key};
-ghost use Rattle.hu_closed.specs.ClosedOnly.{closed_rule, inner_of, records_in, table_of, IsRankingOf, MakesClosed, WantsNone};
+ghost use Rattle.hu_closed.specs.ClosedOnly.{closed_state, inner_of, records_in, table_of, IsRankingOf, MakesClosed};
 
 use crate::sets::RecordSets;
 use hu_collect::Collect;
@@ -29,7 +29,7 @@ impl<'a, C: Collect> Model for ClosedOnly<'a, C> {
 
     ghost view = { λ c. (c.inner, c.sets.now, c.ranked.now.items) };
 
-    ghost invariant = { λ c. AreOfOne (C.rule c.inner).table c.sets.now c.ranked.now };
+    ghost invariant = { λ c. AreOfOne (C.state c.inner).rule.table c.sets.now c.ranked.now };
 }
 
 impl<'a, C: Collect> ClosedOnly<'a, C> {
@@ -37,13 +37,12 @@ impl<'a, C: Collect> ClosedOnly<'a, C> {
     /// on this `ranked` where it rests on one. It takes no memory.
     pub fn new(inner: C, sets: &'a RecordSets, ranked: &'a Ranked) -> ClosedOnly<'a, C>
         requires base { IsRankingOf sets.now ranked.now }
-        requires rests { RestsOn (C.rule inner).table ranked.now.items }
-        ensures rule { ⟦<ClosedOnly<'a, C> as Collect>⟧.rule result ≡ closed_rule (C.rule inner) sets.now ranked.now.items }
-        ensures content { ⟦<ClosedOnly<'a, C> as Collect>⟧.content result ≡ C.content inner }
+        requires rests { RestsOn (C.state inner).rule.table ranked.now.items }
+        ensures state { ⟦<ClosedOnly<'a, C> as Collect>⟧.state result ≡ closed_state (C.state inner) sets.now ranked.now.items }
         ensures inner { inner_of result ≡ inner }
         ensures records { records_in result ≡ sets.now }
         ensures table { table_of result ≡ ranked.now.items }
-        ensures patterns { MakesClosed sets.now (C.rule inner) (⟦<ClosedOnly<'a, C> as Collect>⟧.rule result) }
+        ensures patterns { MakesClosed sets.now ranked.now.items (C.state inner) }
     {
         sets.tell_rules();
         ClosedOnly {
@@ -56,8 +55,7 @@ impl<'a, C: Collect> ClosedOnly<'a, C> {
     /// The inner collector, with all that it keeps.
     pub fn into_inner(self) -> C
         ensures inner { result ≡ inner_of self.entry }
-        ensures content { C.content result ≡ ⟦<ClosedOnly<'a, C> as Collect>⟧.content self.entry }
-        ensures rule { ⟦<ClosedOnly<'a, C> as Collect>⟧.rule self.entry ≡ closed_rule (C.rule result) (records_in self.entry) (table_of self.entry) }
+        ensures state { ⟦<ClosedOnly<'a, C> as Collect>⟧.state self.entry ≡ closed_state (C.state result) (records_in self.entry) (table_of self.entry) }
     {
         self.inner
     }
@@ -65,18 +63,16 @@ impl<'a, C: Collect> ClosedOnly<'a, C> {
     /// Whether an entry may change the content: it is not below the floor, and its key is closed.
     fn lets_in(&self, entry: &Entry) -> bool
         ensures passes { result ≡ true → is_closed_key (records_in self.now) entry.now.key ≡ true }
-        ensures leaves { result ≡ false → made (closed_rule (C.rule (inner_of self.now)) (records_in self.now) (table_of self.now)) (C.content (inner_of self.now)) (entry.now ∷ []) ≡ C.content (inner_of self.now) }
+        ensures leaves { result ≡ false → offered (⟦<ClosedOnly<'a, C> as Collect>⟧.state self.now) (entry.now ∷ []) ≡ ⟦<ClosedOnly<'a, C> as Collect>⟧.state self.now }
     {
         entry.utility >= self.inner.floor() && self.sets.is_closed(&entry.key)
     }
 }
 
 impl<'a, C: Collect> Collect for ClosedOnly<'a, C> {
-    ghost use Rattle.hu_closed.specs.ClosedOnly.{closed_rule, inner_of, records_in, table_of};
+    ghost use Rattle.hu_closed.specs.ClosedOnly.{closed_state, inner_of, records_in, table_of};
 
-    ghost rule = { λ c. closed_rule (C.rule (inner_of c)) (records_in c) (table_of c) };
-
-    ghost content = { λ c. C.content (inner_of c) };
+    ghost state = { λ c. closed_state (C.state (inner_of c)) (records_in c) (table_of c) };
 
     /// The inner collector's floor.
     fn floor(&self) -> i128 {
@@ -89,8 +85,8 @@ impl<'a, C: Collect> Collect for ClosedOnly<'a, C> {
         requires { CanOpen (Some (table_of self.now)) key.now last }
         ensures shut { closes_below (records_in self.now) (table_of self.now) key.now last ≡ true → result ≡ false }
         ensures cause { result ≡ false → (closes_below (records_in self.now) (table_of self.now) key.now last ≡ true)
-            ⊎ WantsNone (C.rule (inner_of self.now)) key.now last }
-        ensures grown { result ≡ false → WantsNone (⟦<ClosedOnly<'a, C> as Collect>⟧.rule self.now) key.now last }
+            ⊎ IsShut (C.state (inner_of self.now)).rule key.now last }
+        ensures grown { result ≡ false → IsShut (⟦<ClosedOnly<'a, C> as Collect>⟧.state self.now).rule key.now last }
     {
         self.inner.opens(key, last) && !self.sets.closes_below(self.ranked, key, last)
     }

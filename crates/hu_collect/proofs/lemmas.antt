@@ -3,5 +3,6 @@ pub mod Cutting
 pub mod Entries
 pub mod Floor
 pub mod Made
+pub mod Parted
 pub mod Searching
 pub mod Turns

@@ -6,4 +6,4 @@ pub mod Makes
 pub mod Pairs
 pub mod Top
 pub mod Limited
-pub mod Rows
+pub mod Worked

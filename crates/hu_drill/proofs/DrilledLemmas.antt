@@ -1,7 +1,7 @@
 -- Generated records keep the rules of records.
 use Rattle.std.proofs.Common.{◌≡◌, ℕ, zero, suc, ◌+◌, ◌*◌, ◌%◌, ◌<◌, ◌≤◌, ℤ, pos, true, false, ◌++◌, List, [], ◌∷◌, map, length, sum_by, get_or, refl, sym, ap, subst, ◌∙◌, arith}
 use Rattle.std.specs.Prelude.{unsigned_abs, int_lt}
-use Rattle.std.specs.List.{All, AllAdjacentBelow, range_with_len, list_any}
+use Rattle.std.specs.List.{AllByRecursion, All, AllAdjacentBelow, range_with_len, list_any}
 use Rattle.std.proofs.lemmas.Int.{ints}
 use Rattle.std.proofs.lemmas.List.{map-append}
 use Rattle.std.proofs.lemmas.List.FromFn.{length-map-range_with_len, get_or-map-range_with_len, map-range_with_len_more}
@@ -101,8 +101,14 @@ none_below : (f : ℕ → ℕ) (from n : ℕ) → list_any any_negative (map (λ
 none_below f from zero = refl
 none_below f from (suc n) = rw (none_here (f from), none_below f (from + 1) n)
 
+-- each element is an itemset
+all_itemsets : (f : ℕ → ℕ) (from n : ℕ) → AllByRecursion IsItemset (map (λ i. element_from (f i)) (range_with_len from n))
+all_itemsets f from zero = tt
+all_itemsets f from (suc n) = (IsItemset-element_from (f from), all_itemsets f (from + 1) n)
+
 pub IsSequence-elements_of : (elements state : ℕ) → 1 ≤ elements → elements ≤ 2048 → IsSequence (elements_of elements state)
 IsSequence-elements_of elements state some few = record {
+  itemsets = all_itemsets (λ n. after_draws (4 * n) state) 0 elements;
   some = omega (arith, some, length-map-range_with_len (element_of state) 0 elements);
   few = omega (arith, few, sum_by-map_range length (element_of state) 2 elements (λ n. omega arith));
   none_below = none_below (λ n. after_draws (4 * n) state) 0 elements;

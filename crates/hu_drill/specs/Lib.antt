@@ -1,4 +1,4 @@
 pub mod Draws
 pub mod Drilled
 pub mod Summary
-pub mod Rows
+pub mod Worked

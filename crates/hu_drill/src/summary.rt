@@ -1,8 +1,7 @@
 //! What a line says of an answer.
 
 ghost use Rattle.std.specs.Prelude.{◌≡◌};
-ghost use Rattle.hu_io.specs.Count.{HasCause};
-ghost use Rattle.hu_io.specs.Sink.{PutsAll};
+ghost use Rattle.hu_io.specs.State.{PutsAll};
 ghost use Rattle.hu_report.specs.Page.{Passes};
 ghost use Rattle.hu_drill.specs.Summary.{summary_line, summary_of, greatest, numbers_text, total_of, total_text, AreEarned};
 
@@ -65,9 +64,8 @@ fn total(entries: &[Entry]) -> i128
 /// Writes a name and the numbers of a summary as one line. It takes no memory. A failure leaves a
 /// proper front of the line put.
 pub fn write_summary<S: Sink>(name: &str, summary: &Summary, sink: &mut S) -> Result<(), Failed>
-    ensures bytes { PutsAll (S.bytes sink.old) (S.bytes sink.new) result (summary_line name.now summary.now) }
-    ensures plan { S.plan sink.new ≡ S.plan sink.old }
-    ensures cause { HasCause (S.faults sink.old) (S.faults sink.new) result }
+    ensures { PutsAll (S.state sink.old) (S.state sink.new) result
+        (summary_line name.now summary.now) }
 {
     let mut page = Page::new();
     push_text(name.as_bytes(), &mut page, sink)?;
@@ -77,9 +75,8 @@ pub fn write_summary<S: Sink>(name: &str, summary: &Summary, sink: &mut S) -> Re
 
 /// Has the numbers of a summary wait, and after them the line feed.
 fn push_numbers<S: Sink>(summary: &Summary, page: &mut Page, sink: &mut S) -> Result<(), Failed>
-    ensures bytes { Passes (S.bytes sink.old) (S.bytes sink.new) result page.old page.new (numbers_text summary.now) }
-    ensures plan { S.plan sink.new ≡ S.plan sink.old }
-    ensures cause { HasCause (S.faults sink.old) (S.faults sink.new) result }
+    ensures { Passes (S.state sink.old) (S.state sink.new) result
+        page.old page.new (numbers_text summary.now) }
 {
     page.push_field(b" ", i128::from(summary.count), sink)?;
     page.push_field(b" ", summary.greatest, sink)?;
@@ -88,9 +85,8 @@ fn push_numbers<S: Sink>(summary: &Summary, page: &mut Page, sink: &mut S) -> Re
 
 /// Has the sum of a summary wait, and after it the line feed.
 fn push_total<S: Sink>(summary: &Summary, page: &mut Page, sink: &mut S) -> Result<(), Failed>
-    ensures bytes { Passes (S.bytes sink.old) (S.bytes sink.new) result page.old page.new (total_text summary.now) }
-    ensures plan { S.plan sink.new ≡ S.plan sink.old }
-    ensures cause { HasCause (S.faults sink.old) (S.faults sink.new) result }
+    ensures { Passes (S.state sink.old) (S.state sink.new) result
+        page.old page.new (total_text summary.now) }
 {
     page.push_field(b" ", summary.total, sink)?;
     page.push(b"\n", sink)
@@ -98,9 +94,7 @@ fn push_total<S: Sink>(summary: &Summary, page: &mut Page, sink: &mut S) -> Resu
 
 /// Has a text of any length wait, a page at a time.
 fn push_text<S: Sink>(text: &[u8], page: &mut Page, sink: &mut S) -> Result<(), Failed>
-    ensures bytes { Passes (S.bytes sink.old) (S.bytes sink.new) result page.old page.new text.now }
-    ensures plan { S.plan sink.new ≡ S.plan sink.old }
-    ensures cause { HasCause (S.faults sink.old) (S.faults sink.new) result }
+    ensures { Passes (S.state sink.old) (S.state sink.new) result page.old page.new text.now }
 {
     let mut left = text;
     while !left.is_empty() {

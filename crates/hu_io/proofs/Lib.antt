@@ -1,2 +1,3 @@
-mod Appended
-mod Lookups
+pub mod lemmas
+mod AnswerLemmas
+mod LookupLemmas

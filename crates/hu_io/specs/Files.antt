@@ -1,5 +1,5 @@
 -- What a call of `Files::get` gives, and files by name as a list of pairs (name, bytes).
-use Rattle.std.specs.Prelude.{◌≡◌, ◌≢◌, ℕ, ◌<◌, ◌≤◌, ◌↔◌, ⊤, List, length, take, drop, Option, None, Some, Result, IfOk, MatchOption, [], unwrap_or}
+use Rattle.std.specs.Prelude.{◌≡◌, ◌≢◌, ℕ, ◌<◌, ◌≤◌, ◌↔◌, ⊤, List, length, take, drop, Option, None, Some, MatchOption, [], unwrap_or}
 use Rattle.std.specs.Str.{bytes_eq}
 use Rattle.std.specs.Map.{lookup}
 
@@ -8,10 +8,10 @@ pub record Gives (content : List ℕ) (at n : ℕ) (into : List ℕ) : Type 0 wh
   pub bytes : take n into ≡ take n (drop at content)
   pub end : 0 < length into → (n ≡ 0) ↔ (length content ≤ at)
 
--- where the contents are told, Ok gives bytes of the name's content, and no name without one is answered Ok
-abbrev pub GetsTold : {E : Type 0} → Option (List ℕ → Option (List ℕ)) → List ℕ → ℕ → Result ℕ E → List ℕ → Type 0
-GetsTold None name at result into = ⊤
-GetsTold (Some told) name at result into = IfOk result (λ n. MatchOption (told name) ⊥ (λ content. Gives content at n into))
+-- where the contents are told, the name is there, and these are bytes of its content
+abbrev pub GivesTold : Option (List ℕ → Option (List ℕ)) → List ℕ → ℕ → List ℕ → ℕ → Type 0
+GivesTold None name at into n = ⊤
+GivesTold (Some told) name at into n = MatchOption (told name) ⊥ (λ content. Gives content at n into)
 
 -- the bytes of a name, if it is there
 abbrev pub content_in : List (List ℕ × List ℕ) → List ℕ → Option (List ℕ)

@@ -1,6 +1,8 @@
 pub mod Count
 pub mod Files
+pub mod State
 pub mod Plan
-pub mod Sink
 pub mod MemoryFiles
 pub mod MemorySink
+pub mod Sure
+pub mod Edge

@@ -1,7 +1,8 @@
 -- Files in memory, of which chosen calls fail.
-use Rattle.std.specs.Prelude.{◌≡◌, ℕ, codes, refl, ◌∷◌, ◌+◌, ◌-◌, ◌^◌, ◌||◌, ◌==◌, min, Bool, List, [], length, is_some, is_none, IsSome, if◌then◌else◌}
+use Rattle.std.specs.Prelude.{◌≡◌, ℕ, codes, refl, ◌∷◌, ◌+◌, ◌-◌, ◌^◌, ◌||◌, ◌==◌, min, Bool, List, [], length, is_some, is_none, IsSome, Some, if◌then◌else◌}
 use Rattle.hu_io.specs.Count.{one_more, Rose}
 use Rattle.hu_io.specs.Files.{content_in, content_or_empty}
+use Rattle.hu_io.specs.State.{FilesState}
 use Rattle.hu_io.specs.Plan.{PlanView, after_call, listing, next_fails, no_plan}
 
 -- what is seen of a `MemoryFiles`: its files, its plan, the counts of calls that failed by plan and for want of the name,
@@ -28,6 +29,10 @@ all_faults m = min (planned_faults m + m.missing) (2 ^ 64 - 1)
 -- the count of a name: the planned failures where it is there, else all failures
 abbrev pub faults_at : FilesView → List ℕ → ℕ
 faults_at m name = if is_some (content_in m.files name) then planned_faults m else all_faults m
+
+-- what the trait sees of it
+abbrev pub files_state : FilesView → FilesState
+files_state m = record { contents = Some (content_in m.files); faults = faults_at m; plan = m.plan.failing }
 
 -- whether the next call fails: by plan, or for want of the name
 abbrev pub get_fails : FilesView → List ℕ → Bool
@@ -59,9 +64,9 @@ given_at_end = refl
 pub small_faults : all_faults (after_get (after_get (after_get (after_get small_files (codes "f")) (codes "f")) (codes "g")) (codes "f")) ≡ 2
 small_faults = refl
 
--- while no call is to fail, the count of a name that is there does not rise
+-- while no call is to fail, the count of a name that is there doesn't rise where contents and plan stay
 abbrev pub NamedFilesNeverFail : Type 0
 NamedFilesNeverFail =
     (before now : FilesView) (name : List ℕ) → before.plan.failing ≡ [] → IsSome (content_in before.files name)
-    → now.plan.failing ≡ before.plan.failing → content_in now.files ≡ content_in before.files
-    → ¬ Rose (faults_at before name) (faults_at now name)
+    → (files_state now).plan ≡ (files_state before).plan → (files_state now).contents ≡ (files_state before).contents
+    → ¬ Rose ((files_state before).faults name) ((files_state now).faults name)

@@ -1,6 +1,7 @@
 -- A sink in memory with a fixed room, of which chosen calls fail.
-use Rattle.std.specs.Prelude.{◌≡◌, ℕ, codes, refl, ◌+◌, ◌-◌, ◌<◌, ◌≤◌, ◌∷◌, ◌==◌, ◌||◌, ◌&&◌, Bool, nat_lt, List, [], ◌++◌, length, take, if◌then◌else◌}
-use Rattle.hu_io.specs.Count.{one_more, Rose}
+use Rattle.std.specs.Prelude.{◌≡◌, ℕ, codes, refl, ◌+◌, ◌-◌, ◌≤◌, ◌∷◌, ◌==◌, ◌||◌, ◌&&◌, Bool, nat_lt, List, [], ◌++◌, length, take, Some, if◌then◌else◌}
+use Rattle.hu_io.specs.Count.{one_more}
+use Rattle.hu_io.specs.State.{SinkState, Broke}
 use Rattle.hu_io.specs.Plan.{PlanView, after_call, listing, next_fails, no_plan}
 
 -- what is seen of a `MemorySink`: its bytes, how many bytes fit in all, its plan, and the calls that failed
@@ -22,6 +23,10 @@ room_left s = s.room - length s.bytes
 abbrev pub sink_faults : SinkView → ℕ
 sink_faults s = if length s.plan.failing == 0 && nat_lt 0 (room_left s) then 0 else s.failed
 
+-- what the trait sees of it: the plan is the room and then the calls that are to fail
+abbrev pub sink_state : SinkView → SinkState
+sink_state s = record { bytes = Some s.bytes; faults = sink_faults s; plan = s.room ∷ s.plan.failing }
+
 -- whether the next call fails: by plan, or because no room is left for a byte
 abbrev pub put_fails : SinkView → List ℕ → Bool
 put_fails s piece = next_fails s.plan || (nat_lt 0 (length piece) && (room_left s == 0))
@@ -40,9 +45,8 @@ short_of_room = refl
 pub failed_by_plan : after_put (record (empty_sink 4) { plan = listing 1 no_plan }) (codes "abcd") ≡ record { bytes = []; room = 4; plan = record { failing = 1 ∷ []; calls = 1 }; failed = 1 }
 failed_by_plan = refl
 
--- while no call is to fail, the count does not rise where only a front of a text went out that has room whole
+-- while no call is to fail, a text that has room doesn't break
 abbrev pub RoomySinksNeverFail : Type 0
 RoomySinksNeverFail =
-    (before now : SinkView) (text : List ℕ) (k : ℕ) → before.plan.failing ≡ [] → length before.bytes + length text ≤ before.room
-    → now.room ∷ now.plan.failing ≡ before.room ∷ before.plan.failing → k < length text → now.bytes ≡ before.bytes ++ take k text
-    → ¬ Rose (sink_faults before) (sink_faults now)
+    (before now : SinkView) (text : List ℕ) → before.plan.failing ≡ [] → length before.bytes + length text ≤ before.room
+    → ¬ Broke (sink_state before) (sink_state now) text

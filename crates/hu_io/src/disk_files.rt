@@ -1,11 +1,14 @@
 //! The files of the system.
 
-ghost use Rattle.std.specs.Prelude.{◌≡◌, ℕ, [], None};
+ghost use Rattle.std.specs.Prelude.{◌≡◌, ℕ};
 ghost use Rattle.std.specs.Io.{ReadsAtMost};
+ghost use Rattle.hu_io.specs.Edge.{system_files};
 
-use crate::failed::Failed;
+use crate::failed::{Failed, answer};
 use crate::files::Files;
-use std::io::{ErrorKind, Read, Seek, SeekFrom};
+use crate::placed::Placed;
+use std::alloc::Global;
+use std::io::{Read, Seek, SeekFrom};
 use std::marker::Model;
 use std::{fs, io, rt};
 
@@ -14,30 +17,41 @@ const INPUT_NAME: &str = "-";
 
 /// The system's files, by their paths, and standard input under the name `-`, which is read forward only: a call at
 /// another place than the next one fails. Every error counts as a fault, also one of opening a file or of finding the
-/// place in it. Each call opens its file anew.
+/// place in it, and want of memory for its name. The file that was read last stays open: it is opened anew only for
+/// another place than the next one. So a file that is read front to back is opened once, and may be a pipe.
 #[derive(Drop)]
-pub struct DiskFiles<R, I> {
+pub struct DiskFiles<R: rt::Files, I> {
+    alloc: Global,
     files: R,
-    input: I,
-    next: u64,
+    input: Placed<I>,
+    open: Option<OpenFile<R::File>>,
     faults: u64,
 }
 
-impl<R, I> Model for DiskFiles<R, I> {
+/// A file that is open, and its name.
+#[derive(Drop)]
+struct OpenFile<T> {
+    name: String,
+    file: Placed<T>,
+}
+
+impl<R: rt::Files, I> Model for DiskFiles<R, I> {
     ghost Value = { ℕ };
 
     ghost view = { λ d. d.faults };
 }
 
-impl<R, I> DiskFiles<R, I> {
-    /// Files are opened by `files`, and `input` is read at its start. The count is 0.
-    pub fn new(files: R, input: I) -> DiskFiles<R, I>
+impl<R: rt::Files, I> DiskFiles<R, I> {
+    /// Files are opened by `files`, and `input` is read at its start. The count is 0. No file is opened, and no memory
+    /// is taken.
+    pub fn new(alloc: Global, files: R, input: I) -> DiskFiles<R, I>
         ensures { result ≡ 0 }
     {
         DiskFiles {
+            alloc,
             files,
-            input,
-            next: 0,
+            input: Placed::new(input, 0),
+            open: None,
             faults: 0,
         }
     }
@@ -50,49 +64,55 @@ impl<R, I> DiskFiles<R, I> {
     }
 }
 
-impl<R: rt::Files, I: Read> DiskFiles<R, I> {
-    /// Opens the file, and reads from the place.
-    fn read_file(&self, path: &str, at: u64, into: &mut [u8]) -> io::Result<usize>
-        ensures { ReadsAtMost result into.new }
-    {
-        let mut file = fs::open(&self.files, path)?;
-        file.seek(SeekFrom::Start(at))?;
-        file.read(into)
+impl<R: rt::Files, I> DiskFiles<R, I> {
+    /// Opens the file at the place, which is sought only where it isn't the start.
+    fn open_at(&self, name: &str, at: u64) -> io::Result<OpenFile<R::File>> {
+        let name = String::from_str(self.alloc, name)?;
+        let mut file = fs::open(&self.files, name.as_str())?;
+        if at > 0 {
+            file.seek(SeekFrom::Start(at))?;
+        }
+        Ok(OpenFile {
+            name,
+            file: Placed::new(file, at),
+        })
     }
 
-    /// Reads standard input on, which goes forward only.
-    fn read_input(&mut self, at: u64, into: &mut [u8]) -> io::Result<usize>
+    /// Reads a file from the place, on from the last read where that ended there. A file of which a read failed is
+    /// closed.
+    fn read_file(&mut self, name: &str, at: u64, into: &mut [u8]) -> io::Result<usize>
         ensures bound { ReadsAtMost result into.new }
         ensures same { self.new ≡ self.old }
     {
-        if at != self.next {
-            return Err(io::Error::from(ErrorKind::Unsupported));
-        }
-        let count = self.input.read(into)?;
-        self.next = self.next.saturating_add(count as u64);
+        let mut open = match self.open.take() {
+            Some(open) if open.name.as_str() == name && open.file.is_at(at) => open,
+            _ => self.open_at(name, at)?,
+        };
+        let count = open.file.read(into)?;
+        self.open = Some(open);
         Ok(count)
     }
 }
 
-impl<R: rt::Files, I: Read> Files for DiskFiles<R, I> {
-    ghost contents = { λ _. None };
-
-    ghost faults = { λ d _. d };
-
-    ghost plan = { λ _. [] };
-
-    fn get(&mut self, name: &str, at: u64, into: &mut [u8]) -> Result<usize, Failed> {
-        let read = if name == INPUT_NAME {
-            self.read_input(at, into)
+impl<R: rt::Files, I: Read> DiskFiles<R, I> {
+    /// Reads standard input or a file from the place.
+    fn read(&mut self, name: &str, at: u64, into: &mut [u8]) -> io::Result<usize>
+        ensures bound { ReadsAtMost result into.new }
+        ensures same { self.new ≡ self.old }
+    {
+        if name == INPUT_NAME {
+            self.input.read_at(at, into)
         } else {
             self.read_file(name, at, into)
-        };
-        match read {
-            Ok(count) => Ok(count),
-            Err(_) => {
-                self.faults = self.faults.saturating_add(1);
-                Err(Failed)
-            }
         }
+    }
+}
+
+impl<R: rt::Files, I: Read> Files for DiskFiles<R, I> {
+    ghost state = { system_files };
+
+    fn get(&mut self, name: &str, at: u64, into: &mut [u8]) -> Result<usize, Failed> {
+        let read = self.read(name, at, into);
+        answer(read, &mut self.faults)
     }
 }

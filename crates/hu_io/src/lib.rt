@@ -13,6 +13,7 @@ mod files;
 mod laws;
 mod memory_files;
 mod memory_sink;
+mod placed;
 mod plan;
 mod sink;
 mod stream_sink;

@@ -2,10 +2,10 @@
 
 ghost use Rattle.std.specs.Prelude.{◌≡◌, ℕ, ◌<◌, Some, List, length, is_err, IfOk, OnOk, OnErr};
 ghost use Rattle.std.specs.Io.{ReadsAtMost};
-ghost use Rattle.hu_io.specs.Count.{HasCauseAt};
-ghost use Rattle.hu_io.specs.Files.{Adds, GetsTold, content_in};
+ghost use Rattle.hu_io.specs.Files.{Adds};
+ghost use Rattle.hu_io.specs.State.{Gets};
 ghost use Rattle.hu_io.specs.Plan.{listing};
-ghost use Rattle.hu_io.specs.MemoryFiles.{after_get, all_faults, bytes_given, faults_at, get_fails, no_files};
+ghost use Rattle.hu_io.specs.MemoryFiles.{after_get, all_faults, bytes_given, faults_at, files_state, get_fails, no_files};
 
 use crate::contents::{Contents, copy_from};
 use crate::failed::Failed;
@@ -86,19 +86,12 @@ impl MemoryFiles {
 }
 
 impl Files for MemoryFiles {
-    ghost contents = { λ m. Some (content_in m.files) };
-
-    ghost faults = { faults_at };
-
-    ghost plan = { λ m. m.plan.failing };
+    ghost state = { files_state };
 
     /// Compares the call with each that is to fail, and the name as often as the number of files doubles.
     fn get(&mut self, name: &str, at: u64, into: &mut [u8]) -> Result<usize, Failed>
         ensures bound { ReadsAtMost result into.new }
-        ensures bytes { GetsTold (Some (content_in self.old.files)) name.now at result into.new }
-        ensures kept { content_in self.new.files ≡ content_in self.old.files }
-        ensures plan { self.new.plan.failing ≡ self.old.plan.failing }
-        ensures cause { HasCauseAt (faults_at self.old) (faults_at self.new) name.now result }
+        ensures gets { Gets (files_state self.old) (files_state self.new) name.now at into.new result }
         ensures fails { is_err result ≡ get_fails self.old name.now }
         ensures count { IfOk result (λ n. n ≡ bytes_given self.old name.now at (length into.new)) }
         ensures after { self.new ≡ after_get self.old name.now }

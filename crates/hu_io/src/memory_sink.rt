@@ -1,11 +1,9 @@
 //! A sink in memory with a fixed room, of which chosen calls fail.
 
 ghost use Rattle.std.specs.Prelude.{◌≡◌, ◌-◌, min, Some, [], ◌∷◌, length, is_err, IfOk, OnOk, OnErr};
-ghost use Rattle.std.specs.Io.KnownBytes.{WriteAppends};
-ghost use Rattle.hu_io.specs.Count.{HasCause};
-ghost use Rattle.hu_io.specs.Sink.{TakesSome};
+ghost use Rattle.hu_io.specs.State.{Puts};
 ghost use Rattle.hu_io.specs.Plan.{listing};
-ghost use Rattle.hu_io.specs.MemorySink.{after_put, empty_sink, put_fails, room_left, sink_faults};
+ghost use Rattle.hu_io.specs.MemorySink.{after_put, empty_sink, put_fails, room_left, sink_faults, sink_state};
 
 use crate::failed::Failed;
 use crate::plan::Plan;
@@ -74,18 +72,11 @@ impl MemorySink {
 }
 
 impl Sink for MemorySink {
-    ghost bytes = { λ s. Some s.bytes };
-
-    ghost faults = { sink_faults };
-
-    ghost plan = { λ s. s.room ∷ s.plan.failing };
+    ghost state = { sink_state };
 
     /// Takes as much of the piece as fits, and no memory. Compares the call with each that is to fail.
     fn put(&mut self, piece: &[u8]) -> Result<usize, Failed>
-        ensures count { TakesSome result piece.now }
-        ensures bytes { WriteAppends (Some self.old.bytes) (Some self.new.bytes) result piece.now }
-        ensures plan { self.new.room ∷ self.new.plan.failing ≡ self.old.room ∷ self.old.plan.failing }
-        ensures cause { HasCause (sink_faults self.old) (sink_faults self.new) result }
+        ensures puts { Puts (sink_state self.old) (sink_state self.new) piece.now result }
         ensures fails { is_err result ≡ put_fails self.old piece.now }
         ensures fits { IfOk result (λ n. n ≡ min (room_left self.old) (length piece.now)) }
         ensures after { self.new ≡ after_put self.old piece.now }

@@ -1,10 +1,10 @@
 //! A stream of the system.
 
-ghost use Rattle.std.specs.Prelude.{◌≡◌, ℕ, [], None, take, IfOk};
+ghost use Rattle.std.specs.Prelude.{◌≡◌, ℕ, ◌<◌, ◌≤◌, length, take, IfOk};
 ghost use Rattle.std.specs.Io.KnownBytes.{Appends};
-ghost use Rattle.hu_io.specs.Sink.{TakesSome};
+ghost use Rattle.hu_io.specs.Edge.{system_sink};
 
-use crate::failed::Failed;
+use crate::failed::{Failed, answer};
 use crate::sink::Sink;
 use std::io;
 use std::io::{ErrorKind, Write};
@@ -42,8 +42,10 @@ impl<W> StreamSink<W> {
 
 /// Writes the front of `piece` to `to`, and flushes it.
 fn write_on<W: Write>(to: &mut W, piece: &[u8]) -> io::Result<usize>
-    ensures count { TakesSome result piece.now }
-    ensures bytes { IfOk result (λ n. Appends (W.contents to.old) (W.contents to.new) (take n piece.now)) }
+    ensures within { IfOk result (λ n. n ≤ length piece.now) }
+    ensures some { IfOk result (λ n. 0 < length piece.now → 0 < n) }
+    ensures bytes { IfOk result (λ n.
+        Appends (W.contents to.old) (W.contents to.new) (take n piece.now)) }
 {
     let count = to.write(piece)?;
     if count == 0 && !piece.is_empty() {
@@ -54,19 +56,9 @@ fn write_on<W: Write>(to: &mut W, piece: &[u8]) -> io::Result<usize>
 }
 
 impl<W: Write> Sink for StreamSink<W> {
-    ghost bytes = { λ _. None };
-
-    ghost faults = { λ s. s };
-
-    ghost plan = { λ _. [] };
+    ghost state = { system_sink };
 
     fn put(&mut self, piece: &[u8]) -> Result<usize, Failed> {
-        match write_on(&mut self.to, piece) {
-            Ok(count) => Ok(count),
-            Err(_) => {
-                self.faults = self.faults.saturating_add(1);
-                Err(Failed)
-            }
-        }
+        answer(write_on(&mut self.to, piece), &mut self.faults)
     }
 }

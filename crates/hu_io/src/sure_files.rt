@@ -2,8 +2,9 @@
 
 ghost use Rattle.std.specs.Prelude.{◌≡◌, ℕ, ◌-◌, min, List, [], Some, Ok, length, OnOk, OnErr};
 ghost use Rattle.std.specs.Io.{ReadsAtMost};
-ghost use Rattle.hu_io.specs.Count.{HasCauseAt};
-ghost use Rattle.hu_io.specs.Files.{Adds, GetsTold, content_or_empty};
+ghost use Rattle.hu_io.specs.Files.{Adds, content_or_empty};
+ghost use Rattle.hu_io.specs.State.{Gets};
+ghost use Rattle.hu_io.specs.Sure.{sure_state};
 
 use crate::contents::{Contents, copy_from};
 use crate::failed::Failed;
@@ -45,17 +46,12 @@ impl SureFiles {
 }
 
 impl Files for SureFiles {
-    ghost contents = { λ s. Some (λ name. Some (content_or_empty s name)) };
-
-    ghost faults = { λ _ _. 0 };
-
-    ghost plan = { λ _. [] };
+    ghost state = { sure_state };
 
     /// Reads all that is there and fits.
     fn get(&mut self, name: &str, at: u64, into: &mut [u8]) -> Result<usize, Failed>
         ensures bound { ReadsAtMost result into.new }
-        ensures bytes { GetsTold (Some (λ other. Some (content_or_empty self.old other))) name.now at result into.new }
-        ensures cause { HasCauseAt (λ _. 0) (λ _. 0) name.now result }
+        ensures gets { Gets (sure_state self.old) (sure_state self.new) name.now at into.new result }
         ensures all { result ≡ Ok (min (length into.new) (length (content_or_empty self.old name.now) - at)) }
         ensures same { self.new ≡ self.old }
     {

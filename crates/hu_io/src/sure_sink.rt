@@ -1,8 +1,8 @@
 //! A sink that never fails.
 
 ghost use Rattle.std.specs.Prelude.{◌≡◌, ℕ, ◌+◌, ◌-◌, ◌^◌, min, [], None, Ok, length};
-ghost use Rattle.hu_io.specs.Count.{HasCause};
-ghost use Rattle.hu_io.specs.Sink.{TakesSome};
+ghost use Rattle.hu_io.specs.State.{Puts};
+ghost use Rattle.hu_io.specs.Sure.{sure_sink};
 
 use crate::failed::Failed;
 use crate::sink::Sink;
@@ -37,16 +37,11 @@ impl SureSink {
 }
 
 impl Sink for SureSink {
-    ghost bytes = { λ _. None };
-
-    ghost faults = { λ _. 0 };
-
-    ghost plan = { λ _. [] };
+    ghost state = { λ _. sure_sink };
 
     /// Takes the whole piece.
     fn put(&mut self, piece: &[u8]) -> Result<usize, Failed>
-        ensures count { TakesSome result piece.now }
-        ensures cause { HasCause 0 0 result }
+        ensures puts { Puts sure_sink sure_sink piece.now result }
         ensures all { result ≡ Ok (length piece.now) }
         ensures after { self.new ≡ min (self.old + length piece.now) (2 ^ 64 - 1) }
     {

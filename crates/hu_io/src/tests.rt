@@ -1,18 +1,16 @@
 ghost use Rattle.std.specs.Prelude.{◌≡◌, ◌+◌, ◌≤◌, [], length, IsSome};
-ghost use Rattle.hu_io.specs.Count.{HasCauseAt};
 ghost use Rattle.hu_io.specs.Files.{content_in};
+ghost use Rattle.hu_io.specs.State.{Gets};
 
 use super::*;
-use std::io::{ErrorKind, Write};
+use std::io::{ErrorKind, Read, Write};
 use std::process::Abort;
 use std::test::Fail;
 use std::{env, fs, io, process};
 
 // Reads through the bound alone.
 fn read<F: Files>(files: &mut F, name: &str, at: u64, into: &mut [u8]) -> Result<usize, Failed>
-    ensures kept { F.contents files.new ≡ F.contents files.old }
-    ensures plan { F.plan files.new ≡ F.plan files.old }
-    ensures cause { HasCauseAt (F.faults files.old) (F.faults files.new) name.now result }
+    ensures { Gets (F.state files.old) (F.state files.new) name.now at into.new result }
 {
     files.get(name, at, into)
 }
@@ -138,19 +136,60 @@ fn disk_files(rt: HostRuntime) -> Result<(), Fail> {
     let own = process::id(rt.process());
     let path = format!(in rt.alloc(); "{}/hu_io-{own}", folder.display())?;
     fs::write(&rt, path.as_str(), "abcdef")?;
-    let mut files = DiskFiles::new(rt, b"".as_slice());
+    let mut files = DiskFiles::new(rt.alloc(), rt, b"xy".as_slice());
+    expect_read(&rt, &mut files, path.as_str(), 1, Some(b"bcde"));
+    expect_read(&rt, &mut files, path.as_str(), 2, Some(b"cdef"));
+    expect_read(&rt, &mut files, "-", 0, Some(b"xy"));
     expect_read(&rt, &mut files, path.as_str(), 0, Some(b"abcd"));
+    // The file is open, and is read on.
+    fs::remove_file(&rt, path.as_str())?;
     expect_read(&rt, &mut files, path.as_str(), 4, Some(b"ef"));
     expect_read(&rt, &mut files, path.as_str(), 6, Some(b""));
-    fs::remove_file(&rt, path.as_str())?;
+    assert_eq!(rt; files.faults(), 0);
     expect_read(&rt, &mut files, path.as_str(), 0, None);
     assert_eq!(rt; files.faults(), 1);
     Ok(())
 }
 
+// A directory opens, and can't be read.
+#[test]
+fn directories(rt: HostRuntime) {
+    let mut files = DiskFiles::new(rt.alloc(), rt, b"".as_slice());
+    expect_read(&rt, &mut files, "/", 0, None);
+    expect_read(&rt, &mut files, "/", 0, None);
+    assert_eq!(rt; files.faults(), 2);
+}
+
+// Gives a byte a call, and fails at the second call.
+#[derive(Drop)]
+struct Flawed {
+    calls: u64,
+}
+
+impl Read for Flawed {
+    fn read(&mut self, into: &mut [u8]) -> io::Result<usize> {
+        self.calls = self.calls.saturating_add(1);
+        if self.calls == 2 {
+            return Err(io::Error::from(ErrorKind::BrokenPipe));
+        }
+        let count = into.len().min(1);
+        into[..count].fill(b'x');
+        Ok(count)
+    }
+}
+
+#[test]
+fn failed_reads(rt: HostRuntime) {
+    let mut files = DiskFiles::new(rt.alloc(), rt, Flawed { calls: 0 });
+    expect_read(&rt, &mut files, "-", 0, Some(b"x"));
+    expect_read(&rt, &mut files, "-", 1, None);
+    expect_read(&rt, &mut files, "-", 1, Some(b"x"));
+    assert_eq!(rt; files.faults(), 1);
+}
+
 #[test]
 fn standard_input(rt: HostRuntime) {
-    let mut files = DiskFiles::new(rt, b"abcdef".as_slice());
+    let mut files = DiskFiles::new(rt.alloc(), rt, b"abcdef".as_slice());
     expect_read(&rt, &mut files, "-", 0, Some(b"abcd"));
     expect_read(&rt, &mut files, "-", 0, None);
     expect_read(&rt, &mut files, "-", 4, Some(b"ef"));
@@ -158,16 +197,19 @@ fn standard_input(rt: HostRuntime) {
     assert_eq!(rt; files.faults(), 1);
 }
 
-// Takes so many bytes of each piece, and may fail to flush.
+// Takes so many bytes of each piece, or fails, and may fail to flush.
 #[derive(Drop)]
 struct Pipe {
-    takes: usize,
+    takes: Option<usize>,
     flushes: bool,
 }
 
 impl Write for Pipe {
     fn write(&mut self, piece: &[u8]) -> io::Result<usize> {
-        Ok(self.takes.min(piece.len()))
+        match self.takes {
+            Some(most) => Ok(most.min(piece.len())),
+            None => Err(io::Error::from(ErrorKind::BrokenPipe)),
+        }
     }
 
     fn flush(&mut self) -> io::Result<()> {
@@ -189,11 +231,12 @@ fn stream_sinks(rt: HostRuntime) -> Result<(), Fail> {
         takes,
         flushes: true,
     };
-    expect_write(&rt, takes(2), b"abcd", Ok(2));
-    expect_write(&rt, takes(0), b"abcd", Err(Failed));
-    expect_write(&rt, takes(0), b"", Ok(0));
+    expect_write(&rt, takes(Some(2)), b"abcd", Ok(2));
+    expect_write(&rt, takes(Some(0)), b"abcd", Err(Failed));
+    expect_write(&rt, takes(Some(0)), b"", Ok(0));
+    expect_write(&rt, takes(None), b"abcd", Err(Failed));
     let stuck = Pipe {
-        takes: 2,
+        takes: Some(2),
         flushes: false,
     };
     expect_write(&rt, stuck, b"abcd", Err(Failed));

@@ -1,20 +1,21 @@
 -- What a search of closed patterns makes, with a batch or without.
-use Rattle.std.proofs.Common.{◌≡◌, ◌∙◌, ℕ, ℤ, Option, None, Some, List, sym}
+use Rattle.std.proofs.Common.{◌≡◌, ◌∙◌, ap, ℕ, ℤ, Option, None, Some, List, sym}
 use Rattle.std.specs.List.{AllByRecursion}
 use Rattle.hu_kind.specs.declared.entry.Entry.{Entry}
 use Rattle.hu_kind.specs.Record.{IsRecord}
 use Rattle.hu_kind.specs.Itemsets.{closed_patterns, item_patterns}
 use Rattle.hu_collect.specs.Rule.{Rule, made}
-use Rattle.hu_collect.specs.Limited.{content_in, rule_in}
+use Rattle.hu_kept.specs.Limited.{content_in, rule_in}
 use Rattle.hu_collect.specs.declared.limited.Limited.{Limited}
 use Rattle.hu_closed.specs.ClosedOnly.{closed_rule}
+use Rattle.hu_collect.proofs.lemmas.Searching.{state_of}
 use Rattle.hu_closed.proofs.lemmas.ClosedLemmas.{makes-closed}
 use Rattle.hu_kept.specs.Touched.{within}
 use Rattle.hu_kept.proofs.TouchedLemmas.{made-closed_touched, made-touched}
 
 pub made-closed_within : (batch : Option (List (List (ℕ × ℤ)))) (inner : Rule) (records : List (List (ℕ × ℤ))) (table : List ℕ) (content : List Entry) → AllByRecursion IsRecord records
     → made (within batch (closed_rule inner records table)) content (item_patterns records) ≡ made (within batch inner) content (closed_patterns records)
-made-closed_within None inner records table content all = makes-closed inner records table all content
+made-closed_within None inner records table content all = ap (λ s. s.content) (makes-closed (state_of inner content) records table all)
 made-closed_within (Some batch) inner records table content all =
     made-closed_touched inner batch records table content all ∙ sym (made-touched inner batch content (closed_patterns records))
 

@@ -6,6 +6,5 @@ pub mod Parts
 pub mod TouchedLemmas
 pub mod ChangeLemmas
 pub mod HeldLemmas
-pub mod RankedLemmas
 pub mod ClosedParts
 pub mod RenewalLemmas

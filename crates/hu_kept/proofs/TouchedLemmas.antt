@@ -11,10 +11,11 @@ use Rattle.hu_kind.specs.Record.{IsRecord, items_in}
 use Rattle.hu_kind.specs.Itemsets.{closed_patterns, item_patterns}
 use Rattle.hu_kind.proofs.lemmas.Members.{Member, Member-append_cases, Member-append_left, Member-append_right, Member-from_map, Member-map}
 use Rattle.hu_collect.specs.Rule.{Rule, IsKept, floor_of, made, passes}
-use Rattle.hu_collect.specs.Ranks.{IsGrown, is_part, key_of}
+use Rattle.hu_collect.specs.Ranks.{IsShut, IsGrown, is_part, key_of}
 use Rattle.hu_collect.proofs.lemmas.Made.{leaves_below_floor}
 use Rattle.hu_closed.specs.Keys.{holds_key, is_among, is_closed_key, key_support}
-use Rattle.hu_closed.specs.ClosedOnly.{WantsNone, closed_rule}
+use Rattle.hu_closed.specs.ClosedOnly.{closed_rule}
+use Rattle.hu_collect.proofs.lemmas.Searching.{state_of}
 use Rattle.hu_closed.proofs.lemmas.ClosedLemmas.{makes-closed}
 use Rattle.hu_closed.proofs.lemmas.RankLemmas.{items_at, items_at-member, member-items_at}
 use Rattle.hu_kept.specs.Touched.{is_touched, touched, touched_rule}
@@ -78,7 +79,7 @@ made-closed_touched inner batch records table content all =
     ap (λ es. cut inner.limit (ranking entry_cmp (content ++ es)))
     (filter-same (passes (touched_rule (closed_rule inner records table) batch)) (passes (closed_rule (touched_rule inner batch) records table))
     (λ e. swap (inner.wants e.key) (is_closed_key records e.key) (is_touched batch e.key) (int_le inner.start e.utility)) (item_patterns records))
-    ∙ makes-closed (touched_rule inner batch) records table all content
+    ∙ ap (λ s. s.content) (makes-closed (state_of (touched_rule inner batch) content) records table all)
     ∙ made-touched inner batch content (closed_patterns records)
   where
     swap : (w c t l : Bool) → (((w && c) && t) && l) ≡ (((w && t) && c) && l)
@@ -148,11 +149,11 @@ grown-members (Some table) key last grown g n m =
     subst (λ k. Member n k) (sym g.4) (table-members table g.0 g.1 last n (subst (λ k. Member n k) g.3 m))
 
 -- where no record of the batch holds a key, none that grows from it is wanted
-pub wants-untouched : (inner : Rule) (batch : List (List (ℕ × ℤ))) (key : List ℤ) (last : ℕ) → key_support batch key ≡ 0 → WantsNone (touched_rule inner batch) key last
+pub wants-untouched : (inner : Rule) (batch : List (List (ℕ × ℤ))) (key : List ℤ) (last : ℕ) → key_support batch key ≡ 0 → IsShut (touched_rule inner batch) key last
 wants-untouched inner batch key last none grown g =
     let out = support-part key grown (grown-members inner.table key last grown g) batch none in
     and_right (inner.wants grown) (is_touched batch grown) (le-ltb 0 (key_support batch grown) (omega (arith, out)))
 
 -- where the inner rule wants none of them
-pub wants-inner : (inner : Rule) (batch : List (List (ℕ × ℤ))) (key : List ℤ) (last : ℕ) → WantsNone inner key last → WantsNone (touched_rule inner batch) key last
+pub wants-inner : (inner : Rule) (batch : List (List (ℕ × ℤ))) (key : List ℤ) (last : ℕ) → IsShut inner key last → IsShut (touched_rule inner batch) key last
 wants-inner inner batch key last none grown g = and_left (inner.wants grown) (is_touched batch grown) (none grown g)

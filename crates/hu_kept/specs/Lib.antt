@@ -1,6 +1,7 @@
+pub mod Limited
 pub mod Kept
 pub mod Changes
 pub mod Touched
 pub mod Laws
 pub mod Entries
-pub mod Rows
+pub mod Worked

@@ -4,6 +4,7 @@ use Rattle.std.specs.Prelude.{ℕ, ℤ, nat_lt, Bool, not, ◌&&◌, Option, Non
 use Rattle.std.specs.List.{filter}
 use Rattle.hu_kind.specs.declared.entry.Entry.{Entry}
 use Rattle.hu_collect.specs.Rule.{Rule}
+use Rattle.hu_collect.specs.State.{State}
 use Rattle.hu_closed.specs.Keys.{key_support}
 
 -- whether a record of a batch holds a key
@@ -18,6 +19,10 @@ touched_rule inner batch = record {
   wants = λ key. inner.wants key && is_touched batch key;
   table = inner.table;
 }
+
+-- the state of a collector of touched keys around an inner one
+abbrev pub touched_state : State → List (List (ℕ × ℤ)) → State
+touched_state inner batch = record { rule = touched_rule inner.rule batch; content = inner.content }
 
 -- the touched entries of a list
 abbrev pub touched : List (List (ℕ × ℤ)) → List Entry → List Entry

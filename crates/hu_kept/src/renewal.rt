@@ -4,7 +4,7 @@ ghost use Rattle.std.specs.Prelude.{◌≡◌, ◌≤ℤ◌, [], ◌∷◌, if�
 ghost use Rattle.hu_kind.specs.Itemsets.{closed_patterns};
 ghost use Rattle.hu_base.specs.Base.{records_of};
 ghost use Rattle.hu_collect.specs.Rule.{made, rule_of, floor_of};
-ghost use Rattle.hu_collect.specs.Limited.{rule_in, content_in};
+ghost use Rattle.hu_kept.specs.Limited.{rule_in, content_in};
 ghost use Rattle.hu_closed.specs.ClosedOnly.{IsRankingOf};
 ghost use Rattle.hu_totals.specs.Laws.{KeepsPatterns};
 ghost use Rattle.hu_kept.specs.Kept.{answer_of, patterns_of};

@@ -2,7 +2,8 @@
 
 ghost use Rattle.std.specs.Prelude.{◌≡◌, pos, ◌≤ℤ◌, ℕ, ℤ, List, IfOk, OnOk, option_copied};
 ghost use Rattle.hu_kind.specs.Itemsets.{item_patterns};
-ghost use Rattle.hu_collect.specs.Rule.{made, floor_of};
+ghost use Rattle.hu_collect.specs.Rule.{made};
+ghost use Rattle.hu_collect.specs.State.{floor_in, offered};
 ghost use Rattle.hu_collect.specs.Ranks.{RestsOn};
 ghost use Rattle.hu_totals.specs.Laws.{KeepsPatterns};
 ghost use Rattle.hu_kept.specs.Touched.{within};
@@ -22,11 +23,10 @@ fn search<G: Gates, C: Collect>(
     gates: &G,
     collect: &mut C,
 ) -> Result<(), NoMemory>
-    requires floor { ranked.now.floor ≤ℤ floor_of (C.rule collect.old) (C.content collect.old) }
-    requires rests { RestsOn (C.rule collect.old).table ranked.now.items }
-    ensures rule { C.rule collect.new ≡ C.rule collect.old }
-    ensures ok { OnOk result ((records : List (List (ℕ × ℤ))) → KeepsPatterns records ranked.now
-        → C.content collect.new ≡ made (C.rule collect.old) (C.content collect.old) (item_patterns records)) }
+    requires floor { ranked.now.floor ≤ℤ floor_in (C.state collect.old) }
+    requires rests { RestsOn (C.state collect.old).rule.table ranked.now.items }
+    ensures { OnOk result ((records : List (List (ℕ × ℤ))) → KeepsPatterns records ranked.now
+        → C.state collect.new ≡ offered (C.state collect.old) (item_patterns records)) }
 {
     let gate = gates.gate(alloc, ranked, collect.floor())?;
     hu_list::mine(alloc, ranked, collect, &gate)
@@ -40,10 +40,10 @@ pub(crate) fn searched<G: Gates, C: Collect + Drop>(
     collect: C,
     batch: Option<&RecordSets>,
 ) -> Result<C, NoMemory>
-    requires floor { ranked.now.floor ≤ℤ floor_of (C.rule collect) (C.content collect) }
-    requires rests { RestsOn (C.rule collect).table ranked.now.items }
-    ensures ok { IfOk result (λ found. (records : List (List (ℕ × ℤ))) → KeepsPatterns records ranked.now
-        → C.content found ≡ made (within (option_copied batch.entry) (C.rule collect)) (C.content collect) (item_patterns records)) }
+    requires floor { ranked.now.floor ≤ℤ floor_in (C.state collect) }
+    requires rests { RestsOn (C.state collect).rule.table ranked.now.items }
+    ensures { IfOk result (λ found. (records : List (List (ℕ × ℤ))) → KeepsPatterns records ranked.now
+        → (C.state found).content ≡ made (within (option_copied batch.entry) (C.state collect).rule) (C.state collect).content (item_patterns records)) }
 {
     let mut collect = collect;
     match batch {

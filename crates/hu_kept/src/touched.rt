@@ -1,11 +1,10 @@
 //! The collector of the patterns that a batch touches.
 
 ghost use Rattle.std.specs.Prelude.{◌≡◌, ◌⊎◌, ◌∷◌, [], true, false};
-ghost use Rattle.hu_collect.specs.Rule.{made};
-ghost use Rattle.hu_collect.specs.Ranks.{CanOpen};
+ghost use Rattle.hu_collect.specs.Ranks.{CanOpen, IsShut};
+ghost use Rattle.hu_collect.specs.State.{offered};
 ghost use Rattle.hu_closed.specs.Keys.{key_support};
-ghost use Rattle.hu_closed.specs.ClosedOnly.{WantsNone};
-ghost use Rattle.hu_kept.specs.Touched.{batch_in, inner_of, is_touched, touched_rule};
+ghost use Rattle.hu_kept.specs.Touched.{batch_in, inner_of, is_touched};
 
 use hu_closed::RecordSets;
 use hu_collect::Collect;
@@ -47,18 +46,16 @@ impl<'a, C: Collect> Touched<'a, C> {
     /// Whether an entry may change the content: it is not below the floor, and a record of the batch holds its key.
     fn lets_in(&self, entry: &Entry) -> bool
         ensures passes { result ≡ true → is_touched (batch_in self.now) entry.now.key ≡ true }
-        ensures leaves { result ≡ false → made (touched_rule (C.rule (inner_of self.now)) (batch_in self.now)) (C.content (inner_of self.now)) (entry.now ∷ []) ≡ C.content (inner_of self.now) }
+        ensures leaves { result ≡ false → offered (⟦<Touched<'a, C> as Collect>⟧.state self.now) (entry.now ∷ []) ≡ ⟦<Touched<'a, C> as Collect>⟧.state self.now }
     {
         entry.utility >= self.inner.floor() && self.batch.support(&entry.key) > 0
     }
 }
 
 impl<'a, C: Collect> Collect for Touched<'a, C> {
-    ghost use Rattle.hu_kept.specs.Touched.{batch_in, inner_of, touched_rule};
+    ghost use Rattle.hu_kept.specs.Touched.{batch_in, inner_of, touched_state};
 
-    ghost rule = { λ t. touched_rule (C.rule (inner_of t)) (batch_in t) };
-
-    ghost content = { λ t. C.content (inner_of t) };
+    ghost state = { λ t. touched_state (C.state (inner_of t)) (batch_in t) };
 
     /// The inner collector's floor.
     fn floor(&self) -> i128 {
@@ -67,11 +64,11 @@ impl<'a, C: Collect> Collect for Touched<'a, C> {
 
     /// False where no record of the batch holds the key, or where the inner collector doesn't open it.
     fn opens(&self, key: &Key, last: u32) -> bool
-        requires { CanOpen (C.rule (inner_of self.now)).table key.now last }
+        requires { CanOpen (C.state (inner_of self.now)).rule.table key.now last }
         ensures shut { key_support (batch_in self.now) key.now ≡ 0 → result ≡ false }
         ensures cause { result ≡ false → (key_support (batch_in self.now) key.now ≡ 0)
-            ⊎ WantsNone (C.rule (inner_of self.now)) key.now last }
-        ensures grown { result ≡ false → WantsNone (⟦<Touched<'a, C> as Collect>⟧.rule self.now) key.now last }
+            ⊎ IsShut (C.state (inner_of self.now)).rule key.now last }
+        ensures grown { result ≡ false → IsShut (⟦<Touched<'a, C> as Collect>⟧.state self.now).rule key.now last }
     {
         self.batch.support(key) > 0 && self.inner.opens(key, last)
     }

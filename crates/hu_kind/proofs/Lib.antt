@@ -1,3 +1,3 @@
 pub mod lemmas
-mod NumberLemmas
 pub mod TokenLemmas
+mod ReadLemmas

@@ -56,13 +56,18 @@ tokens-first text n is some =
 no_space_first : (b : ℕ) (bs : List ℕ) → is_no_space b ≡ true → 0 < position_or_len is_space (b ∷ bs)
 no_space_first b bs h = grind (arith, nat_tests)
 
--- the first token begins where the first byte that is no space stands
-pub tokens-next : (text : List ℕ) (start len : ℕ) → position is_no_space text ≡ Some start → len ≡ position_or_len is_space (drop start text) → tokens text ≡ take len (drop start text) ∷ tokens (drop len (drop start text))
-tokens-next text start len found is =
+-- the first token begins where the first byte that is no space stands, and it has a byte
+pub token-some : (text : List ℕ) (start : ℕ) → position is_no_space text ≡ Some start → (start < length text) × (0 < position_or_len is_space (drop start text))
+token-some text start found =
     let start_is : start ≡ position_or_len is_no_space text = grind (arith, nat_tests) in
     let within : position_or_len is_no_space text < length text = grind (arith, nat_tests) in
     let begins : is_no_space (get_or text start 0) ≡ true = rw start_is (passes_at_first is_no_space text 0 within) in
-    let some : 0 < position_or_len is_space (drop start text) = rw (drop-cons text start 0 (omega arith)) (no_space_first (get_or text start 0) (drop (suc start) text) begins) in
+    (omega arith, rw (drop-cons text start 0 (omega arith)) (no_space_first (get_or text start 0) (drop (suc start) text) begins))
+
+pub tokens-next : (text : List ℕ) (start len : ℕ) → position is_no_space text ≡ Some start → len ≡ position_or_len is_space (drop start text) → tokens text ≡ take len (drop start text) ∷ tokens (drop len (drop start text))
+tokens-next text start len found is =
+    let start_is : start ≡ position_or_len is_no_space text = grind (arith, nat_tests) in
+    let some = (token-some text start found).1 in
     sym (rw start_is (tokens-from_start text)) ∙ tokens-first (drop start text) len is (omega arith)
 
 -- where each byte is a space, there is no token

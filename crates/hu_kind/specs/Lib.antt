@@ -6,7 +6,9 @@ pub mod Order
 pub mod Sequence
 pub mod Answer
 pub mod Number
-pub mod Rows
+pub mod Worked
 pub mod Token
+pub mod Reading
 pub mod Cells
 pub mod First
+pub mod Laws

@@ -3,9 +3,9 @@
 use Rattle.std.specs.Prelude.{◌≡◌, ℕ, ◌^◌, ◌<◌, ◌≤◌, ℤ, pos, negsuc, ◌+ℤ◌, false, Option, None, Some, is_some, nat_lt, List, [], ◌∷◌, ◌++◌, map, length, if◌then◌else◌}
 use Rattle.std.specs.Int.{int_max}
 use Rattle.std.specs.Option.{option_map, unwrap_or}
-use Rattle.std.specs.List.{filter, flat_map, count_by, list_any, sum_by}
+use Rattle.std.specs.List.{filter, flat_map, count_by, list_any, sum_by, AllByRecursion}
 use Rattle.hu_kind.specs.declared.entry.Entry.{Entry}
-use Rattle.hu_kind.specs.Record.{items_in, holds, values_of, any_negative, absolute_of}
+use Rattle.hu_kind.specs.Record.{items_in, holds, values_of, any_negative, absolute_of, IsItemset}
 use Rattle.hu_kind.specs.Itemsets.{sublists}
 
 -- the greater of two utilities; none is less than every number
@@ -54,9 +54,10 @@ sequence_entry records pattern = record { key = sequence_key pattern; utility = 
 abbrev pub sequence_patterns : List (List (List (ℕ × ℤ))) → List Entry
 sequence_patterns records = flat_map (λ r. map (sequence_entry records) (filter (λ p. nat_lt 0 (length p)) (subsequences r))) records
 
--- the rules of a sequence record beside those of its elements: there is one, the cells are at most 4,096 together,
+-- the rules of a sequence record: there is an element, each is an itemset, the cells are at most 4,096 together,
 -- no value is below 0, and the values sum to at most 2 ^ 127 - 1
 pub record IsSequence (elements : List (List (ℕ × ℤ))) : Type 0 where
+  pub itemsets : AllByRecursion IsItemset elements
   pub some : 0 < length elements
   pub few : sum_by length elements ≤ 4096
   pub none_below : list_any any_negative elements ≡ false

@@ -8,9 +8,26 @@ ghost use Rattle.hu_kind.specs.Cells.{by_item, twice, IsFirstTwice};
 ghost use Rattle.hu_kind.specs.Record.{items_in};
 
 use crate::item::{Cell, Item};
+use crate::record::ascends;
 
-/// The cells with their items ascending, or the smallest item that stands more than once. One sort and one pass, no memory.
+/// The cells with their items ascending, or the smallest item that stands more than once. One pass where the items ascend
+/// already, else one more and a sort; no memory.
 pub fn ordered_cells(cells: Vec<Cell>) -> Result<Vec<Cell>, Item>
+    ensures value { IfOk result (λ v. pairs_of v.items ≡ by_item (pairs_of cells.items)) }
+    ensures permutation { IfOk result (λ v. IsPermutation cells.items v.items) }
+    ensures ascending { IfOk result (λ v. AllAdjacentBelow (λ a b. a.item.0 < b.item.0) v.items (length v.items)) }
+    ensures once { OnOk result (twice (items_in (pairs_of cells.items)) ≡ None) }
+    ensures twice { IfErr result (λ item. twice (items_in (pairs_of cells.items)) ≡ Some item.0) }
+{
+    if ascends(&cells) {
+        Ok(cells)
+    } else {
+        sorted_cells(cells)
+    }
+}
+
+/// The cells with their items ascending, by a sort; or the smallest item that stands more than once.
+fn sorted_cells(cells: Vec<Cell>) -> Result<Vec<Cell>, Item>
     ensures value { IfOk result (λ v. pairs_of v.items ≡ by_item (pairs_of cells.items)) }
     ensures permutation { IfOk result (λ v. IsPermutation cells.items v.items) }
     ensures ascending { IfOk result (λ v. AllAdjacentBelow (λ a b. a.item.0 < b.item.0) v.items (length v.items)) }

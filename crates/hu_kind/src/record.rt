@@ -1,9 +1,9 @@
 //! Records: transactions of items with what each earned.
 
-ghost use Rattle.std.specs.Prelude.{◌≡◌, ◌↔◌, ◌+◌, ◌<◌, ◌≤◌, ◌^◌, ℕ, length, pos, int_lt, IsTrue, IsSome, IfSome, SomeIff};
+ghost use Rattle.std.specs.Prelude.{◌≡◌, ◌↔◌, ◌+◌, ◌<◌, ◌≤◌, ◌^◌, ◌≤ℤ◌, ℕ, length, pos, unsigned_abs, int_lt, IsTrue, IsSome, IfSome, SomeIff};
 ghost use Rattle.std.specs.List.{All, AllAdjacentBelow, list_any, sum_by};
 ghost use Rattle.hu_kind.specs.Cell.{pairs_of, absolute_value, AreItemset, AreRecord};
-ghost use Rattle.hu_kind.specs.Record.{any_negative, IsRecord};
+ghost use Rattle.hu_kind.specs.Record.{absolute_of, any_negative, IsRecord};
 
 use crate::item::{Cell, Item};
 use std::marker::Model;
@@ -12,7 +12,7 @@ use std::marker::Model;
 pub trait Absolute: Drop {
     ghost absolute: { Self → ℕ };
 
-    /// The sum of the absolute values.
+    /// The sum of the absolute values, in constant time.
     fn absolute(&self) -> i128
         ensures value { result ≡ pos (absolute self.now) }
         ensures fits { absolute self.now < 2 ^ 127 };
@@ -23,18 +23,19 @@ pub trait Absolute: Drop {
 #[derive(Debug, Drop)]
 pub struct Record {
     cells: Vec<Cell>,
+    absolute: i128,
 }
 
 impl Model for Record {
-    ghost use Rattle.std.specs.Prelude.{List, ℕ, ℤ};
+    ghost use Rattle.std.specs.Prelude.{◌≡◌, List, ℕ, ℤ, pos};
     ghost use Rattle.hu_kind.specs.Cell.{pairs_of};
-    ghost use Rattle.hu_kind.specs.Record.{IsRecord};
+    ghost use Rattle.hu_kind.specs.Record.{absolute_of, IsRecord};
 
     ghost Value = { List (ℕ × ℤ) };
 
     ghost view = { λ r. pairs_of r.cells.items };
 
-    ghost invariant = { λ r. IsRecord (pairs_of r.cells.items) };
+    ghost invariant = { λ r. IsRecord (pairs_of r.cells.items) × (r.absolute ≡ pos (absolute_of (pairs_of r.cells.items))) };
 }
 
 impl Record {
@@ -46,11 +47,17 @@ impl Record {
         ensures valid { IsSome result ↔ IsRecord (pairs_of cells.items) }
         ensures value { IfSome result (λ r. r ≡ pairs_of cells.items) }
     {
-        if is_record(&cells) {
-            Some(Record { cells })
-        } else {
-            None
-        }
+        let absolute = record_sum(&cells)?;
+        Some(Record { cells, absolute })
+    }
+
+    /// The record of cells that keep the rules of the type, and whose absolute sum is known. It takes constant time.
+    pub fn with_sum(cells: Vec<Cell>, absolute: i128) -> Record
+        requires rules { IsRecord (pairs_of cells.items) }
+        requires sum { absolute ≡ pos (absolute_of (pairs_of cells.items)) }
+        ensures { result ≡ pairs_of cells.items }
+    {
+        Record { cells, absolute }
     }
 
     /// The cells, their items ascending.
@@ -75,7 +82,7 @@ impl Absolute for Record {
     ghost absolute = { absolute_of };
 
     fn absolute(&self) -> i128 {
-        absolute_sum(&self.cells)
+        self.absolute
     }
 }
 
@@ -86,11 +93,15 @@ pub(crate) fn has_negative(cells: &[Cell]) -> bool
     cells.iter().any(|cell| cell.value < 0)
 }
 
-/// Whether the cells keep the rules of a record.
-fn is_record(cells: &[Cell]) -> bool
-    ensures { IsTrue result ↔ AreRecord cells.now }
+/// The sum of the absolute values of cells that keep the rules of a record.
+fn record_sum(cells: &[Cell]) -> Option<i128>
+    ensures { SomeIff result (AreRecord cells.now) (pos (sum_by absolute_value cells.now)) }
 {
-    is_itemset(cells) && cells.len() <= Record::MOST_CELLS && sum_after(0, cells).is_some()
+    if is_itemset(cells) && cells.len() <= Record::MOST_CELLS {
+        sum_after(0, cells)
+    } else {
+        None
+    }
 }
 
 /// Whether the cells keep the rules of a set of cells.
@@ -101,7 +112,7 @@ pub(crate) fn is_itemset(cells: &[Cell]) -> bool
 }
 
 /// Whether the items ascend strictly.
-fn ascends(cells: &[Cell]) -> bool
+pub(crate) fn ascends(cells: &[Cell]) -> bool
     ensures { IsTrue result ↔ AllAdjacentBelow (λ a b. a.item.0 < b.item.0) cells.now (length cells.now) }
 {
     for i in 1..cells.len() {
@@ -120,28 +131,13 @@ fn is_in_range(cells: &[Cell]) -> bool
 }
 
 /// A sum with the absolute values of the cells, where that is at most 2^127 - 1.
-pub(crate) fn sum_after(sum: u128, cells: &[Cell]) -> Option<u128>
-    requires { sum < 2 ^ 127 }
-    ensures { SomeIff result (sum + sum_by absolute_value cells.now < 2 ^ 127) (sum + sum_by absolute_value cells.now) }
+pub(crate) fn sum_after(sum: i128, cells: &[Cell]) -> Option<i128>
+    requires { pos 0 ≤ℤ sum }
+    ensures { SomeIff result (unsigned_abs sum + sum_by absolute_value cells.now < 2 ^ 127) (pos (unsigned_abs sum + sum_by absolute_value cells.now)) }
 {
     let mut after = sum;
     for cell in cells {
-        after += cell.value.unsigned_abs();
-        if after > i128::MAX as u128 {
-            return None;
-        }
+        after = after.checked_add_unsigned(cell.value.unsigned_abs())?;
     }
     Some(after)
-}
-
-/// The sum of the absolute values.
-pub(crate) fn absolute_sum(cells: &[Cell]) -> i128
-    requires { sum_by absolute_value cells.now < 2 ^ 127 }
-    ensures { result ≡ pos (sum_by absolute_value cells.now) }
-{
-    let mut sum = 0i128;
-    for cell in cells {
-        sum += cell.value.abs();
-    }
-    sum
 }

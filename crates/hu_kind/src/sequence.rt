@@ -1,13 +1,13 @@
 //! Sequence records: lists of itemsets with what each item earned.
 
-ghost use Rattle.std.specs.Prelude.{◌≡◌, ◌↔◌, ◌+◌, ◌<◌, ◌≤◌, ◌^◌, length, pos, IsTrue, IsSome, IfSome, SomeIff};
-ghost use Rattle.std.specs.List.{list_any, sum_by};
+ghost use Rattle.std.specs.Prelude.{◌≡◌, ◌↔◌, ◌+◌, ◌<◌, ◌≤◌, ◌^◌, ◌≤ℤ◌, length, pos, unsigned_abs, IsTrue, IsSome, IfSome, SomeIff};
+ghost use Rattle.std.specs.List.{list_any, sum_by, AllByRecursion};
 ghost use Rattle.hu_kind.specs.Cell.{pairs_of};
 ghost use Rattle.hu_kind.specs.Record.{absolute_of, any_negative, IsItemset};
 ghost use Rattle.hu_kind.specs.Sequence.{IsSequence};
 
 use crate::item::Cell;
-use crate::record::{Absolute, Record, absolute_sum, has_negative, is_itemset, sum_after};
+use crate::record::{Absolute, Record, has_negative, is_itemset, sum_after};
 use std::marker::Model;
 
 /// One itemset of a sequence record: at least one cell, their items ascending strictly and each in its range. It is seen
@@ -42,6 +42,14 @@ impl Element {
         }
     }
 
+    /// The itemset of cells that keep the rules of the type. It takes constant time.
+    pub fn of(cells: Vec<Cell>) -> Element
+        requires { IsItemset (pairs_of cells.items) }
+        ensures { result ≡ pairs_of cells.items }
+    {
+        Element { cells }
+    }
+
     /// The cells, their items ascending.
     pub fn cells(&self) -> &[Cell]
         ensures value { pairs_of result.now ≡ self.now }
@@ -58,19 +66,11 @@ impl Element {
     }
 
     /// A sum with the absolute values of the cells, where that is at most 2^127 - 1.
-    fn sum_after(&self, sum: u128) -> Option<u128>
-        requires { sum < 2 ^ 127 }
-        ensures { SomeIff result (sum + absolute_of self.now < 2 ^ 127) (sum + absolute_of self.now) }
+    fn sum_after(&self, sum: i128) -> Option<i128>
+        requires { pos 0 ≤ℤ sum }
+        ensures { SomeIff result (unsigned_abs sum + absolute_of self.now < 2 ^ 127) (pos (unsigned_abs sum + absolute_of self.now)) }
     {
         sum_after(sum, &self.cells)
-    }
-
-    /// The sum of the absolute values.
-    fn absolute(&self) -> i128
-        requires { absolute_of self.now < 2 ^ 127 }
-        ensures { result ≡ pos (absolute_of self.now) }
-    {
-        absolute_sum(&self.cells)
     }
 }
 
@@ -79,17 +79,20 @@ impl Element {
 #[derive(Debug, Drop)]
 pub struct SeqRecord {
     elements: Vec<Element>,
+    absolute: i128,
 }
 
 impl Model for SeqRecord {
-    ghost use Rattle.std.specs.Prelude.{List, ℕ, ℤ};
+    ghost use Rattle.std.specs.Prelude.{◌≡◌, List, ℕ, ℤ, pos};
+    ghost use Rattle.std.specs.List.{sum_by};
+    ghost use Rattle.hu_kind.specs.Record.{absolute_of};
     ghost use Rattle.hu_kind.specs.Sequence.{IsSequence};
 
     ghost Value = { List (List (ℕ × ℤ)) };
 
     ghost view = { λ s. s.elements.items };
 
-    ghost invariant = { λ s. IsSequence s.elements.items };
+    ghost invariant = { λ s. IsSequence s.elements.items × (s.absolute ≡ pos (sum_by absolute_of s.elements.items)) };
 }
 
 impl SeqRecord {
@@ -98,17 +101,24 @@ impl SeqRecord {
         ensures valid { IsSome result ↔ IsSequence elements.items }
         ensures value { IfSome result (λ s. s ≡ elements.items) }
     {
-        if is_sequence(&elements) {
-            Some(SeqRecord { elements })
-        } else {
-            None
-        }
+        let absolute = sequence_sum(&elements)?;
+        Some(SeqRecord { elements, absolute })
+    }
+
+    /// The sequence of itemsets that keep the rules of the type, and whose absolute sum is known. It takes constant time.
+    pub fn with_sum(elements: Vec<Element>, absolute: i128) -> SeqRecord
+        requires rules { IsSequence elements.items }
+        requires sum { absolute ≡ pos (sum_by absolute_of elements.items) }
+        ensures { result ≡ elements.items }
+    {
+        SeqRecord { elements, absolute }
     }
 
     /// The itemsets in order.
     pub fn elements(&self) -> &[Element]
         ensures value { result.now ≡ self.now }
         ensures rules { IsSequence self.now }
+        ensures itemsets { AllByRecursion IsItemset self.now }
     {
         self.elements.as_slice()
     }
@@ -121,20 +131,24 @@ impl Absolute for SeqRecord {
     ghost absolute = { λ elements. sum_by absolute_of elements };
 
     fn absolute(&self) -> i128 {
-        sum_of(&self.elements)
+        self.absolute
     }
 }
 
-/// Whether the itemsets keep the rules of a sequence.
-fn is_sequence(elements: &[Element]) -> bool
-    ensures { IsTrue result ↔ IsSequence elements.now }
+/// The sum of the absolute values of itemsets that keep the rules of a sequence.
+fn sequence_sum(elements: &[Element]) -> Option<i128>
+    ensures { SomeIff result (IsSequence elements.now) (pos (sum_by absolute_of elements.now)) }
 {
-    !elements.is_empty() && are_few(elements) && !any_below(elements) && fit(elements)
+    if elements.is_empty() || any_below(elements) || !are_few(elements) {
+        return None;
+    }
+    sum_of(elements)
 }
 
 /// Whether there are at most 4,096 cells.
 fn are_few(elements: &[Element]) -> bool
-    ensures { IsTrue result ↔ (sum_by length elements.now ≤ 4096) }
+    ensures few { IsTrue result ↔ (sum_by length elements.now ≤ 4096) }
+    ensures itemsets { IsTrue result → AllByRecursion IsItemset elements.now }
 {
     let mut count = 0;
     for element in elements {
@@ -154,28 +168,13 @@ fn any_below(elements: &[Element]) -> bool
     elements.iter().any(|element| element.has_negative())
 }
 
-/// Whether the absolute values sum to at most 2^127 - 1.
-fn fit(elements: &[Element]) -> bool
-    ensures { IsTrue result ↔ (sum_by absolute_of elements.now < 2 ^ 127) }
+/// The sum of the absolute values, where that is at most 2^127 - 1.
+fn sum_of(elements: &[Element]) -> Option<i128>
+    ensures { SomeIff result (sum_by absolute_of elements.now < 2 ^ 127) (pos (sum_by absolute_of elements.now)) }
 {
     let mut sum = 0;
     for element in elements {
-        match element.sum_after(sum) {
-            Some(after) => sum = after,
-            None => return false,
-        }
+        sum = element.sum_after(sum)?;
     }
-    true
-}
-
-/// The sum of the absolute values.
-fn sum_of(elements: &[Element]) -> i128
-    requires { sum_by absolute_of elements.now < 2 ^ 127 }
-    ensures { result ≡ pos (sum_by absolute_of elements.now) }
-{
-    let mut sum = 0;
-    for element in elements {
-        sum += element.absolute();
-    }
-    sum
+    Some(sum)
 }

@@ -61,7 +61,7 @@ fn first_token(text: &[u8]) -> Option<(&[u8], &[u8])>
 }
 
 /// Where the first token of a text begins.
-fn token_start(text: &[u8]) -> Option<usize>
+pub(crate) fn token_start(text: &[u8]) -> Option<usize>
     ensures { result ≡ position is_no_space text.now }
 {
     text.iter().position(|byte| *byte != b' ')
@@ -75,7 +75,7 @@ fn space_place(text: &[u8]) -> Option<usize>
 }
 
 /// How many bytes stand before the first space.
-fn token_len(text: &[u8]) -> usize
+pub(crate) fn token_len(text: &[u8]) -> usize
     ensures value { result ≡ position_or_len is_space text.now }
     ensures within { result ≤ length text.now }
 {

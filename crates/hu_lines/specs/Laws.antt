@@ -1,8 +1,7 @@
 -- What holds of pieces, of lines and of refusals, whatever the bytes.
 use Rattle.std.specs.Prelude.{◌≡◌, ℕ, ◌<◌, true, false, Some, List, [], ◌∷◌, ◌++◌, length, drop}
-use Rattle.std.specs.List.{concat}
 use Rattle.hu_lines.specs.declared.limits.LineFault.{LineFault}
-use Rattle.hu_lines.specs.Pieces.{has_line_feed, first_piece, pieces, lines, gathered_lines}
+use Rattle.hu_lines.specs.Pieces.{has_line_feed, first_piece, pieces}
 use Rattle.hu_lines.specs.Limits.{refusal}
 use Rattle.hu_lines.specs.Lines.{State, begun, grown, ended_piece, IsHeld}
 
@@ -20,7 +19,7 @@ FirstPieceComesFirst = (bytes : List ℕ) → 0 < length bytes → pieces bytes 
 
 -- what is refused before its line ends stays refused, however the line goes on
 abbrev pub RefusalStands : Type 0
-RefusalStands = (number before : ℕ) (begun more : List ℕ) (fault : LineFault) → has_line_feed begun ≡ false
+RefusalStands = (number before : ℕ) (begun more : List ℕ) (fault : LineFault)
     → refusal number before begun ≡ Some fault → refusal number before (begun ++ more) ≡ Some fault
 
 -- so it is of the first piece of bytes, whatever bytes come after them
@@ -36,7 +35,3 @@ HeldComesFirst = (s : State) (rest : List ℕ) → IsHeld s → pieces (s.bytes 
 abbrev pub FedComesFirst : Type 0
 FedComesFirst = (old now : State) (piece rest : List ℕ) → now ≡ grown (begun old) (first_piece piece) → IsHeld now
     → pieces ((begun old).bytes ++ (piece ++ rest)) ≡ ended_piece now ++ pieces ((begun now).bytes ++ (drop (length (first_piece piece)) piece ++ rest))
-
--- however bytes are cut into chunks, the lines gathered from the chunks are the lines of the bytes
-abbrev pub LinesIgnoreCuts : Type 0
-LinesIgnoreCuts = (chunks : List (List ℕ)) → gathered_lines chunks ≡ lines (concat chunks)

@@ -4,4 +4,4 @@ pub mod Skipped
 pub mod Lines
 pub mod Held
 pub mod Laws
-pub mod Rows
+pub mod Worked

@@ -56,5 +56,6 @@ pub record IsHeld (s : State) : Type 0 where
   pub one : first_piece s.bytes ≡ s.bytes
   pub whole : s.whole ≡ has_line_feed s.bytes
   pub within : refusal s.number s.before s.bytes ≡ None
+  pub counted : s.before ≤ 268435456
   pub numbered : s.number ≤ s.before + 1
   pub unfinished : IsSome s.refused → s.whole ≡ false

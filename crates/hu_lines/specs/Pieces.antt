@@ -1,7 +1,7 @@
 -- Bytes are cut into pieces: one for each line feed (byte 10), which ends it, and one more for the bytes after the
 -- last line feed, where there are any. A piece without its line feed and one carriage return (byte 13) is a line.
-use Rattle.std.specs.Prelude.{ℕ, ◌-◌, ◌==◌, Bool, List, [], ◌∷◌, ◌++◌, map, length, take, slice_index, if◌then◌else◌}
-use Rattle.std.specs.List.{list_any, flat_map}
+use Rattle.std.specs.Prelude.{ℕ, ◌-◌, ◌==◌, Bool, List, [], ◌∷◌, map, length, take, slice_index, if◌then◌else◌}
+use Rattle.std.specs.List.{list_any}
 
 -- whether a line feed stands among bytes
 abbrev pub has_line_feed : List ℕ → Bool
@@ -37,22 +37,3 @@ line_of piece = without_last 13 (body_of piece)
 -- the lines of bytes
 abbrev pub lines : List ℕ → List (List ℕ)
 lines bytes = map line_of (pieces bytes)
-
--- the parts in which feeding takes chunks in turn: of each chunk first its first piece, then what is left likewise
-abbrev pub parts : List (List ℕ) → List (List ℕ)
-parts chunks = flat_map pieces chunks
-
--- bytes as one piece, where there are any
-abbrev pub one_piece : List ℕ → List (List ℕ)
-one_piece [] = []
-one_piece (b ∷ bs) = (b ∷ bs) ∷ []
-
--- the pieces gathered from parts, after the bytes held of earlier ones: a part with a line feed ends its piece,
--- any other is held; what is held at the end is the last piece, unless it is empty
-abbrev pub gathered : List ℕ → List (List ℕ) → List (List ℕ)
-gathered held [] = one_piece held
-gathered held (part ∷ later) = if has_line_feed part then (held ++ part) ∷ gathered [] later else gathered (held ++ part) later
-
--- the lines gathered from chunks of bytes in turn
-abbrev pub gathered_lines : List (List ℕ) → List (List ℕ)
-gathered_lines chunks = map line_of (gathered [] (parts chunks))

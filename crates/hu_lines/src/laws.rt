@@ -1,6 +1,6 @@
 //! What holds of lines and refusals, whatever the bytes. These calls do nothing: their contracts are the laws.
 
-ghost use Rattle.hu_lines.specs.Laws.{WholePieceComesFirst, RestIsOnePiece, FirstPieceComesFirst, RefusalStands, FirstRefusalStands, HeldComesFirst, FedComesFirst, LinesIgnoreCuts};
+ghost use Rattle.hu_lines.specs.Laws.{WholePieceComesFirst, RestIsOnePiece, FirstPieceComesFirst, RefusalStands, FirstRefusalStands, HeldComesFirst, FedComesFirst};
 
 /// Bytes that end with their only line feed are the first piece, and the pieces of what follows come after it.
 #[tactic(auto, using(crate::proofs::lemmas::PieceLemmas::whole_piece_first))]
@@ -43,10 +43,4 @@ pub fn held_comes_first()
 #[tactic(auto, using(crate::proofs::lemmas::HeldLemmas::fed_first))]
 pub fn fed_comes_first()
     ensures { FedComesFirst }
-{}
-
-/// The lines of bytes don't depend on how the bytes are cut into chunks.
-#[tactic(auto, using(crate::proofs::lemmas::PieceLemmas::gathered_as_cut))]
-pub fn lines_ignore_cuts()
-    ensures { LinesIgnoreCuts }
 {}

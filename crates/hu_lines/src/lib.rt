@@ -15,7 +15,7 @@ mod tests;
 
 pub use laws::{
     fed_comes_first, first_piece_comes_first, first_refusal_stands, held_comes_first,
-    lines_ignore_cuts, refusal_stands, rest_is_one_piece, whole_piece_comes_first,
+    refusal_stands, rest_is_one_piece, whole_piece_comes_first,
 };
 pub use limits::{LARGEST_INPUT, LONGEST_LINE, LineFault};
 pub use lines::{Fed, Lines};

@@ -3,7 +3,7 @@
 ghost use Rattle.std.specs.Prelude.{◌≡◌, ◌+◌, ◌-◌, ◌^◌, ◌<◌, ◌≤◌, ◌↔◌, [], ◌∷◌, ◌++◌, length, take, true, false, IsTrue, None, Some, IfSome, IfOk, IfErr, OnOk, if◌then◌else◌};
 ghost use Rattle.std.specs.Result.{result_err};
 ghost use Rattle.hu_lines.specs.Pieces.{has_line_feed, first_piece, pieces, without_last, line_of, lines};
-ghost use Rattle.hu_lines.specs.Limits.{limit_passed, refusal};
+ghost use Rattle.hu_lines.specs.Limits.{refusal, refusal_by_counts};
 ghost use Rattle.hu_lines.specs.Lines.{State, at_start, at_line, begun, grown, at_end, at_next_file, refusal_of, HasLine, IsHeld};
 
 use crate::limits::{LARGEST_INPUT, LONGEST_LINE, LineFault};
@@ -141,7 +141,7 @@ impl Lines {
     }
 
     /// Adds bytes to the line, for which there is room where they pass no limit.
-    #[tactic(auto, using(crate::proofs::lemmas::HeldLemmas::held_room))]
+    #[tactic(auto, using(crate::proofs::lemmas::HeldLemmas::kept_room))]
     fn grow(&mut self, taken: &[u8], whole: bool)
         requires begun { self.old.whole ≡ false }
         requires accepted { self.old.refused ≡ None }
@@ -204,7 +204,7 @@ impl Lines {
 fn limit_passed(number: u64, before: u64, body: u64, all: u64) -> Option<LineFault>
     requires within { before ≤ LARGEST_INPUT }
     requires fits { before + all < 2 ^ 64 }
-    ensures { result ≡ limit_passed LONGEST_LINE LARGEST_INPUT number before body all }
+    ensures { result ≡ refusal_by_counts 1048576 268435456 number before body all }
 {
     if body > LONGEST_LINE && before + LONGEST_LINE <= LARGEST_INPUT {
         Some(LineFault::LineTooLong { number })

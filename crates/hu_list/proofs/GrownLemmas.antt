@@ -15,7 +15,8 @@ use Rattle.hu_kind.specs.Database.{utility, support}
 use Rattle.hu_kind.specs.Order.{Ascend}
 use Rattle.hu_kind.specs.Record.{has, holds, value_of, values_of, items_in}
 use Rattle.hu_totals.specs.Ranked.{Ranking}
-use Rattle.hu_search.proofs.lemmas.Ascending.{each-weaker, each-left, each-right, each-append, Ascend-right}
+use Rattle.hu_kind.proofs.lemmas.Each.{each-weaker, each-left, each-right, each-append}
+use Rattle.hu_kind.proofs.lemmas.Ascending.{Ascend-right}
 use Rattle.hu_list.specs.Tails.{TailOf, earned, held, after, grown_at, grown, has_cells, size_of}
 use Rattle.hu_list.specs.View.{IsTail, AreTails}
 use Rattle.hu_list.specs.Level.{IsLeft, AreGrown}

@@ -14,7 +14,8 @@ use Rattle.hu_collect.specs.State.{State, floor_in}
 use Rattle.hu_search.specs.declared.child.Child.{Child}
 use Rattle.hu_search.specs.Growth.{rank_entry, InTable}
 use Rattle.hu_search.specs.Children.{IsChild, AreChildren, AreEnough, Counts, ranks_of}
-use Rattle.hu_search.proofs.lemmas.Ascending.{each-weaker, each-left, each-right, each-append, Ascend-right, Ascend-across}
+use Rattle.hu_kind.proofs.lemmas.Each.{each-weaker, each-left, each-right, each-append}
+use Rattle.hu_kind.proofs.lemmas.Ascending.{Ascend-right, Ascend-across}
 use Rattle.hu_list.specs.declared.sums.Sum.{Sum}
 use Rattle.hu_list.specs.Slots.{among, at}
 use Rattle.hu_list.specs.Tails.{TailOf, earned, held, gain_with}

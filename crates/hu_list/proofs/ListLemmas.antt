@@ -12,7 +12,7 @@ use Rattle.hu_totals.specs.Ranked.{Ranking, IsRanking}
 use Rattle.hu_list.specs.declared.list.Node.{Node}
 use Rattle.hu_list.specs.Nodes.{rest_after, node_of, nodes_from, list_of, weight_of, AreRanked}
 use Rattle.hu_list.specs.Bounds.{own_sum, bound_of, list_bound, BoundsGrown}
-use Rattle.hu_search.proofs.lemmas.Ascending.{each-ascending, Ascend-right, Ascend-across}
+use Rattle.hu_kind.proofs.lemmas.Ascending.{each-ascending, Ascend-right, Ascend-across}
 use Rattle.hu_list.proofs.SetLemmas.{positive_part-least, weight-within, values_of-after, holds-append, values_of-append, list_all-below}
 
 pub own_sum-nodes : (place : ℕ) (records : List (List (ℕ × ℤ))) (set : List ℕ) → own_sum (nodes_from place records set) ≡ utility records set

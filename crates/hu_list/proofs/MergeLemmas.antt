@@ -9,7 +9,7 @@ use Rattle.hu_kind.specs.Order.{Ascend}
 use Rattle.hu_list.specs.declared.list.Node.{Node}
 use Rattle.hu_list.specs.Nodes.{rest_after, node_of, nodes_from, list_of, weight_of}
 use Rattle.hu_list.specs.Joins.{from_place, first_own, joined_node, merged, nodes_before, Fits, AllFit, IsPrefix, Joins}
-use Rattle.hu_search.proofs.lemmas.Ascending.{each-ascending, Ascend-right}
+use Rattle.hu_kind.proofs.lemmas.Ascending.{each-ascending, Ascend-right}
 use Rattle.hu_list.proofs.SetLemmas.{weight-within, holds-append, values_of-append}
 use Rattle.hu_list.proofs.ListLemmas.{weight-list}
 

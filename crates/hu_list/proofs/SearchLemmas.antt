@@ -13,11 +13,11 @@ use Rattle.hu_collect.proofs.lemmas.Searching.{reached-rule, reached-floor, reac
 use Rattle.hu_search.specs.declared.child.Child.{Child}
 use Rattle.hu_search.specs.Growth.{rank_entry, Grows, InTable}
 use Rattle.hu_search.specs.Children.{IsChild, AreChildren, AreEnough, AreOpen, IsBarren, IsBound, Counts, ranks_of}
-use Rattle.hu_search.proofs.lemmas.Ascending.{each-left, each-right}
+use Rattle.hu_kind.proofs.lemmas.Each.{each-left, each-right}
 use Rattle.std.proofs.lemmas.List.Sums.{sum_by-cons}
 use Rattle.hu_kind.specs.Record.{items_in, holds, values_of, absolute_of}
 use Rattle.hu_totals.specs.Ranked.{IsRanking}
-use Rattle.hu_search.proofs.lemmas.Ascending.{each-ascending, each-in_range}
+use Rattle.hu_kind.proofs.lemmas.Ascending.{each-ascending, each-in_range}
 use Rattle.hu_list.specs.Tails.{TailOf, tail_from, earned, held, size_of}
 use Rattle.hu_list.specs.View.{IsTail}
 use Rattle.hu_list.specs.Level.{IsLeft, IsMost, IsLevel, AreChosen}

@@ -1,6 +1,6 @@
 -- Worked rows: lists of base A with the ranks of floor 30, by computation.
 use Rattle.std.specs.Prelude.{◌≡◌, ℕ, pos, List, [], ◌∷◌, refl}
-use Rattle.hu_kind.specs.Rows.{base_a}
+use Rattle.hu_kind.specs.Worked.{base_a}
 use Rattle.hu_totals.specs.Ranked.{ranked}
 use Rattle.hu_list.specs.declared.list.Node.{Node}
 use Rattle.hu_list.specs.Nodes.{list_of}

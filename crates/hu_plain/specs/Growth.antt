@@ -4,7 +4,7 @@ use Rattle.std.specs.Prelude.{◌≡◌, refl, ℕ, ◌+◌, ◌<◌, ℤ, pos, 
 use Rattle.std.specs.List.{count_by, AllByRecursion}
 use Rattle.hu_kind.specs.declared.entry.Entry.{Entry}
 use Rattle.hu_kind.specs.Sequence.{sequence_key}
-use Rattle.hu_kind.specs.Rows.{later_is_greatest, sequence_entry_of}
+use Rattle.hu_kind.specs.Worked.{later_is_greatest, sequence_entry_of}
 use Rattle.hu_kind.specs.Order.{Ascend}
 use Rattle.hu_plain.specs.declared.places.Step.{Step}
 use Rattle.hu_plain.specs.declared.places.Step.TheVariants.{Into, After}

@@ -5,7 +5,7 @@
 use Rattle.std.specs.Prelude.{◌≡◌, refl, ℕ, ◌+◌, ◌^◌, ◌<◌, max, Bool, true, false, ⊤, ℤ, pos, ◌+ℤ◌, unsigned_abs, Option, None, Some, option_map, option_to_list, List, [], ◌∷◌, map, if◌then◌else◌}
 use Rattle.std.specs.List.{filter, sum_by, AllByRecursion}
 use Rattle.hu_kind.specs.Record.{holds, values_of, items_in, absolute_of}
-use Rattle.hu_kind.specs.Rows.{later_is_greatest}
+use Rattle.hu_kind.specs.Worked.{later_is_greatest}
 use Rattle.hu_kind.specs.Sequence.{better, best_utility}
 use Rattle.hu_kind.specs.Order.{Ascend}
 use Rattle.hu_plain.specs.declared.places.Step.{Step}

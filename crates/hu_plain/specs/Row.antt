@@ -7,7 +7,7 @@ use Rattle.hu_kind.specs.Record.{holds, values_of, items_in, absolute_of}
 use Rattle.hu_kind.specs.Database.{support}
 use Rattle.hu_kind.specs.Itemsets.{occurring_sets}
 use Rattle.hu_kind.specs.Order.{Ascend}
-use Rattle.hu_kind.specs.Rows.{base_a, entry_of}
+use Rattle.hu_kind.specs.Worked.{base_a, entry_of}
 
 -- what a prefix and a set of later items earn in a row: 0 where its cells don't hold the set
 abbrev pub earned_in : List ℕ → ℤ × List (ℕ × ℤ) → ℤ

@@ -4,6 +4,7 @@ ghost use Rattle.std.specs.Prelude.{◌≡◌, [], ◌∷◌, ◌++◌, pos, IfO
 ghost use Rattle.hu_kind.specs.Itemsets.{item_patterns};
 ghost use Rattle.hu_base.specs.Base.{records_of};
 ghost use Rattle.hu_collect.specs.Rule.{made, IsKept, MakesSome};
+ghost use Rattle.hu_collect.specs.State.{Mines};
 ghost use Rattle.hu_plain.specs.Row.{grown_entry, grown_patterns, grown_rows, AreRows};
 ghost use Rattle.hu_plain.specs.Grown.{AreGrown};
 ghost use Rattle.hu_plain.specs.View.{rows_of};
@@ -24,9 +25,7 @@ pub fn mine_items<C: Collect>(
     base: &Base<Record>,
     collect: &mut C,
 ) -> Result<(), NoMemory>
-    ensures rule { C.rule collect.new ≡ C.rule collect.old }
-    ensures ok { OnOk result (C.content collect.new ≡ made (C.rule collect.old) (C.content collect.old) (item_patterns (records_of base.now))) }
-    ensures err { OnErr result (MakesSome (C.rule collect.old) (C.content collect.old) (item_patterns (records_of base.now)) (C.content collect.new)) }
+    ensures { Mines (C.state collect.old) (item_patterns (records_of base.now)) (C.state collect.new) result }
 {
     // These two tell the proof that the content is in order, and that no sum overflows.
     let _floor = collect.floor();
@@ -43,11 +42,11 @@ fn search<C: Collect>(
     collect: &mut C,
 ) -> Result<(), NoMemory>
     requires rows { AreRows (rows_of rows.now) }
-    requires kept { IsKept (C.rule collect.old) (C.content collect.old) }
-    ensures rule { C.rule collect.new ≡ C.rule collect.old }
+    requires kept { IsKept ((C.state collect.old).rule) ((C.state collect.old).content) }
+    ensures rule { (C.state collect.new).rule ≡ (C.state collect.old).rule }
     ensures prefix { OnOk result (prefix.new ≡ prefix.old) }
-    ensures ok { OnOk result (C.content collect.new ≡ made (C.rule collect.old) (C.content collect.old) (grown_patterns prefix.old (rows_of rows.now))) }
-    ensures err { OnErr result (MakesSome (C.rule collect.old) (C.content collect.old) (grown_patterns prefix.old (rows_of rows.now)) (C.content collect.new)) }
+    ensures ok { OnOk result ((C.state collect.new).content ≡ made ((C.state collect.old).rule) ((C.state collect.old).content) (grown_patterns prefix.old (rows_of rows.now))) }
+    ensures err { OnErr result (MakesSome ((C.state collect.old).rule) ((C.state collect.old).content) (grown_patterns prefix.old (rows_of rows.now)) ((C.state collect.new).content)) }
 {
     law_of_turns();
     law_of_members();
@@ -72,12 +71,12 @@ fn grow<'a, C: Collect>(
 ) -> Result<Vec<Row<'a>>, NoMemory>
     requires rows { AreRows (rows_of rows.now) }
     requires all { AreGrown (rows_of rows.now) all.now }
-    ensures rule { C.rule collect.new ≡ C.rule collect.old }
+    ensures rule { (C.state collect.new).rule ≡ (C.state collect.old).rule }
     ensures rows { IfOk result (λ grown. rows_of grown.items ≡ grown_rows item.0 (rows_of rows.now)) }
     ensures rules { IfOk result (λ grown. AreRows (rows_of grown.items)) }
     ensures prefix { OnOk result (prefix.new ≡ prefix.old ++ pos item.0 ∷ []) }
-    ensures ok { OnOk result (C.content collect.new ≡ made (C.rule collect.old) (C.content collect.old) (grown_entry (prefix.old ++ pos item.0 ∷ []) (grown_rows item.0 (rows_of rows.now)) [] ∷ [])) }
-    ensures err { OnErr result (C.content collect.new ≡ C.content collect.old) }
+    ensures ok { OnOk result ((C.state collect.new).content ≡ made ((C.state collect.old).rule) ((C.state collect.old).content) (grown_entry (prefix.old ++ pos item.0 ∷ []) (grown_rows item.0 (rows_of rows.now)) [] ∷ [])) }
+    ensures err { OnErr result ((C.state collect.new).content ≡ (C.state collect.old).content) }
 {
     let grown = grown_rows(alloc, all, item)?;
     prefix.push(i64::from(item.0))?;
@@ -93,9 +92,9 @@ fn offer<C: Collect>(
     collect: &mut C,
 ) -> Result<(), NoMemory>
     requires { AreRows (rows_of rows.now) }
-    ensures rule { C.rule collect.new ≡ C.rule collect.old }
-    ensures ok { OnOk result (C.content collect.new ≡ made (C.rule collect.old) (C.content collect.old) (grown_entry prefix.now (rows_of rows.now) [] ∷ [])) }
-    ensures err { OnErr result (C.content collect.new ≡ C.content collect.old) }
+    ensures rule { (C.state collect.new).rule ≡ (C.state collect.old).rule }
+    ensures ok { OnOk result ((C.state collect.new).content ≡ made ((C.state collect.old).rule) ((C.state collect.old).content) (grown_entry prefix.now (rows_of rows.now) [] ∷ [])) }
+    ensures err { OnErr result ((C.state collect.new).content ≡ (C.state collect.old).content) }
 {
     collect.offer(Entry {
         key: prefix.copy_in(alloc)?,

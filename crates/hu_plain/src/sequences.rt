@@ -4,6 +4,7 @@ ghost use Rattle.std.specs.Prelude.{◌≡◌, ℤ, List, [], ◌∷◌, OnOk, O
 ghost use Rattle.hu_kind.specs.Sequence.{sequence_patterns};
 ghost use Rattle.hu_base.specs.Base.{records_of};
 ghost use Rattle.hu_collect.specs.Rule.{made, IsKept, MakesSome};
+ghost use Rattle.hu_collect.specs.State.{Mines};
 ghost use Rattle.hu_plain.specs.Makes.{MakesAllOf, MakesSomeOf};
 ghost use Rattle.hu_plain.specs.Growth.{closed, prefix_entry, stepped_key, Grows};
 ghost use Rattle.hu_plain.specs.Place.{ArePlaces};
@@ -26,9 +27,7 @@ pub fn mine_sequences<C: Collect>(
     base: &Base<SeqRecord>,
     collect: &mut C,
 ) -> Result<(), NoMemory>
-    ensures rule { C.rule collect.new ≡ C.rule collect.old }
-    ensures ok { OnOk result (C.content collect.new ≡ made (C.rule collect.old) (C.content collect.old) (sequence_patterns (records_of base.now))) }
-    ensures err { OnErr result (MakesSome (C.rule collect.old) (C.content collect.old) (sequence_patterns (records_of base.now)) (C.content collect.new)) }
+    ensures { Mines (C.state collect.old) (sequence_patterns (records_of base.now)) (C.state collect.new) result }
 {
     // These tell the proof that the content is in order, that no sum overflows, and what collectors make of members.
     let _floor = collect.floor();
@@ -46,11 +45,11 @@ fn search<C: Collect>(
     collect: &mut C,
 ) -> Result<(), NoMemory>
     requires rows { ArePlaces (all_places rows.now) }
-    requires kept { IsKept (C.rule collect.old) (C.content collect.old) }
-    ensures rule { C.rule collect.new ≡ C.rule collect.old }
+    requires kept { IsKept ((C.state collect.old).rule) ((C.state collect.old).content) }
+    ensures rule { (C.state collect.new).rule ≡ (C.state collect.old).rule }
     ensures prefix { OnOk result (prefix.new ≡ prefix.old) }
-    ensures ok { OnOk result (MakesAllOf (C.rule collect.old) (C.content collect.old) (Grows prefix.old (all_places rows.now)) (C.content collect.new)) }
-    ensures err { OnErr result (MakesSomeOf (C.rule collect.old) (C.content collect.old) (Grows prefix.old (all_places rows.now)) (C.content collect.new)) }
+    ensures ok { OnOk result (MakesAllOf ((C.state collect.old).rule) ((C.state collect.old).content) (Grows prefix.old (all_places rows.now)) ((C.state collect.new).content)) }
+    ensures err { OnErr result (MakesSomeOf ((C.state collect.old).rule) ((C.state collect.old).content) (Grows prefix.old (all_places rows.now)) ((C.state collect.new).content)) }
 {
     law_of_turns();
     let steps = steps_of(alloc, rows)?;
@@ -72,10 +71,10 @@ fn grow<C: Collect>(
     collect: &mut C,
 ) -> Result<(), NoMemory>
     requires { ArePlaces (all_places rows.now) }
-    ensures rule { C.rule collect.new ≡ C.rule collect.old }
+    ensures rule { (C.state collect.new).rule ≡ (C.state collect.old).rule }
     ensures prefix { OnOk result (prefix.new ≡ stepped_key prefix.old step) }
-    ensures ok { OnOk result (C.content collect.new ≡ made (C.rule collect.old) (C.content collect.old) (prefix_entry (stepped_key prefix.old step) (all_places rows.now) ∷ [])) }
-    ensures err { OnErr result (C.content collect.new ≡ C.content collect.old) }
+    ensures ok { OnOk result ((C.state collect.new).content ≡ made ((C.state collect.old).rule) ((C.state collect.old).content) (prefix_entry (stepped_key prefix.old step) (all_places rows.now) ∷ [])) }
+    ensures err { OnErr result ((C.state collect.new).content ≡ (C.state collect.old).content) }
 {
     enter(prefix, step)?;
     offer(alloc, rows, prefix, collect)
@@ -89,9 +88,9 @@ fn offer<C: Collect>(
     collect: &mut C,
 ) -> Result<(), NoMemory>
     requires { ArePlaces (all_places rows.now) }
-    ensures rule { C.rule collect.new ≡ C.rule collect.old }
-    ensures ok { OnOk result (C.content collect.new ≡ made (C.rule collect.old) (C.content collect.old) (prefix_entry prefix.now (all_places rows.now) ∷ [])) }
-    ensures err { OnErr result (C.content collect.new ≡ C.content collect.old) }
+    ensures rule { (C.state collect.new).rule ≡ (C.state collect.old).rule }
+    ensures ok { OnOk result ((C.state collect.new).content ≡ made ((C.state collect.old).rule) ((C.state collect.old).content) (prefix_entry prefix.now (all_places rows.now) ∷ [])) }
+    ensures err { OnErr result ((C.state collect.new).content ≡ (C.state collect.old).content) }
 {
     let mut key = prefix.copy_in(alloc)?;
     close(&mut key)?;

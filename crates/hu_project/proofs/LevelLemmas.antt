@@ -13,7 +13,8 @@ use Rattle.hu_collect.specs.Rule.{Rule, floor_of}
 use Rattle.hu_rows.specs.Rows.{RowOf, over, count_over}
 use Rattle.hu_rows.specs.Bounds.{among, AreKept, BoundsEach}
 use Rattle.hu_search.specs.Growth.{Covers}
-use Rattle.hu_search.proofs.lemmas.Ascending.{each-append, each-get, Ascend-right, Ascend-push}
+use Rattle.hu_kind.proofs.lemmas.Ascending.{Ascend-right, Ascend-push}
+use Rattle.hu_kind.proofs.lemmas.Each.{each-append, each-get}
 use Rattle.hu_project.specs.declared.branches.Branches.{Branches}
 use Rattle.hu_project.specs.Level.{AreProjected, AreLater, AreBounded, AreReaching, IsLevel}
 use Rattle.hu_project.proofs.RankLemmas.{each-filter, each-drop, Ascend-filter, Ascend-drop, after-at, Ascend-range, range-below, among-member, length-filter, reaches, IsKeptSet-among}

@@ -14,7 +14,8 @@ use Rattle.hu_collect.specs.Makes.{MakesReaching, MakesSomeOf}
 use Rattle.hu_collect.proofs.lemmas.Turns.{MakesReaching-none, MakesSomeOf-then, empty-contains, kept-made}
 use Rattle.hu_rows.specs.Rows.{RowOf}
 use Rattle.hu_search.specs.Growth.{rank_entry, Grows, Covers}
-use Rattle.hu_search.proofs.lemmas.Ascending.{each-get, Ascend-right}
+use Rattle.hu_kind.proofs.lemmas.Ascending.{Ascend-right}
+use Rattle.hu_kind.proofs.lemmas.Each.{each-get}
 use Rattle.hu_search.proofs.lemmas.Beginnings.{Begins}
 use Rattle.hu_search.proofs.lemmas.SearchLemmas.{kept-offered, floor-offered, floor-upto, next-made, some-next, some-offered, some-upto, none-made, begins-grows, Covers-later, Covers-none, offered-below}
 use Rattle.hu_project.specs.declared.branches.Branches.{Branches}

@@ -32,11 +32,11 @@ use std::alloc::Global;
 /// stack. After want of memory some of the itemsets have been offered. After EFIM (Zida, Fournier-Viger, Lin, Wu and Tseng,
 /// 2015).
 pub fn mine<C: Collect>(alloc: Global, ranked: &Ranked, collect: &mut C) -> Result<(), NoMemory>
-    requires floor { ranked.now.floor ≤ℤ floor_of (C.rule collect.old) (C.content collect.old) }
-    requires rests { RestsOn (C.rule collect.old).table ranked.now.items }
-    ensures rule { C.rule collect.new ≡ C.rule collect.old }
-    ensures ok { OnOk result (C.content collect.new ≡ made (C.rule collect.old) (C.content collect.old) (item_patterns (unranked ranked.now))) }
-    ensures err { OnErr result (MakesSome (C.rule collect.old) (C.content collect.old) (item_patterns (unranked ranked.now)) (C.content collect.new)) }
+    requires floor { ranked.now.floor ≤ℤ floor_of ((C.state collect.old).rule) ((C.state collect.old).content) }
+    requires rests { RestsOn ((C.state collect.old).rule).table ranked.now.items }
+    ensures rule { (C.state collect.new).rule ≡ (C.state collect.old).rule }
+    ensures ok { OnOk result ((C.state collect.new).content ≡ made ((C.state collect.old).rule) ((C.state collect.old).content) (item_patterns (unranked ranked.now))) }
+    ensures err { OnErr result (MakesSome ((C.state collect.old).rule) ((C.state collect.old).content) (item_patterns (unranked ranked.now)) ((C.state collect.new).content)) }
 {
     // These tell the proof the rules of ranked records, and what collectors make of entries.
     let floor = collect.floor();
@@ -91,15 +91,15 @@ fn search<C: Collect>(
 ) -> Result<(), NoMemory>
     requires rules { IsRanking ranked.now }
     requires level { IsLevel ranked.now ranks.old.items rows.now branches.now }
-    requires covers { Covers (C.rule collect.old) (C.content collect.old) ranked.now ranks.old.items branches.now.ranks.items }
-    requires kept { IsKept (C.rule collect.old) (C.content collect.old) }
-    requires rests { RestsOn (C.rule collect.old).table ranked.now.items }
+    requires covers { Covers ((C.state collect.old).rule) ((C.state collect.old).content) ranked.now ranks.old.items branches.now.ranks.items }
+    requires kept { IsKept ((C.state collect.old).rule) ((C.state collect.old).content) }
+    requires rests { RestsOn ((C.state collect.old).rule).table ranked.now.items }
     requires bins { bins.old.ranks ≡ length ranked.now.items }
-    ensures rule { C.rule collect.new ≡ C.rule collect.old }
+    ensures rule { (C.state collect.new).rule ≡ (C.state collect.old).rule }
     ensures ranks { OnOk result (ranks.new.items ≡ ranks.old.items) }
     ensures bins { bins.new.ranks ≡ bins.old.ranks }
-    ensures ok { OnOk result (MakesReaching (C.rule collect.old) (C.content collect.old) (Grows ranked.now ranks.old.items) (C.content collect.new)) }
-    ensures err { OnErr result (MakesSomeOf (C.rule collect.old) (C.content collect.old) (Grows ranked.now ranks.old.items) (C.content collect.new)) }
+    ensures ok { OnOk result (MakesReaching ((C.state collect.old).rule) ((C.state collect.old).content) (Grows ranked.now ranks.old.items) ((C.state collect.new).content)) }
+    ensures err { OnErr result (MakesSomeOf ((C.state collect.old).rule) ((C.state collect.old).content) (Grows ranked.now ranks.old.items) ((C.state collect.new).content)) }
 {
     law_of_turns();
     law_of_floors();
@@ -126,16 +126,16 @@ fn visit<C: Collect>(
     requires rules { IsRanking ranked.now }
     requires within { at < length branches.now.ranks.items }
     requires level { IsLevel ranked.now ranks.old.items rows.now branches.now }
-    requires covers { Covers (C.rule collect.old) (C.content collect.old) ranked.now ranks.old.items branches.now.ranks.items }
-    requires kept { IsKept (C.rule collect.old) (C.content collect.old) }
-    requires rests { RestsOn (C.rule collect.old).table ranked.now.items }
+    requires covers { Covers ((C.state collect.old).rule) ((C.state collect.old).content) ranked.now ranks.old.items branches.now.ranks.items }
+    requires kept { IsKept ((C.state collect.old).rule) ((C.state collect.old).content) }
+    requires rests { RestsOn ((C.state collect.old).rule).table ranked.now.items }
     requires bins { bins.old.ranks ≡ length ranked.now.items }
-    ensures rule { C.rule collect.new ≡ C.rule collect.old }
+    ensures rule { (C.state collect.new).rule ≡ (C.state collect.old).rule }
     ensures ranks { OnOk result (ranks.new.items ≡ ranks.old.items) }
     ensures bins { bins.new.ranks ≡ bins.old.ranks }
-    ensures least { pos 1 ≤ℤ floor_of (C.rule collect.old) (C.content collect.old) }
-    ensures ok { OnOk result (MakesTurn (C.rule collect.old) (C.content collect.old) ranked.now (ranks.old.items ++ slice_index branches.now.ranks.items at ∷ []) (C.content collect.new)) }
-    ensures err { OnErr result (MakesSomeOf (C.rule collect.old) (C.content collect.old) (Grows ranked.now ranks.old.items) (C.content collect.new)) }
+    ensures least { pos 1 ≤ℤ floor_of ((C.state collect.old).rule) ((C.state collect.old).content) }
+    ensures ok { OnOk result (MakesTurn ((C.state collect.old).rule) ((C.state collect.old).content) ranked.now (ranks.old.items ++ slice_index branches.now.ranks.items at ∷ []) ((C.state collect.new).content)) }
+    ensures err { OnErr result (MakesSomeOf ((C.state collect.old).rule) ((C.state collect.old).content) (Grows ranked.now ranks.old.items) ((C.state collect.new).content)) }
 {
     law_of_turns();
     law_of_floors();
@@ -172,11 +172,11 @@ fn offer<C: Collect>(
     requires table { InTable ranked.now (ranks.now ++ rank ∷ []) }
     requires ascending { Ascend (ranks.now ++ rank ∷ []) }
     requires projected { AreProjected ranked.now (ranks.now ++ rank ∷ []) rows.now }
-    requires rests { RestsOn (C.rule collect.old).table ranked.now.items }
-    ensures rule { C.rule collect.new ≡ C.rule collect.old }
-    ensures ok { OnOk result (C.content collect.new ≡ made (C.rule collect.old) (C.content collect.old) (rank_entry ranked.now (ranks.now ++ rank ∷ []) ∷ [])) }
-    ensures opens { IfOk result (λ opens. opens ≡ false → (content : List Entry) → Covers (C.rule collect.old) content ranked.now (ranks.now ++ rank ∷ []) []) }
-    ensures err { OnErr result (C.content collect.new ≡ C.content collect.old) }
+    requires rests { RestsOn ((C.state collect.old).rule).table ranked.now.items }
+    ensures rule { (C.state collect.new).rule ≡ (C.state collect.old).rule }
+    ensures ok { OnOk result ((C.state collect.new).content ≡ made ((C.state collect.old).rule) ((C.state collect.old).content) (rank_entry ranked.now (ranks.now ++ rank ∷ []) ∷ [])) }
+    ensures opens { IfOk result (λ opens. opens ≡ false → (content : List Entry) → Covers ((C.state collect.old).rule) content ranked.now (ranks.now ++ rank ∷ []) []) }
+    ensures err { OnErr result ((C.state collect.new).content ≡ (C.state collect.old).content) }
 {
     law_of_low_entries();
     let key = key_of(alloc, ranked, ranks, rank)?;

@@ -4,4 +4,4 @@ pub mod View
 pub mod Sums
 pub mod Places
 pub mod Laws
-pub mod Rows
+pub mod Worked

@@ -1,3 +1,3 @@
 pub mod Text
 pub mod Page
-pub mod Rows
+pub mod Worked

@@ -1,15 +1,14 @@
 -- What goes out where bytes wait on a page until a sink takes them.
-use Rattle.std.specs.Prelude.{◌≡◌, ℕ, List, ◌++◌, Option, Result, OnOk, OnErr}
-use Rattle.std.specs.Io.KnownBytes.{Appends}
-use Rattle.hu_io.specs.Sink.{PutsAll}
+use Rattle.std.specs.Prelude.{◌≡◌, ℕ, List, ◌++◌, Result, MatchResult}
+use Rattle.hu_io.specs.State.{SinkState, Appended, Broke}
 
--- of what waited and then the text, a front was appended, and the rest waits
-pub record Forwards (old new : Option (List ℕ)) (waited waits text : List ℕ) : Type 0 where
+-- of what waited and then the text, a front went out, and the rest waits
+pub record Forwards (old new : SinkState) (waited waits text : List ℕ) : Type 0 where
   pub front : List ℕ
-  pub appended : Appends old new front
+  pub appended : Appended old new front
   pub whole : front ++ waits ≡ waited ++ text
 
--- Ok forwards the text, and a failure left some of it, or of what waited, out at the end
-pub record Passes {E : Type 0} (old new : Option (List ℕ)) (result : Result (Unit {0}) E) (waited waits text : List ℕ) : Type 0 where
-  pub ok : OnOk result (Forwards old new waited waits text)
-  pub failed : OnErr result (PutsAll old new result (waited ++ text))
+-- Ok forwards the text, and after Failed a proper front of what waited and then the text went out
+abbrev pub Passes : {E : Type 0} → SinkState → SinkState → Result (Unit {0}) E → List ℕ → List ℕ → List ℕ → Type 0
+Passes old new result waited waits text =
+    MatchResult result (λ _. Forwards old new waited waits text) (λ _. Broke old new (waited ++ text))

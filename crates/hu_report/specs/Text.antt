@@ -10,6 +10,10 @@ use Rattle.hu_kind.specs.declared.task.Task.TheVariants.{Items, Closed, Sequence
 abbrev pub key_text : List ℤ → List ℕ
 key_text key = join_by signed_decimal (codes " ") key
 
+-- numbers, with one space before each
+abbrev pub spaced_text : List ℤ → List ℕ
+spaced_text numbers = flat_map (λ n. codes " " ++ signed_decimal n) numbers
+
 -- the support
 abbrev pub support_text : ℕ → List ℕ
 support_text support = codes " #SUP: " ++ decimal support

@@ -2,8 +2,7 @@
 
 ghost use Rattle.std.specs.Prelude.{◌≡◌, ◌≤◌, [], ◌+◌, ◌++◌, length, OnOk};
 ghost use Rattle.std.specs.Fmt.{signed_decimal};
-ghost use Rattle.hu_io.specs.Count.{HasCause};
-ghost use Rattle.hu_io.specs.Sink.{PutsAll};
+ghost use Rattle.hu_io.specs.State.{PutsAll};
 ghost use Rattle.hu_report.specs.Page.{Passes};
 
 use hu_io::{Failed, Sink, put_all};
@@ -44,10 +43,8 @@ impl Page {
 
     /// Puts all that waits. What waits after a failure is open.
     pub fn flush<S: Sink>(&mut self, sink: &mut S) -> Result<(), Failed>
-        ensures bytes { PutsAll (S.bytes sink.old) (S.bytes sink.new) result self.old }
+        ensures puts { PutsAll (S.state sink.old) (S.state sink.new) result self.old }
         ensures empty { OnOk result (self.new ≡ []) }
-        ensures plan { S.plan sink.new ≡ S.plan sink.old }
-        ensures cause { HasCause (S.faults sink.old) (S.faults sink.new) result }
     {
         put_all(sink, &self.bytes[..self.len])?;
         self.len = 0;
@@ -67,10 +64,7 @@ impl Page {
     /// Has the bytes wait. Where they have no room, what waits is put before. What waits after a failure is open.
     pub fn push<S: Sink>(&mut self, bytes: &[u8], sink: &mut S) -> Result<(), Failed>
         requires { length bytes.now ≤ PAGE_LEN }
-        ensures bytes { Passes (S.bytes sink.old) (S.bytes sink.new) result
-            self.old self.new bytes.now }
-        ensures plan { S.plan sink.new ≡ S.plan sink.old }
-        ensures cause { HasCause (S.faults sink.old) (S.faults sink.new) result }
+        ensures { Passes (S.state sink.old) (S.state sink.new) result self.old self.new bytes.now }
     {
         if PAGE_LEN - self.len < bytes.len() {
             self.flush(sink)?;
@@ -81,10 +75,8 @@ impl Page {
 
     /// Has the decimal of a number wait.
     pub fn push_number<S: Sink>(&mut self, n: i128, sink: &mut S) -> Result<(), Failed>
-        ensures bytes { Passes (S.bytes sink.old) (S.bytes sink.new) result
+        ensures { Passes (S.state sink.old) (S.state sink.new) result
             self.old self.new (signed_decimal n) }
-        ensures plan { S.plan sink.new ≡ S.plan sink.old }
-        ensures cause { HasCause (S.faults sink.old) (S.faults sink.new) result }
     {
         self.push(Buffer::new().format(n).as_bytes(), sink)
     }
@@ -92,10 +84,8 @@ impl Page {
     /// Has a label wait, and after it the decimal of a number.
     pub fn push_field<S: Sink>(&mut self, label: &[u8], n: i128, sink: &mut S) -> Result<(), Failed>
         requires { length label.now ≤ PAGE_LEN }
-        ensures bytes { Passes (S.bytes sink.old) (S.bytes sink.new) result
+        ensures { Passes (S.state sink.old) (S.state sink.new) result
             self.old self.new (label.now ++ signed_decimal n) }
-        ensures plan { S.plan sink.new ≡ S.plan sink.old }
-        ensures cause { HasCause (S.faults sink.old) (S.faults sink.new) result }
     {
         self.push(label, sink)?;
         self.push_number(n, sink)

@@ -102,7 +102,7 @@ fn lines(rt: HostRuntime) -> Result<(), Fail> {
     Ok(())
 }
 
-// The second put of a text of 6,008 bytes fails.
+// The second put of a text of 6,009 bytes fails.
 #[test]
 fn pieces(rt: HostRuntime) -> Result<(), Fail> {
     let entries = entries_of(rt.alloc(), &[(&[1; 3000], 1, 1)])?;

@@ -1,11 +1,9 @@
 //! Lines of entries.
 
-ghost use Rattle.std.specs.Prelude.{◌≡◌, [], ◌++◌, codes, flat_map};
-ghost use Rattle.std.specs.Fmt.{signed_decimal};
-ghost use Rattle.hu_io.specs.Count.{HasCause};
-ghost use Rattle.hu_io.specs.Sink.{PutsAll};
+ghost use Rattle.std.specs.Prelude.{◌≡◌, []};
+ghost use Rattle.hu_io.specs.State.{PutsAll};
 ghost use Rattle.hu_report.specs.Page.{Passes};
-ghost use Rattle.hu_report.specs.Text.{answer_text, closed_line, item_line, key_text, line_of, utility_text};
+ghost use Rattle.hu_report.specs.Text.{answer_text, closed_line, item_line, key_text, line_of, spaced_text, utility_text};
 
 use crate::page::Page;
 use hu_io::{Failed, Sink};
@@ -14,9 +12,8 @@ use hu_kind::{Entry, Task};
 /// Writes a line for each entry, in order. It takes no memory, and puts some 4,096 bytes at a time. A failure leaves a
 /// proper front of the text put. Where there is no entry, the sink isn't called.
 pub fn write_entries<S: Sink>(entries: &[Entry], task: Task, sink: &mut S) -> Result<(), Failed>
-    ensures bytes { PutsAll (S.bytes sink.old) (S.bytes sink.new) result (answer_text task entries.now) }
-    ensures plan { S.plan sink.new ≡ S.plan sink.old }
-    ensures cause { HasCause (S.faults sink.old) (S.faults sink.new) result }
+    ensures puts { PutsAll (S.state sink.old) (S.state sink.new) result
+        (answer_text task entries.now) }
     ensures none { entries.now ≡ [] → sink.new ≡ sink.old }
 {
     if entries.is_empty() {
@@ -35,10 +32,8 @@ fn push_line<S: Sink>(
     page: &mut Page,
     sink: &mut S,
 ) -> Result<(), Failed>
-    ensures bytes { Passes (S.bytes sink.old) (S.bytes sink.new) result
+    ensures { Passes (S.state sink.old) (S.state sink.new) result
         page.old page.new (line_of task entry.now) }
-    ensures plan { S.plan sink.new ≡ S.plan sink.old }
-    ensures cause { HasCause (S.faults sink.old) (S.faults sink.new) result }
 {
     match task {
         Task::Items | Task::Sequences => push_item_line(entry, page, sink),
@@ -47,20 +42,16 @@ fn push_line<S: Sink>(
 }
 
 fn push_item_line<S: Sink>(entry: &Entry, page: &mut Page, sink: &mut S) -> Result<(), Failed>
-    ensures bytes { Passes (S.bytes sink.old) (S.bytes sink.new) result
+    ensures { Passes (S.state sink.old) (S.state sink.new) result
         page.old page.new (item_line entry.now) }
-    ensures plan { S.plan sink.new ≡ S.plan sink.old }
-    ensures cause { HasCause (S.faults sink.old) (S.faults sink.new) result }
 {
     push_key(entry.key.numbers(), page, sink)?;
     push_utility(entry.utility, page, sink)
 }
 
 fn push_closed_line<S: Sink>(entry: &Entry, page: &mut Page, sink: &mut S) -> Result<(), Failed>
-    ensures bytes { Passes (S.bytes sink.old) (S.bytes sink.new) result
+    ensures { Passes (S.state sink.old) (S.state sink.new) result
         page.old page.new (closed_line entry.now) }
-    ensures plan { S.plan sink.new ≡ S.plan sink.old }
-    ensures cause { HasCause (S.faults sink.old) (S.faults sink.new) result }
 {
     push_key(entry.key.numbers(), page, sink)?;
     page.push_field(b" #SUP: ", i128::from(entry.support), sink)?;
@@ -68,20 +59,16 @@ fn push_closed_line<S: Sink>(entry: &Entry, page: &mut Page, sink: &mut S) -> Re
 }
 
 fn push_utility<S: Sink>(utility: i128, page: &mut Page, sink: &mut S) -> Result<(), Failed>
-    ensures bytes { Passes (S.bytes sink.old) (S.bytes sink.new) result
+    ensures { Passes (S.state sink.old) (S.state sink.new) result
         page.old page.new (utility_text utility) }
-    ensures plan { S.plan sink.new ≡ S.plan sink.old }
-    ensures cause { HasCause (S.faults sink.old) (S.faults sink.new) result }
 {
     page.push_field(b" #UTIL: ", utility, sink)?;
     page.push(b"\n", sink)
 }
 
 fn push_key<S: Sink>(numbers: &[i64], page: &mut Page, sink: &mut S) -> Result<(), Failed>
-    ensures bytes { Passes (S.bytes sink.old) (S.bytes sink.new) result
+    ensures { Passes (S.state sink.old) (S.state sink.new) result
         page.old page.new (key_text numbers.now) }
-    ensures plan { S.plan sink.new ≡ S.plan sink.old }
-    ensures cause { HasCause (S.faults sink.old) (S.faults sink.new) result }
 {
     let Some((first, others)) = numbers.split_first() else {
         return Ok(());
@@ -92,10 +79,8 @@ fn push_key<S: Sink>(numbers: &[i64], page: &mut Page, sink: &mut S) -> Result<(
 
 // The numbers, with a space before each.
 fn push_spaced<S: Sink>(numbers: &[i64], page: &mut Page, sink: &mut S) -> Result<(), Failed>
-    ensures bytes { Passes (S.bytes sink.old) (S.bytes sink.new) result
-        page.old page.new (flat_map (λ n. codes " " ++ signed_decimal n) numbers.now) }
-    ensures plan { S.plan sink.new ≡ S.plan sink.old }
-    ensures cause { HasCause (S.faults sink.old) (S.faults sink.new) result }
+    ensures { Passes (S.state sink.old) (S.state sink.new) result
+        page.old page.new (spaced_text numbers.now) }
 {
     for number in numbers {
         page.push_field(b" ", i128::from(*number), sink)?;

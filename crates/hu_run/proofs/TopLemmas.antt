@@ -10,7 +10,7 @@ use Rattle.hu_run.specs.declared.words.WordFault.{WordFault}
 use Rattle.hu_run.specs.declared.stop.Stop.{Stop}
 use Rattle.hu_run.specs.declared.stop.Stop.TheVariants.{Words, Refused, ReadFailed, WriteFailed, NoMemory}
 use Rattle.hu_run.specs.Words.{Mining}
-use Rattle.hu_run.specs.Input.{Refusal, Unread, refused_line, missing_file}
+use Rattle.hu_input.specs.Input.{Refusal, Unread, refused_line, missing_file}
 use Rattle.hu_run.specs.Stop.{status_of, stop_line, told_line, word_text, refusal_line, read_failed_line}
 use Rattle.hu_run.specs.Run.{Ends, Accepts, HasRefused, FailsReading, NoneRose, Refuses, Writes, LacksFile, output, OfRefusedLine, OfMissingFile}
 

@@ -1,11 +1,5 @@
-pub mod Words
-pub mod Jobs
-pub mod Input
-pub mod Intake
-pub mod Reading
-pub mod Formats
-pub mod Part
-pub mod Reason
+pub mod Job
+pub mod Drill
+pub mod Ending
 pub mod Stop
-pub mod Start
 pub mod Run

@@ -1,114 +1,94 @@
--- What a run does with its words, files and streams.
-use Rattle.std.specs.Prelude.{◌≡◌, ℕ, ◌<◌, ℤ, Option, Some, Result, Ok, Err, List, length, take, slice_get, IsOk, IsOkAnd, IsErrAnd, IsSomeAnd, IfSome, ⊤}
-use Rattle.std.specs.Result.{result_map_both}
-use Rattle.std.specs.List.{Contains, sum_by}
-use Rattle.std.specs.Io.KnownBytes.{Appends}
-use Rattle.hu_kind.specs.declared.entry.Entry.{Entry}
-use Rattle.hu_kind.specs.declared.task.Task.{Task}
-use Rattle.hu_kind.specs.declared.task.Task.TheVariants.{Items, Closed, Sequences}
-use Rattle.hu_kind.specs.Answer.{item_answer, closed_answer, sequence_answer}
-use Rattle.hu_kind.specs.Record.{absolute_of}
+-- What a run promises of its words, files and streams.
+use Rattle.std.specs.Prelude.{◌≡◌, ◌≢◌, ◌↔◌, ◌⊎◌, ℕ, ◌≤◌, Some, List, take, slice_get, codes, IsOkAnd, IsErr, IfErr, IsSomeAnd, IfSome, ⊤}
+use Rattle.std.specs.List.{Contains}
 use Rattle.hu_io.specs.Count.{Rose}
-use Rattle.hu_report.specs.Text.{answer_text}
-use Rattle.hu_run.specs.Words.{Mining}
+use Rattle.hu_io.specs.State.{SinkState, FilesState, Appended, Broke}
+use Rattle.hu_input.specs.Input.{Refusal}
 use Rattle.hu_run.specs.declared.words.WordFault.{WordFault}
-use Rattle.hu_run.specs.Formats.{transaction_reading, sequence_reading}
-use Rattle.hu_run.specs.Input.{Refusal, Unread, refused_line, missing_file, input}
-use Rattle.hu_run.specs.declared.stop.Stop.{Stop}
-use Rattle.hu_run.specs.declared.stop.Stop.TheVariants.{Words, Refused, ReadFailed, WriteFailed, NoMemory}
+use Rattle.hu_run.specs.Job.{Asked, job, names_of}
+use Rattle.hu_run.specs.Ending.{Ending, writes, refuses, lacks, ending, status_of}
+use Rattle.hu_run.specs.Stop.{told_line, word_text, refusal_line, read_failed_line}
 
--- the input of the named files, read as transactions: all of them as one list, or what keeps a job from them
-abbrev pub transactions : (List ℕ → Option (List ℕ)) → List (List ℕ) → Result (List (List (ℕ × ℤ))) Unread
-transactions contents names = input transaction_reading absolute_of contents names
+-- a run's words, and its files and streams before and after it
+pub record Streams : Type 0 where
+  pub words : List (List ℕ)
+  pub files : FilesState
+  pub files_after : FilesState
+  pub out : SinkState
+  pub out_after : SinkState
+  pub err : SinkState
+  pub err_after : SinkState
 
--- the input of the named files, read as sequences
-abbrev pub sequences : (List ℕ → Option (List ℕ)) → List (List ℕ) → Result (List (List (List (ℕ × ℤ)))) Unread
-sequences contents names = input sequence_reading (λ elements. sum_by absolute_of elements) contents names
+-- a line was told on `err`: it was appended, or a proper front of it was and the count rose
+abbrev pub Tells : Streams → List ℕ → Type 0
+Tells s line = Appended s.err s.err_after line ⊎ Broke s.err s.err_after line
 
--- what an input is made into, where there is one
-abbrev pub answered : {R A : Type 0} → (R → A) → Result R Unread → Result A Unread
-answered make found = result_map_both make (λ unread. unread) found
+-- the words are a job, and where its contents are told this is so of what it comes to
+abbrev pub ComesTo : Streams → (Ending → Type 0) → Type 0
+ComesTo s fact = IsOkAnd (job s.words) (λ asked. IfSome (ending asked s.files.contents (names_of asked s.words)) fact)
 
--- the answer of a task to all records of the named files, or what keeps a job from them
-abbrev pub task_answer : Task → ℤ → Option ℕ → (List ℕ → Option (List ℕ)) → List (List ℕ) → Result (List Entry) Unread
-task_answer Items least top contents names = answered (λ records. item_answer records least top) (transactions contents names)
-task_answer Closed least top contents names = answered (λ records. closed_answer records least top) (transactions contents names)
-task_answer Sequences least top contents names = answered (λ records. sequence_answer records least top) (sequences contents names)
+-- the words are a job, its contents are told, and this is so of what it comes to
+abbrev pub IsToldToComeTo : Streams → (Ending → Type 0) → Type 0
+IsToldToComeTo s fact = IsOkAnd (job s.words) (λ asked. IsSomeAnd (ending asked s.files.contents (names_of asked s.words)) fact)
 
--- the text that a job writes: that of its answer; or what keeps it from that
-abbrev pub output : Mining → (List ℕ → Option (List ℕ)) → List (List ℕ) → Result (List ℕ) Unread
-output mining contents names = answered (answer_text mining.task) (task_answer mining.task mining.least mining.top contents names)
+-- the ending is a text, and this is so of it
+abbrev pub Writing : (List ℕ → Type 0) → Ending → Type 0
+Writing fact (writes text) = fact text
+Writing fact (refuses name refusal) = ⊥
+Writing fact (lacks name) = ⊥
 
--- where the contents are told, every named file is there, every line is accepted, and the whole text was appended
-abbrev pub Writes : Mining → Option (List ℕ → Option (List ℕ)) → List (List ℕ) → Option (List ℕ) → Option (List ℕ) → Type 0
-Writes mining contents names old new = IfSome contents (λ told. IsOkAnd (output mining told names) (λ text. Appends old new text))
+-- the ending is a file that isn't there
+abbrev pub Lacking : Ending → Type 0
+Lacking (writes text) = ⊥
+Lacking (refuses name refusal) = ⊥
+Lacking (lacks name) = ⊤
 
--- the same, but for a proper front of the text
-abbrev pub WritesFront : Mining → Option (List ℕ → Option (List ℕ)) → List (List ℕ) → Option (List ℕ) → Option (List ℕ) → Type 0
-WritesFront mining contents names old new = IfSome contents (λ told. IsOkAnd (output mining told names) (λ text. (k : ℕ) × (k < length text) × Appends old new (take k text)))
+-- a line of a named file was told, and where the contents are told it is the first that is refused
+abbrev pub TellsRefused : Streams → Asked → Type 0
+TellsRefused s asked = (name : List ℕ) × (refusal : Refusal) × Contains (names_of asked s.words) name
+    × IfSome (ending asked s.files.contents (names_of asked s.words)) (λ e. e ≡ refuses name refusal)
+    × Tells s (refusal_line name refusal.number refusal.reason)
 
--- a fact of the refused line that keeps a job from its records
-abbrev pub OfRefusedLine : Unread → (List ℕ → Refusal → Type 0) → Type 0
-OfRefusedLine (refused_line name refusal) fact = fact name refusal
-OfRefusedLine (missing_file name) fact = ⊥
+-- a named file was told whose count rose, and where the contents are told every file before its place was accepted
+abbrev pub TellsUnread : Streams → Asked → Type 0
+TellsUnread s asked = (i : ℕ) × (name : List ℕ) × (slice_get (names_of asked s.words) i ≡ Some name)
+    × Rose (s.files.faults name) (s.files_after.faults name)
+    × IfSome (ending asked s.files.contents (take i (names_of asked s.words))) (Writing (λ text. ⊤))
+    × Tells s (read_failed_line name)
 
--- where the contents are told, the first refused line is there, and this is so of it
-abbrev pub Refuses : Mining → Option (List ℕ → Option (List ℕ)) → List (List ℕ) → (List ℕ → Refusal → Type 0) → Type 0
-Refuses mining contents names fact = IfSome contents (λ told. IsErrAnd (output mining told names) (λ unread. OfRefusedLine unread fact))
+-- no count of a named file or of `out` rose
+pub record Unharmed (s : Streams) : Type 0 where
+  pub files : IsOkAnd (job s.words) (λ asked. (name : List ℕ) → Contains (names_of asked s.words) name → ¬ Rose (s.files.faults name) (s.files_after.faults name))
+  pub out : ¬ Rose s.out.faults s.out_after.faults
 
--- a read failed of a named file whose count rose, and where the contents are told every file before its place was accepted
-abbrev pub FailsReading : Mining → Option (List ℕ → Option (List ℕ)) → (List ℕ → ℕ) → (List ℕ → ℕ) → List (List ℕ) → List ℕ → Type 0
-FailsReading mining contents before now names name = (i : ℕ) × (slice_get names i ≡ Some name) × Rose (before name) (now name)
-    × IfSome contents (λ told. IsOk (output mining told (take i names)))
-
--- why a job came to no answer
-abbrev pub StopsMining : Mining → Option (List ℕ → Option (List ℕ)) → (List ℕ → ℕ) → (List ℕ → ℕ) → List (List ℕ) → Stop → Type 0
-StopsMining mining contents before now names (Words fault) = ⊥
-StopsMining mining contents before now names (Refused name number reason) = Refuses mining contents names (λ n refusal. (n ≡ name.now) × (refusal ≡ record { number = number; reason = reason }))
-StopsMining mining contents before now names (ReadFailed name) = FailsReading mining contents before now names name.now
-StopsMining mining contents before now names WriteFailed = ⊥
-StopsMining mining contents before now names NoMemory = ⊤
-
--- where the contents are told, the entries are the answer of a job to its files
-abbrev pub Answers : Mining → Option (List ℕ → Option (List ℕ)) → List (List ℕ) → List Entry → Type 0
-Answers mining contents names entries = IfSome contents (λ told. task_answer mining.task mining.least mining.top told names ≡ Ok entries)
-
--- how an attempt ended, and why
-abbrev pub Ends : Result Mining WordFault → Option (List ℕ → Option (List ℕ)) → (List ℕ → ℕ) → (List ℕ → ℕ) → List (List ℕ)
-    → Option (List ℕ) → Option (List ℕ) → ℕ → ℕ → Result (Unit {0}) Stop → Type 0
-Ends job contents before now names old new faults faults_now (Ok _) = IsOkAnd job (λ mining. Writes mining contents names old new)
-Ends job contents before now names old new faults faults_now (Err (Words fault)) = job ≡ Err fault
-Ends job contents before now names old new faults faults_now (Err (Refused name number reason)) = IsOkAnd job (λ mining. StopsMining mining contents before now names (Refused name number reason))
-Ends job contents before now names old new faults faults_now (Err (ReadFailed name)) = IsOkAnd job (λ mining. StopsMining mining contents before now names (ReadFailed name))
-Ends job contents before now names old new faults faults_now (Err WriteFailed) = Rose faults faults_now × IsOkAnd job (λ mining. WritesFront mining contents names old new)
-Ends job contents before now names old new faults faults_now (Err NoMemory) = IsOk job
-
--- unless the answer was begun, `out` is as before
-abbrev pub KeepsOut : {A : Type 0} → Result (Unit {0}) Stop → A → A → Type 0
-KeepsOut (Ok _) old new = ⊤
-KeepsOut (Err WriteFailed) old new = ⊤
-KeepsOut (Err (Words fault)) old new = new ≡ old
-KeepsOut (Err (Refused name number reason)) old new = new ≡ old
-KeepsOut (Err (ReadFailed name)) old new = new ≡ old
-KeepsOut (Err NoMemory) old new = new ≡ old
-
--- the count of no named file rose
-abbrev pub NoneRose : (List ℕ → ℕ) → (List ℕ → ℕ) → List (List ℕ) → Type 0
-NoneRose before now names = (name : List ℕ) → Contains names name → ¬ Rose (before name) (now name)
-
--- the contents are told, every named file is there, and every line of theirs is accepted
-abbrev pub Accepts : Mining → Option (List ℕ → Option (List ℕ)) → List (List ℕ) → Type 0
-Accepts mining contents names = IsSomeAnd contents (λ told. IsOk (output mining told names))
-
--- the contents are told, and a line of theirs is refused before any file is missing
-abbrev pub HasRefused : Mining → Option (List ℕ → Option (List ℕ)) → List (List ℕ) → Type 0
-HasRefused mining contents names = IsSomeAnd contents (λ told. IsErrAnd (output mining told names) (λ unread. OfRefusedLine unread (λ _ _. ⊤)))
-
--- a fact of the missing file that keeps a job from its records
-abbrev pub OfMissingFile : Unread → (List ℕ → Type 0) → Type 0
-OfMissingFile (refused_line name refusal) fact = ⊥
-OfMissingFile (missing_file name) fact = fact name
-
--- the contents are told, and a file is missing before any line is refused
-abbrev pub LacksFile : Mining → Option (List ℕ → Option (List ℕ)) → List (List ℕ) → Type 0
-LacksFile mining contents names = IsSomeAnd contents (λ told. IsErrAnd (output mining told names) (λ unread. OfMissingFile unread (λ _. ⊤)))
+-- what a run promises of its status
+pub record Runs (s : Streams) (status : ℕ) : Type 0 where
+  pub within : status ≤ 5
+  -- done: the whole text was appended
+  pub done : status ≡ 0 → ComesTo s (Writing (Appended s.out s.out_after))
+  -- a refused line: it is the first one, and the one that is told
+  pub refused : status ≡ 1 → IsOkAnd (job s.words) (TellsRefused s)
+  -- refused words: exactly where they are no job
+  pub no_job : (status ≡ 2) ↔ IsErr (job s.words)
+  pub no_job_told : IfErr (job s.words) (λ fault. Tells s (told_line (word_text fault)))
+  -- a failed read of a named file
+  pub unread : status ≡ 3 → IsOkAnd (job s.words) (TellsUnread s)
+  -- a failed write: a proper front of the text was appended
+  pub broken : status ≡ 4 → ComesTo s (Writing (Broke s.out s.out_after))
+  pub broken_rose : status ≡ 4 → Rose s.out.faults s.out_after.faults
+  pub broken_told : status ≡ 4 → Tells s (told_line (codes "write failed"))
+  pub memory_told : status ≡ 5 → Tells s (told_line (codes "out of memory"))
+  -- where no count rose the status is that of the ending, or want of memory; a missing file raises its own count
+  pub complete : IsToldToComeTo s (λ e. Unharmed s → (status ≡ status_of e) ⊎ (status ≡ 5))
+  pub lacking : IsToldToComeTo s (λ e. Lacking e → (status ≡ 3) ⊎ (status ≡ 5))
+  -- counts rise only where the status says so, and never fall
+  pub files_same : status ≢ 3 → s.files_after ≡ s.files
+  pub files_later : (name : List ℕ) → s.files.faults name ≤ s.files_after.faults name
+  pub out_same : status ≢ 4 → s.out_after.faults ≡ s.out.faults
+  pub out_later : s.out.faults ≤ s.out_after.faults
+  pub err_later : s.err.faults ≤ s.err_after.faults
+  -- what no run changes
+  pub contents : s.files_after.contents ≡ s.files.contents
+  pub files_plan : s.files_after.plan ≡ s.files.plan
+  pub out_plan : s.out_after.plan ≡ s.out.plan
+  pub err_plan : s.err_after.plan ≡ s.err.plan

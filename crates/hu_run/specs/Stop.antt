@@ -1,11 +1,11 @@
 -- Why a run stops short of its answer: the status, and the line that tells of it.
 use Rattle.std.specs.Prelude.{ℕ, List, [], ◌∷◌, codes, decimal}
-use Rattle.hu_run.specs.declared.reason.Reason.{Reason}
-use Rattle.hu_run.specs.Reason.{joined, reason_text}
+use Rattle.hu_input.specs.declared.reason.Reason.{Reason}
+use Rattle.hu_input.specs.Reason.{joined, reason_text}
 use Rattle.hu_run.specs.declared.words.WordFault.{WordFault}
 use Rattle.hu_run.specs.declared.words.WordFault.TheVariants as word
-use Rattle.hu_run.specs.declared.input.InputStop.{InputStop}
-use Rattle.hu_run.specs.declared.input.InputStop.TheVariants as input
+use Rattle.hu_input.specs.declared.input.InputStop.{InputStop}
+use Rattle.hu_input.specs.declared.input.InputStop.TheVariants as input
 use Rattle.hu_run.specs.declared.stop.Stop.{Stop}
 use Rattle.hu_run.specs.declared.stop.Stop.TheVariants.{Words, Refused, ReadFailed, WriteFailed, NoMemory}
 

@@ -1,7 +1,7 @@
 //! Why a run stops short of its answer.
 
 ghost use Rattle.std.specs.Prelude.{◌≡◌};
-ghost use Rattle.hu_run.specs.Part.{Tells};
+ghost use Rattle.hu_input.specs.Part.{Tells};
 ghost use Rattle.hu_run.specs.Stop.{status_of, stop_line, told_line, refusal_line, word_text};
 
 use crate::input::InputStop;

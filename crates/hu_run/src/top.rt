@@ -2,7 +2,7 @@
 
 ghost use Rattle.std.specs.Prelude.{◌≡◌, ◌≢◌, ◌↔◌, ◌≤◌, ◌≤ℤ◌, ◌⊎◌, ℕ, List, pos, true, codes, IsErr, IsOkAnd, IfOk, IfErr, IfSome};
 ghost use Rattle.hu_io.specs.Count.{Rose};
-ghost use Rattle.hu_run.specs.Part.{Tells};
+ghost use Rattle.hu_input.specs.Part.{Tells};
 ghost use Rattle.hu_run.specs.Words.{job, texts_of, names_of, is_built};
 ghost use Rattle.hu_run.specs.Jobs.{mining_of, files_of};
 ghost use Rattle.hu_run.specs.Run.{Ends, Answers, StopsMining, KeepsOut, Refuses, Writes, WritesFront, FailsReading, Accepts, HasRefused, LacksFile, NoneRose};

@@ -19,7 +19,8 @@ use Rattle.hu_kind.proofs.lemmas.Occurring.{at_member, Ascend-ranking, Member-ra
 use Rattle.hu_totals.specs.Ranked.{Ranking, IsRanking, unranked, item_at}
 use Rattle.hu_totals.proofs.lemmas.SortedLists.{Once, Member-from_ranking, ranking-members}
 use Rattle.hu_search.specs.Growth.{rank_entry, Grows, InTable}
-use Rattle.hu_search.proofs.lemmas.Ascending.{each-in_range, each-weaker}
+use Rattle.hu_kind.proofs.lemmas.Ascending.{each-in_range}
+use Rattle.hu_kind.proofs.lemmas.Each.{each-weaker}
 use Rattle.hu_search.proofs.KeyLemmas.{items_at, Once-items_at}
 
 -- ---- putting a list in order changes neither what holds it nor what it earns

@@ -1,7 +1,7 @@
 -- The first fault of a line, and what stands where a check finds none.
 use Rattle.std.proofs.Common.{◌≡◌, ℕ, ◌+◌, ◌-◌, ◌^◌, ◌<◌, ◌≤◌, ℤ, pos, int_lt, nat_lt, Bool, true, false, Option, None, Some, Result, Ok, Err, List, [], ◌∷◌, ◌++◌, map, refl, sym, ap, ◌∙◌, length, get_or, arith, sum_by, filter_map, IfOk, IfErr, OnOk, ◌⊎◌, inl, inr}
 use Rattle.std.specs.Bool.{then_some}
-use Rattle.std.specs.List.{All, AllZip, count_by, list_any, position, position_or_len, slice_split}
+use Rattle.std.specs.List.{All, AllByRecursion, AllZip, count_by, list_any, position, position_or_len, slice_split}
 use Rattle.std.specs.Option.{option_map, option_map_or}
 use Rattle.std.proofs.lemmas.Bool.{cases_lt}
 use Rattle.std.proofs.lemmas.Bool.Decides.{nat_tests}
@@ -13,7 +13,7 @@ use Rattle.std.proofs.lemmas.List.Sums.{fails_before_first}
 use Rattle.hu_kind.specs.Cells.{by_item}
 use Rattle.hu_kind.specs.First.{first_some}
 use Rattle.hu_kind.proofs.lemmas.FirstLemmas.{first_skip, first_here, first_alone, first_later, first_before}
-use Rattle.hu_kind.specs.Record.{total, absolute_of, any_negative}
+use Rattle.hu_kind.specs.Record.{IsItemset, total, absolute_of, any_negative}
 use Rattle.hu_kind.specs.Sequence.{IsSequence}
 use Rattle.hu_kind.specs.Token.{tokens}
 use Rattle.hu_seq.specs.declared.fault.SeqFault.{SeqFault}
@@ -118,8 +118,15 @@ cells-body told shape = sym (
     ∙ append-nil (cells (body told))
     )
 
+ordered-rules : (sets elements : List (List (ℕ × ℤ))) → AllZip IsOrdered sets elements → AllByRecursion IsItemset elements
+ordered-rules [] [] h = tt
+ordered-rules [] (e ∷ es) h = absurd h
+ordered-rules (s ∷ ss) [] h = absurd h
+ordered-rules (s ∷ ss) (e ∷ es) h = (h.0.rules, ordered-rules ss es h.1)
+
 -- what the elements of a line keep, before their sum is looked at
 pub record AreTold (told : List Token) (elements : List (List (ℕ × ℤ))) : Type 0 where
+  pub itemsets : AllByRecursion IsItemset elements
   pub some : 0 < length elements
   pub few : sum_by length elements ≤ 4096
   pub none_below : list_any any_negative elements ≡ false
@@ -132,6 +139,7 @@ AreTold-from told elements shape items ordered above =
     let same = cells-body told shape in
     let below : any_negative (cells told) ≡ false = any_negative-cells told ∙ none_passes is_negative told (map_none (λ k. Negative (k + 1)) (position is_negative told) above) in
     record {
+      itemsets = ordered-rules (itemsets (body told)) elements ordered;
       some = omega (
         arith,
         ordered-some (itemsets (body told)) elements ordered,
@@ -144,7 +152,7 @@ AreTold-from told elements shape items ordered above =
     }
 
 IsSequence-from : (told : List Token) (elements : List (List (ℕ × ℤ))) → AreTold told elements → sum_by absolute_of elements < 2 ^ 127 → IsSequence elements
-IsSequence-from told elements kept fits = record { some = kept.some; few = kept.few; none_below = kept.none_below; sum_fits = fits }
+IsSequence-from told elements kept fits = record { itemsets = kept.itemsets; some = kept.some; few = kept.few; none_below = kept.none_below; sum_fits = fits }
 
 large : (sum : ℕ) → 2 ^ 127 ≤ sum → int_lt (pos (2 ^ 127 - 1)) (pos sum) ≡ true
 large sum h = grind (arith, nat_tests)

@@ -1,4 +1,4 @@
 pub mod Token
 pub mod Reading
 pub mod Itemset
-pub mod Rows
+pub mod Worked

@@ -1,6 +1,6 @@
 -- What a sequence line says: a sequence, or its first fault. The line is one or more itemsets, then `-2`, then one total
 -- or nothing; an itemset is one or more cells, then `-1`.
-use Rattle.std.specs.Prelude.{ℕ, ◌+◌, ◌-◌, ◌^◌, nat_lt, ℤ, pos, int_lt, Bool, true, false, not, ◌&&◌, ◌||◌, Option, None, Some, is_none, Result, Ok, Err, List, [], ◌∷◌, ◌++◌, map, take, length, position, filter_map, slice_get}
+use Rattle.std.specs.Prelude.{ℕ, ◌+◌, ◌-◌, ◌^◌, nat_lt, ℤ, pos, int_lt, Bool, true, false, not, ◌&&◌, ◌||◌, Option, None, is_none, Result, Ok, Err, List, [], ◌∷◌, ◌++◌, map, take, length, position, filter_map, slice_get}
 use Rattle.std.specs.Bool.{then_some}
 use Rattle.std.specs.Ordering.{int_eq}
 use Rattle.std.specs.List.{before_first, after_first, position_or_len, count_by, list_any, slice_split}

@@ -34,7 +34,7 @@ fn element(alloc: Global, itemset: &[Token]) -> Result<Element, SeqFault>
 {
     let cells = read_cells(alloc, itemset)?;
     match ordered_cells(cells) {
-        Ok(cells) => Ok(Element::new(cells).unwrap()),
+        Ok(cells) => Ok(Element::of(cells)),
         Err(item) => Err(SeqFault::DuplicateItem { item }),
     }
 }

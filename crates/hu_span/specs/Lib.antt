@@ -5,4 +5,4 @@ pub mod Gather
 pub mod Candidate
 pub mod Makes
 pub mod Growing
-pub mod Rows
+pub mod Worked

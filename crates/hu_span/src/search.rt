@@ -6,6 +6,7 @@ ghost use Rattle.hu_kind.specs.Sequence.{best_utility, sequence_entry, sequence_
 ghost use Rattle.hu_base.specs.Base.{records_of};
 ghost use Rattle.hu_collect.specs.Laws.{SameMembers};
 ghost use Rattle.hu_collect.specs.Rule.{made, floor_of, IsKept, MakesSome};
+ghost use Rattle.hu_collect.specs.State.{Mines};
 ghost use Rattle.hu_chain.specs.Bound.{KeepsRules};
 ghost use Rattle.hu_span.specs.Candidate.{AreCandidates};
 ghost use Rattle.hu_span.specs.Gather.{all_items, AreMarks};
@@ -42,9 +43,7 @@ pub fn mine<C: Collect>(
     base: &Base<SeqRecord>,
     collect: &mut C,
 ) -> Result<(), NoMemory>
-    ensures rule { C.rule collect.new ≡ C.rule collect.old }
-    ensures ok { OnOk result (C.content collect.new ≡ made (C.rule collect.old) (C.content collect.old) (sequence_patterns (records_of base.now))) }
-    ensures err { OnErr result (MakesSome (C.rule collect.old) (C.content collect.old) (sequence_patterns (records_of base.now)) (C.content collect.new)) }
+    ensures { Mines (C.state collect.old) (sequence_patterns (records_of base.now)) (C.state collect.new) result }
 {
     // These tell the proof that the content is in order, that no sum overflows, and what collectors make of entries.
     let _floor = collect.floor();
@@ -69,10 +68,10 @@ fn search_items<C: Collect>(
     requires fits { sum_by weight_of records.now < 2 ^ 127 }
     requires marks { AreMarks all_items records.now marks.now }
     requires items { SameMembers (map (λ mark. mark.item) marks.now) items.now }
-    requires kept { IsKept (C.rule collect.old) (C.content collect.old) }
-    ensures rule { C.rule collect.new ≡ C.rule collect.old }
-    ensures ok { OnOk result (MakesReaching (C.rule collect.old) (C.content collect.old) (Begins records.now items.now) (C.content collect.new)) }
-    ensures err { OnErr result (MakesSomeOf (C.rule collect.old) (C.content collect.old) (Begins records.now items.now) (C.content collect.new)) }
+    requires kept { IsKept ((C.state collect.old).rule) ((C.state collect.old).content) }
+    ensures rule { (C.state collect.new).rule ≡ (C.state collect.old).rule }
+    ensures ok { OnOk result (MakesReaching ((C.state collect.old).rule) ((C.state collect.old).content) (Begins records.now items.now) ((C.state collect.new).content)) }
+    ensures err { OnErr result (MakesSomeOf ((C.state collect.old).rule) ((C.state collect.old).content) (Begins records.now items.now) ((C.state collect.new).content)) }
 {
     law_of_turns();
     law_of_floors();
@@ -120,12 +119,12 @@ fn search<C: Collect>(
     collect: &mut C,
 ) -> Result<(), NoMemory>
     requires level { IsLevel (pattern_of steps.old.items) rows.now }
-    requires candidates { AreCandidates (pattern_of steps.old.items) rows.now (floor_of (C.rule collect.old) (C.content collect.old)) found.now }
-    requires kept { IsKept (C.rule collect.old) (C.content collect.old) }
-    ensures rule { C.rule collect.new ≡ C.rule collect.old }
+    requires candidates { AreCandidates (pattern_of steps.old.items) rows.now (floor_of ((C.state collect.old).rule) ((C.state collect.old).content)) found.now }
+    requires kept { IsKept ((C.state collect.old).rule) ((C.state collect.old).content) }
+    ensures rule { (C.state collect.new).rule ≡ (C.state collect.old).rule }
     ensures steps { OnOk result (steps.new.items ≡ steps.old.items) }
-    ensures ok { OnOk result (MakesReaching (C.rule collect.old) (C.content collect.old) (GrowsOn (sequences_of rows.now) (pattern_of steps.old.items)) (C.content collect.new)) }
-    ensures err { OnErr result (MakesSomeOf (C.rule collect.old) (C.content collect.old) (GrowsOn (sequences_of rows.now) (pattern_of steps.old.items)) (C.content collect.new)) }
+    ensures ok { OnOk result (MakesReaching ((C.state collect.old).rule) ((C.state collect.old).content) (GrowsOn (sequences_of rows.now) (pattern_of steps.old.items)) ((C.state collect.new).content)) }
+    ensures err { OnErr result (MakesSomeOf ((C.state collect.old).rule) ((C.state collect.old).content) (GrowsOn (sequences_of rows.now) (pattern_of steps.old.items)) ((C.state collect.new).content)) }
 {
     law_of_turns();
     law_of_floors();
@@ -152,12 +151,12 @@ fn open<C: Collect>(
 ) -> Result<Vec<Candidate>, NoMemory>
     requires some { 0 < length steps.now }
     requires level { IsLevel (pattern_of steps.now) rows.now }
-    ensures rule { C.rule collect.new ≡ C.rule collect.old }
-    ensures offered { IfOk result (λ _. C.content collect.new ≡ made (C.rule collect.old) (C.content collect.old) (sequence_entry (sequences_of rows.now) (pattern_of steps.now) ∷ [])) }
-    ensures candidates { IfOk result (λ found. AreCandidates (pattern_of steps.now) rows.now (floor_of (C.rule collect.new) (C.content collect.new)) found.items) }
-    ensures kept { IfOk result (λ _. IsKept (C.rule collect.new) (C.content collect.new)) }
-    ensures least { pos 1 ≤ℤ floor_of (C.rule collect.old) (C.content collect.old) }
-    ensures err { OnErr result ((C.content collect.new ≡ C.content collect.old) ⊎ (C.content collect.new ≡ made (C.rule collect.old) (C.content collect.old) (sequence_entry (sequences_of rows.now) (pattern_of steps.now) ∷ []))) }
+    ensures rule { (C.state collect.new).rule ≡ (C.state collect.old).rule }
+    ensures offered { IfOk result (λ _. (C.state collect.new).content ≡ made ((C.state collect.old).rule) ((C.state collect.old).content) (sequence_entry (sequences_of rows.now) (pattern_of steps.now) ∷ [])) }
+    ensures candidates { IfOk result (λ found. AreCandidates (pattern_of steps.now) rows.now (floor_of ((C.state collect.new).rule) ((C.state collect.new).content)) found.items) }
+    ensures kept { IfOk result (λ _. IsKept ((C.state collect.new).rule) ((C.state collect.new).content)) }
+    ensures least { pos 1 ≤ℤ floor_of ((C.state collect.old).rule) ((C.state collect.old).content) }
+    ensures err { OnErr result (((C.state collect.new).content ≡ (C.state collect.old).content) ⊎ ((C.state collect.new).content ≡ made ((C.state collect.old).rule) ((C.state collect.old).content) (sequence_entry (sequences_of rows.now) (pattern_of steps.now) ∷ []))) }
 {
     offer(alloc, rows, steps, collect)?;
     candidates(alloc, rows, collect.floor())
@@ -172,10 +171,10 @@ fn offer<C: Collect>(
 ) -> Result<(), NoMemory>
     requires some { 0 < length steps.now }
     requires level { IsLevel (pattern_of steps.now) rows.now }
-    ensures rule { C.rule collect.new ≡ C.rule collect.old }
-    ensures least { pos 1 ≤ℤ floor_of (C.rule collect.old) (C.content collect.old) }
-    ensures ok { OnOk result (C.content collect.new ≡ made (C.rule collect.old) (C.content collect.old) (sequence_entry (sequences_of rows.now) (pattern_of steps.now) ∷ [])) }
-    ensures err { OnErr result (C.content collect.new ≡ C.content collect.old) }
+    ensures rule { (C.state collect.new).rule ≡ (C.state collect.old).rule }
+    ensures least { pos 1 ≤ℤ floor_of ((C.state collect.old).rule) ((C.state collect.old).content) }
+    ensures ok { OnOk result ((C.state collect.new).content ≡ made ((C.state collect.old).rule) ((C.state collect.old).content) (sequence_entry (sequences_of rows.now) (pattern_of steps.now) ∷ [])) }
+    ensures err { OnErr result ((C.state collect.new).content ≡ (C.state collect.old).content) }
 {
     law_of_low_entries();
     let utility = utility_of(rows);

@@ -5,7 +5,7 @@ use Rattle.std.specs.Map.{lookup}
 use Rattle.indexmap.specs.IndexMap.{insert_entry}
 use Rattle.hu_kind.specs.declared.item.Item.{Item}
 use Rattle.hu_kind.specs.Record.{gain, positive_part}
-use Rattle.hu_kind.specs.Rows.{base_a}
+use Rattle.hu_kind.specs.Worked.{base_a}
 use Rattle.hu_totals.specs.declared.totals.ItemTotal.{ItemTotal}
 use Rattle.hu_totals.specs.Totals.{item_totals, numbered}
 

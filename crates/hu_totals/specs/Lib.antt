@@ -4,4 +4,4 @@ pub mod Ranked
 pub mod Weights
 pub mod View
 pub mod Laws
-pub mod Rows
+pub mod Worked

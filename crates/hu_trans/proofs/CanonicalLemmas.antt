@@ -109,10 +109,10 @@ said-good a b c items sum others good one two three =
     ∙ ap (λ x. judged items (unwrap_or (slice_get x 0) (pos 0)) (numbers signed_number c)) two
     ∙ ap (judged items sum) three
 
-values_small : (cells : List (ℕ × ℤ)) → absolute_of cells < 2 ^ 127 → All (λ cell. unsigned_abs cell.1 < 2 ^ 127) cells
+pub values_small : (cells : List (ℕ × ℤ)) → absolute_of cells < 2 ^ 127 → All (λ cell. unsigned_abs cell.1 < 2 ^ 127) cells
 values_small cells small k d within = omega (arith, get_or-le-sum_by (λ cell. unsigned_abs cell.1) cells k d within)
 
-total_within : (cells : List (ℕ × ℤ)) → unsigned_abs (total cells) ≤ absolute_of cells
+pub total_within : (cells : List (ℕ × ℤ)) → unsigned_abs (total cells) ≤ absolute_of cells
 total_within [] = omega (arith, ints)
 total_within (c ∷ cs) = omega (arith, ints, sum_by-cons (λ cell. unsigned_abs cell.1) c cs, total_within cs)
 

@@ -24,6 +24,11 @@ pub twice-zip : (cells : List Cell) (items : List ℕ) (values : List ℤ) → p
     → twice (items_in (pairs_of cells)) ≡ twice items
 twice-zip cells items values are same = ap twice (items-zip cells items values are same)
 
+-- the order of cells doesn't matter for their absolute sum
+pub absolute_of-permutation : (cells ordered : List Cell) → IsPermutation cells ordered → absolute_of (pairs_of ordered) ≡ absolute_of (pairs_of cells)
+absolute_of-permutation cells ordered same =
+    absolute_of-pairs_of ordered ∙ sum_by-IsPermutation absolute_value cells ordered same ∙ sym (absolute_of-pairs_of cells)
+
 -- cells of such items keep the rules of a record once they are in order
 pub IsRecord-ordered : (cells ordered : List Cell) (items : List ℕ) (values : List ℤ) → pairs_of cells ≡ zip items values → AreFine items values
     → IsPermutation cells ordered → AllAdjacentBelow (λ a b. a.item.0 < b.item.0) ordered (length ordered) → absolute_of (pairs_of cells) < 2 ^ 127

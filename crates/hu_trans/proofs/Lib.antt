@@ -7,3 +7,4 @@ mod NumeralLemmas
 mod ReadingLemmas
 mod SumsLemmas
 mod WriteLemmas
+mod WrittenLemmas

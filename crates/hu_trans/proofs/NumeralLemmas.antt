@@ -1,29 +1,19 @@
 -- A number that is written is read again.
-use Rattle.std.proofs.Common.{◌≡◌, ℕ, suc, ◌+◌, ◌<◌, ◌≤◌, ◌^◌, ◌==◌, ℤ, pos, negsuc, neg_ℤ, unsigned_abs, true, false, not, nat_lt, None, Ok, List, [], ◌∷◌, length, slice_index, refl, ap, ◌∙◌, arith, decimal}
-use Rattle.std.specs.Char.{is_ascii_digit, digit_value}
+use Rattle.std.proofs.Common.{◌≡◌, ℕ, suc, ◌<◌, ◌≤◌, ◌^◌, ◌==◌, ℤ, pos, negsuc, neg_ℤ, unsigned_abs, false, Ok, List, [], ◌∷◌, length, slice_index, refl, ap, arith, decimal}
 use Rattle.std.specs.Fmt.{signed_decimal}
-use Rattle.std.specs.List.{All, position_from}
+use Rattle.std.specs.Int.{IsInRange}
+use Rattle.std.specs.List.{All}
 use Rattle.std.specs.Result.{result_map_both}
-use Rattle.std.specs.Str.Parse.{AllDigits, digits_value}
-use Rattle.std.proofs.lemmas.Bool.Decides.{nat_tests}
+use Rattle.std.specs.Str.Parse.{AllDigits}
 use Rattle.std.proofs.lemmas.Fmt.{decimal_is_IsNumeral_wide, length-decimal-le_wide}
-use Rattle.std.proofs.lemmas.Iterator.Adapters.{position_from-zero}
 use Rattle.std.proofs.lemmas.List.Elements.{All-nil, All-cons}
 use Rattle.std.proofs.lemmas.Str.Parse.{digit_from_value}
-use Rattle.hu_kind.specs.Number.{number, signed_number, digits_from, other_place}
+use Rattle.hu_kind.proofs.lemmas.Numerals.{digit_not, digit_not_above, digits_from-value}
+use Rattle.hu_kind.specs.Number.{number, signed_number, digits_from}
 
 -- a byte doesn't stand in a text
 abbrev pub Lacks : ℕ → List ℕ → Type 0
 Lacks byte text = All (λ b. (b == byte) ≡ false) text
-
-digit_not : (b byte : ℕ) → digit_value b < 10 → byte < 48 → (b == byte) ≡ false
-digit_not b byte digit low = let range = digit_from_value b digit in grind (arith, nat_tests)
-
-digit_not_above : (b byte : ℕ) → digit_value b < 10 → 57 < byte → (b == byte) ≡ false
-digit_not_above b byte digit high = let range = digit_from_value b digit in grind (arith, nat_tests)
-
-digit_passes : (b : ℕ) → digit_value b < 10 → not (is_ascii_digit b) ≡ false
-digit_passes b digit = let range = digit_from_value b digit in grind (arith, nat_tests)
 
 digits-lack_low : (byte : ℕ) (ds : List ℕ) → AllDigits 10 ds → byte < 48 → Lacks byte ds
 digits-lack_low byte [] h low = All-nil (λ b. (b == byte) ≡ false)
@@ -32,19 +22,6 @@ digits-lack_low byte (d ∷ ds) h low = All-cons (λ b. (b == byte) ≡ false) d
 digits-lack_high : (byte : ℕ) (ds : List ℕ) → AllDigits 10 ds → 57 < byte → Lacks byte ds
 digits-lack_high byte [] h high = All-nil (λ b. (b == byte) ≡ false)
 digits-lack_high byte (d ∷ ds) h high = All-cons (λ b. (b == byte) ≡ false) d ds (digit_not_above d byte h.0 high) (digits-lack_high byte ds h.1 high)
-
-no_other : (at : ℕ) (ds : List ℕ) → AllDigits 10 ds → position_from (λ b. not (is_ascii_digit b)) at ds ≡ None
-no_other at [] h = refl
-no_other at (d ∷ ds) h = rw (digit_passes d h.0) (no_other (at + 1) ds h.1)
-
--- digits are read as their value
-digits_from-value : (at n : ℕ) (ds : List ℕ) → 0 < length ds → AllDigits 10 ds → length ds ≤ 39 → digits_value 10 ds ≡ n → n < 2 ^ 127 → digits_from at ds ≡ Ok n
-digits_from-value at n [] some digits short value small = absurd (omega (arith, some))
-digits_from-value at n (d ∷ ds) some digits short value small =
-    let none : other_place (d ∷ ds) ≡ None = position_from-zero (λ b. not (is_ascii_digit b)) (d ∷ ds) ∙ no_other 0 (d ∷ ds) digits in
-    let few : nat_lt 39 (length (d ∷ ds)) ≡ false = grind (arith, nat_tests) in
-    let fits : nat_lt n (2 ^ 127) ≡ true = grind (arith, nat_tests) in
-    rw (none, few, value, fits) refl
 
 decimal_read : (at n : ℕ) → n < 2 ^ 127 → digits_from at (decimal n) ≡ Ok n
 decimal_read at n small =
@@ -69,6 +46,7 @@ pub record IsToken (text : List ℕ) : Type 0 where
   pub some : 0 < length text
   pub no_space : Lacks 32 text
   pub no_colon : Lacks 58 text
+  pub no_feed : Lacks 10 text
 
 pub IsToken-decimal : (n : ℕ) → n < 2 ^ 127 → IsToken (decimal n)
 IsToken-decimal n small =
@@ -77,6 +55,7 @@ IsToken-decimal n small =
       some = told.0.0;
       no_space = digits-lack_low 32 (decimal n) told.0.1 (omega arith);
       no_colon = digits-lack_high 58 (decimal n) told.0.1 (omega arith);
+      no_feed = digits-lack_low 10 (decimal n) told.0.1 (omega arith);
     }
 
 pub IsToken-signed_decimal : (z : ℤ) → unsigned_abs z < 2 ^ 127 → IsToken (signed_decimal z)
@@ -87,4 +66,20 @@ IsToken-signed_decimal (negsuc n) small =
       some = omega arith;
       no_space = All-cons (λ b. (b == 32) ≡ false) 45 (decimal (suc n)) refl digits.no_space;
       no_colon = All-cons (λ b. (b == 58) ≡ false) 45 (decimal (suc n)) refl digits.no_colon;
+      no_feed = All-cons (λ b. (b == 10) ≡ false) 45 (decimal (suc n)) refl digits.no_feed;
     }
+
+-- a number is written in so many bytes at most
+pub length-item : (n : ℕ) → n < 2 ^ 127 → length (decimal n) ≤ 39
+length-item n small = length-decimal-le_wide 39 n (omega arith) (omega arith) (omega arith)
+
+pub length-value : (z : ℤ) → unsigned_abs z < 2 ^ 127 → length (signed_decimal z) ≤ 40
+length-value (pos n) small = omega (arith, length-item n small)
+length-value (negsuc n) small = omega (arith, length-item (suc n) small)
+
+pub decimal-begins : (n : ℕ) → n < 2 ^ 127 → IsInRange 48 57 (slice_index (decimal n) 0)
+decimal-begins n small = let told = decimal_is_IsNumeral_wide n (omega arith) in begins (decimal n) told.0.0 told.0.1
+  where
+    begins : (ds : List ℕ) → 0 < length ds → AllDigits 10 ds → IsInRange 48 57 (slice_index ds 0)
+    begins [] some digits = absurd (omega (arith, some))
+    begins (d ∷ ds) some digits = digit_from_value d digits.0

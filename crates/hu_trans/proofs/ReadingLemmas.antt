@@ -1,5 +1,5 @@
 -- The reading of a line.
-use Rattle.std.proofs.Common.{◌≡◌, ◌≢◌, ℕ, ℤ, Bool, true, false, Option, None, Some, Result, Ok, Err, List, zip, refl, rules}
+use Rattle.std.proofs.Common.{◌≡◌, ◌≢◌, ℕ, ℤ, Bool, true, false, Option, None, Some, Result, Ok, Err, List, zip, rules}
 use Rattle.std.specs.Option.{option_map_or}
 use Rattle.hu_kind.specs.Cells.{by_item}
 use Rattle.hu_kind.specs.First.{first_some}

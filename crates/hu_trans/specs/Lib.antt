@@ -1,4 +1,4 @@
 pub mod Line
 pub mod Reading
 pub mod Canonical
-pub mod Rows
+pub mod Worked

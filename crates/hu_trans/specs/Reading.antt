@@ -1,5 +1,5 @@
 -- What a transaction line says: a record, or its first fault.
-use Rattle.std.specs.Prelude.{ℕ, ◌+◌, ◌^◌, ◌==◌, nat_lt, ℤ, not, ◌||◌, Option, None, Some, Result, Ok, Err, List, [], ◌∷◌, length, position, zip}
+use Rattle.std.specs.Prelude.{ℕ, ◌+◌, ◌^◌, ◌==◌, nat_lt, ℤ, not, ◌||◌, Option, Result, Ok, Err, List, [], ◌∷◌, length, position, zip}
 use Rattle.std.specs.Bool.{then_some}
 use Rattle.std.specs.Ordering.{int_eq}
 use Rattle.std.specs.Option.{option_map, option_map_or}

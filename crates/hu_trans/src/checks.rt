@@ -1,7 +1,9 @@
 //! What may be wrong with the numbers of a line.
 
-ghost use Rattle.std.specs.Prelude.{◌≡◌, ◌≤◌, [], ◌∷◌, length, nat_lt, position};
+ghost use Rattle.std.specs.Prelude.{◌≡◌, ◌≤◌, [], ◌∷◌, length, nat_lt, pos, position, IfOk};
+ghost use Rattle.std.specs.Result.{result_err};
 ghost use Rattle.hu_kind.specs.Cell.{pairs_of};
+ghost use Rattle.hu_kind.specs.Record.{absolute_of};
 ghost use Rattle.hu_kind.specs.First.{first_some};
 ghost use Rattle.hu_trans.specs.Reading.{no_items, too_many_items, counts_differ, item_out_of_range, sum_too_large, total_disagrees};
 
@@ -49,21 +51,22 @@ fn great_item_place(items: &[u128]) -> Option<usize>
         .position(|item| *item > u128::from(Item::GREATEST))
 }
 
-/// What is wrong with the sums of the cells, or with a total that is stated for them.
-pub fn total_fault(stated: i128, cells: &[Cell]) -> Option<Fault>
-    ensures { result ≡ first_some (
+/// The absolute sum of the cells, or what is wrong with their sums or with a total that is stated for them.
+pub fn checked_sum(stated: i128, cells: &[Cell]) -> Result<i128, Fault>
+    ensures value { IfOk result (λ sum. sum ≡ pos (absolute_of (pairs_of cells.now))) }
+    ensures fault { result_err result ≡ first_some (
         sum_too_large (pairs_of cells.now)
         ∷ total_disagrees stated (pairs_of cells.now)
         ∷ []) }
 {
     let Some(sums) = Sums::of(cells) else {
-        return Some(Fault::SumTooLarge);
+        return Err(Fault::SumTooLarge);
     };
     if stated != sums.plain && stated != sums.positive {
-        return Some(Fault::TotalDisagrees {
+        return Err(Fault::TotalDisagrees {
             stated,
             summed: sums.plain,
         });
     }
-    None
+    Ok(sums.absolute)
 }

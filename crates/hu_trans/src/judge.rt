@@ -6,7 +6,7 @@ ghost use Rattle.hu_kind.specs.Cell.{pairs_of};
 ghost use Rattle.hu_kind.specs.Record.{IsRecord};
 ghost use Rattle.hu_trans.specs.Reading.{judged};
 
-use crate::checks::{item_fault, total_fault};
+use crate::checks::{checked_sum, item_fault};
 use crate::fault::Fault;
 use hu_kind::{Cell, Item, NoMemory, Record, ordered_cells};
 use std::alloc::Global;
@@ -28,14 +28,14 @@ pub fn judge(
         return Err(fault);
     }
     let cells = cells_of(alloc, items, utilities)?;
-    let wrong_total = total_fault(stated, &cells);
+    let sum = checked_sum(stated, &cells);
     let cells = match ordered_cells(cells) {
         Ok(cells) => cells,
         Err(item) => return Err(Fault::DuplicateItem { item }),
     };
-    match wrong_total {
-        Some(fault) => Err(fault),
-        None => Ok(record_of(cells)),
+    match sum {
+        Ok(absolute) => Ok(Record::with_sum(cells, absolute)),
+        Err(fault) => Err(fault),
     }
 }
 
@@ -53,15 +53,4 @@ fn cells_of(alloc: Global, items: &[u128], utilities: &[i128]) -> Result<Vec<Cel
         })?;
     }
     Ok(cells)
-}
-
-/// The record of cells that keep its rules.
-fn record_of(cells: Vec<Cell>) -> Record
-    requires { IsRecord (pairs_of cells.items) }
-    ensures { result ≡ pairs_of cells.items }
-{
-    match Record::new(cells) {
-        Some(one) => one,
-        None => unreachable!(),
-    }
 }

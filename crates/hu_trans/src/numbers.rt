@@ -8,7 +8,7 @@ ghost use Rattle.hu_trans.specs.declared.fault.Fault.TheVariants.{BadNumber};
 ghost use Rattle.hu_trans.specs.Line.{numbers, bad_token, bad_total};
 
 use crate::fault::Fault;
-use hu_kind::{Tokens, read_number, read_signed};
+use hu_kind::{first_number, first_signed};
 use std::alloc::Global;
 
 /// The items of part 1, or its first token that is no number.
@@ -22,12 +22,14 @@ pub fn read_items(alloc: Global, part: &[u8]) -> Result<Vec<u128>, Fault>
 {
     let mut items = Vec::new(alloc);
     let mut at = 0;
-    for token in Tokens::of(part) {
+    let mut rest = part;
+    while let Some((said, left)) = first_number(rest) {
         at += 1;
-        match read_number(token) {
+        match said {
             Ok(item) => items.push(item.unsigned_abs())?,
             Err(_) => return Err(Fault::BadNumber { part: 1, at }),
         }
+        rest = left;
     }
     Ok(items)
 }
@@ -38,36 +40,35 @@ pub fn read_total(part: &[u8]) -> Result<i128, Fault>
     ensures good { OnOk result (bad_total (tokens part.now) ≡ None) }
     ensures bad { IfErr result (λ fault. option_map (BadNumber 2) (bad_total (tokens part.now)) ≡ Some fault) }
 {
-    let mut tokens = Tokens::of(part);
-    let Some(token) = tokens.next() else {
+    let Some((Ok(total), rest)) = first_signed(part) else {
         return Err(Fault::BadNumber { part: 2, at: 1 });
     };
-    let Ok(total) = read_signed(token) else {
-        return Err(Fault::BadNumber { part: 2, at: 1 });
-    };
-    match tokens.next() {
+    match first_signed(rest) {
         Some(_) => Err(Fault::BadNumber { part: 2, at: 2 }),
         None => Ok(total),
     }
 }
 
-/// The utilities of part 3, or its first token that is no number.
-pub fn read_utilities(alloc: Global, part: &[u8]) -> Result<Vec<i128>, Fault>
-    requires { length part.now ≤ 1048576 }
+/// The utilities of part 3, or its first token that is no number. There is room for so many from the start.
+pub fn read_utilities(alloc: Global, part: &[u8], room: usize) -> Result<Vec<i128>, Fault>
+    requires few { length part.now ≤ 1048576 }
+    requires room { room ≤ 1048576 }
     ensures value { IfOk result (λ values. values.items ≡ numbers signed_number (tokens part.now)) }
     ensures few { IfOk result (λ values. length values.items ≤ 1048576) }
     ensures good { OnOk result (bad_token signed_number (tokens part.now) ≡ None) }
     ensures bad { IfErr result (λ fault. (fault ≡ Fault.NoMemory)
         ⊎ (option_map (BadNumber 3) (bad_token signed_number (tokens part.now)) ≡ Some fault)) }
 {
-    let mut utilities = Vec::new(alloc);
+    let mut utilities = Vec::with_capacity(alloc, room)?;
     let mut at = 0;
-    for token in Tokens::of(part) {
+    let mut rest = part;
+    while let Some((said, left)) = first_signed(rest) {
         at += 1;
-        match read_signed(token) {
+        match said {
             Ok(value) => utilities.push(value)?,
             Err(_) => return Err(Fault::BadNumber { part: 3, at }),
         }
+        rest = left;
     }
     Ok(utilities)
 }

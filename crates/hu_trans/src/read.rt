@@ -22,6 +22,6 @@ pub fn read_record(alloc: Global, line: &[u8]) -> Result<Record, Fault>
     };
     let items = read_items(alloc, parts.items)?;
     let stated = read_total(parts.total)?;
-    let utilities = read_utilities(alloc, parts.utilities)?;
+    let utilities = read_utilities(alloc, parts.utilities, items.len())?;
     judge(alloc, &items, stated, &utilities)
 }

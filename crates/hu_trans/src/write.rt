@@ -5,7 +5,7 @@ ghost use Rattle.std.specs.Fmt.{signed_decimal};
 ghost use Rattle.std.specs.List.{join_with_byte};
 ghost use Rattle.hu_kind.specs.Cell.{pairs_of};
 ghost use Rattle.hu_kind.specs.Record.{absolute_of, total};
-ghost use Rattle.hu_trans.specs.Canonical.{canonical_line, gap};
+ghost use Rattle.hu_trans.specs.Canonical.{canonical_line, gap, IsPlainLine};
 ghost use Rattle.hu_trans.specs.Reading.{reading};
 
 use crate::sums::Sums;
@@ -17,6 +17,7 @@ use std::alloc::Global;
 /// total. Reading it gives the record again.
 pub fn write_record(alloc: Global, one: &Record) -> Result<Vec<u8>, NoMemory>
     ensures value { IfOk result (λ line. line.items ≡ canonical_line one.now) }
+    ensures plain { IfOk result (λ line. IsPlainLine line.items) }
     ensures again { IfOk result (λ line. reading line.items ≡ Ok one.now) }
 {
     let cells = one.cells();

@@ -15,7 +15,7 @@ fn main(rt: HostRuntime) -> ExitCode {
     let Ok(words) = read_args(&rt) else {
         return ExitCode::from(OUT_OF_MEMORY);
     };
-    let mut files = DiskFiles::new(rt, rt.stdin());
+    let mut files = DiskFiles::new(rt.alloc(), rt, rt.stdin());
     let mut out = StreamSink::new(rt.stdout());
     let mut err = StreamSink::new(rt.stderr());
     ExitCode::from(run(rt.alloc(), &words, &mut files, &mut out, &mut err))

@@ -8,25 +8,30 @@ use Rattle.hu_kind.specs.Record.{items_in, IsRecord}
 use Rattle.hu_kind.specs.Itemsets.{is_closed, item_entry, occurring_sets}
 use Rattle.hu_kind.proofs.lemmas.Members.{Member}
 use Rattle.hu_kind.proofs.lemmas.Occurring.{Member-ranking, Occurs-from_member, at_member, by_members, held-members}
-use Rattle.hu_collect.specs.Rule.{Rule, floor_of, made, passes, IsKept}
-use Rattle.hu_collect.proofs.lemmas.Made.{leaves_below_floor}
+use Rattle.hu_collect.specs.Rule.{Rule, passes}
+use Rattle.hu_collect.specs.State.{State, offered, floor_in, IsInOrder}
+use Rattle.hu_collect.proofs.lemmas.Made.{made-not_passing}
+use Rattle.hu_collect.proofs.lemmas.Searching.{state-equal, kept-in_order, offered-low}
 use Rattle.hu_closed.specs.Keys.{is_closed_key}
-use Rattle.hu_closed.specs.ClosedOnly.{closed_rule, MakesClosed}
+use Rattle.hu_closed.specs.ClosedOnly.{closed_rule, closed_state, MakesClosed}
 use Rattle.hu_closed.proofs.lemmas.Closedness.{is_closed_key-items}
 use Rattle.hu_closed.proofs.lemmas.RankLemmas.{occurs-in_range}
 
 -- ---- entries that change nothing
 
-pub leaves-below : (inner : Rule) (records : List (List (ℕ × ℤ))) (table : List ℕ) (content : List Entry) (entry : Entry) → IsKept inner content → entry.utility <ℤ floor_of inner content
-    → made (closed_rule inner records table) content (entry ∷ []) ≡ content
-leaves-below inner records table content entry kept low = leaves_below_floor (closed_rule inner records table) content entry kept low
+pub leaves-below : (inner : State) (records : List (List (ℕ × ℤ))) (table : List ℕ) (entry : Entry) → IsInOrder inner → entry.utility <ℤ floor_in inner
+    → offered (closed_state inner records table) (entry ∷ []) ≡ closed_state inner records table
+leaves-below inner records table entry ordered low =
+    offered-low (closed_state inner records table) entry (ap (λ s. closed_state s records table) ordered) low
 
-pub leaves-open : (inner : Rule) (records : List (List (ℕ × ℤ))) (table : List ℕ) (content : List Entry) (entry : Entry) → IsKept inner content → is_closed_key records entry.key ≡ false
-    → made (closed_rule inner records table) content (entry ∷ []) ≡ content
-leaves-open inner records table content entry kept out =
-    let fails : passes (closed_rule inner records table) entry ≡ false =
-    and_left (inner.wants entry.key && is_closed_key records entry.key) (int_le inner.start entry.utility) (and_right (inner.wants entry.key) (is_closed_key records entry.key) out) in
-    ap (λ b. cut inner.limit (ranking entry_cmp (content ++ cond b (entry ∷ []) []))) fails ∙ kept
+pub leaves-open : (inner : State) (records : List (List (ℕ × ℤ))) (table : List ℕ) (entry : Entry) → IsInOrder inner → is_closed_key records entry.key ≡ false
+    → offered (closed_state inner records table) (entry ∷ []) ≡ closed_state inner records table
+leaves-open inner records table entry ordered out =
+    let rule = closed_rule inner.rule records table in
+    let fails : passes rule entry ≡ false =
+    and_left (inner.rule.wants entry.key && is_closed_key records entry.key) (int_le inner.rule.start entry.utility)
+    (and_right (inner.rule.wants entry.key) (is_closed_key records entry.key) out) in
+    state-equal refl (made-not_passing rule inner.content entry (kept-in_order inner ordered) fails)
 
 -- ---- patterns
 
@@ -66,7 +71,8 @@ patterns-sets : (inner : Rule) (records : List (List (ℕ × ℤ))) (table : Lis
 patterns-sets inner records table [] each = refl
 patterns-sets inner records table (s ∷ sets) each = patterns-cons inner records table s sets (is_closed records s) refl each.0 (patterns-sets inner records table sets each.1)
 
-pub makes-closed : (inner : Rule) (records : List (List (ℕ × ℤ))) (table : List ℕ) → AllByRecursion IsRecord records → MakesClosed records inner (closed_rule inner records table)
-makes-closed inner records table all content =
-    let same = patterns-sets inner records table (occurring_sets records) (by_members (λ s. is_closed_key records (map pos s) ≡ is_closed records s) (occurring_sets records) (λ s m. occurring-key records s all m)) in
-    ap (λ entries. cut inner.limit (ranking entry_cmp (content ++ entries))) same
+pub makes-closed : (inner : State) (records : List (List (ℕ × ℤ))) (table : List ℕ) → AllByRecursion IsRecord records → MakesClosed records table inner
+makes-closed inner records table all =
+    let each = by_members (λ s. is_closed_key records (map pos s) ≡ is_closed records s) (occurring_sets records) (λ s m. occurring-key records s all m) in
+    let same = patterns-sets inner.rule records table (occurring_sets records) each in
+    state-equal refl (ap (λ entries. cut inner.rule.limit (ranking entry_cmp (inner.content ++ entries))) same)

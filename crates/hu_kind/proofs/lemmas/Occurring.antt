@@ -10,6 +10,7 @@ use Rattle.hu_kind.specs.Record.{has, holds, items_in}
 use Rattle.hu_kind.specs.Database.{support, items_of}
 use Rattle.hu_kind.specs.Itemsets.{sublists, occurring_sets}
 use Rattle.hu_kind.specs.Order.{ranking, Ascend}
+use Rattle.hu_kind.proofs.lemmas.Each.{each-weaker}
 use Rattle.hu_kind.proofs.lemmas.Members.{Member, Member-append_left, Member-append_right, Member-append_cases, Member-map, Member-from_map, Member-flat_map, Member-filter, Member-from_filter}
 
 -- what holds of each element holds of a member
@@ -73,7 +74,7 @@ each-ranking P [] all = tt
 each-ranking P (x ∷ xs) all = each-insert_key P x (ranking nat_cmp xs) all.0 (each-ranking P xs all.1)
 
 -- the sublists of an ascending list are its ascending lists of members
-each-sublist : (P : ℕ → Type 0) (xs s : List ℕ) → AllByRecursion P xs → Member s (sublists xs) → AllByRecursion P s
+pub each-sublist : (P : ℕ → Type 0) (xs s : List ℕ) → AllByRecursion P xs → Member s (sublists xs) → AllByRecursion P s
 each-sublist P [] s all (inl e) = subst (AllByRecursion P) e tt
 each-sublist P [] s all (inr m) = absurd m
 each-sublist P (x ∷ xs) s all m = elim (Member-append_cases s (sublists xs) (map (λ r. x ∷ r) (sublists xs)) m) [
@@ -81,7 +82,7 @@ each-sublist P (x ∷ xs) s all m = elim (Member-append_cases s (sublists xs) (m
   | inr b ↦ let from = Member-from_map (λ (r : List ℕ). x ∷ r) s (sublists xs) b in subst (AllByRecursion P) from.2 (all.0, each-sublist P xs from.0 all.1 from.1)
 ]
 
-Ascend-sublist : (xs s : List ℕ) → Ascend xs → Member s (sublists xs) → Ascend s
+pub Ascend-sublist : (xs s : List ℕ) → Ascend xs → Member s (sublists xs) → Ascend s
 Ascend-sublist [] s up (inl e) = subst Ascend e tt
 Ascend-sublist [] s up (inr m) = absurd m
 Ascend-sublist (x ∷ xs) s up m = elim (Member-append_cases s (sublists xs) (map (λ r. x ∷ r) (sublists xs)) m) [
@@ -143,10 +144,6 @@ holds-members [] cells h = tt
 holds-members (item ∷ items) cells h =
     let both = and_parts (has item cells) (holds items cells) h in
     (has-member item cells both.0, holds-members items cells both.1)
-
-each-weaker : {A : Type 0} (P Q : A → Type 0) (xs : List A) → ((x : A) → P x → Q x) → AllByRecursion P xs → AllByRecursion Q xs
-each-weaker P Q [] w all = tt
-each-weaker P Q (x ∷ xs) w all = (w x all.0, each-weaker P Q xs w all.1)
 
 -- a set occurs: it has an item, its items ascend, and some record holds it
 pub record Occurs (records : List (List (ℕ × ℤ))) (items : List ℕ) : Type 0 where

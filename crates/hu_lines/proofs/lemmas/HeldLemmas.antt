@@ -11,11 +11,11 @@ use Rattle.hu_lines.specs.Held.{state_of, IsKept}
 use Rattle.hu_lines.specs.Lines.{State, begun, ended_piece, IsHeld, HasLine}
 use Rattle.hu_lines.specs.Laws.{HeldComesFirst, FedComesFirst}
 use Rattle.hu_lines.proofs.lemmas.PieceLemmas.{has_line_feed-append, first_piece-append, first_piece_split, one_piece_of, whole_piece_first}
-use Rattle.hu_lines.proofs.lemmas.LimitLemmas.{refusal-none, refusal-empty, length-body-le, length-without_last-le}
+use Rattle.hu_lines.proofs.lemmas.LimitLemmas.{refusal-none, refusal-empty, length-body, line_feed-most, length-without_last-le}
 
 -- the bytes held and those before them are within the run's limit
 pub held_within : (s : State) → IsHeld s → s.before + length s.bytes ≤ LARGEST_INPUT
-held_within s held = (refusal-none s.number s.before s.bytes held.within).0
+held_within s held = (refusal-none s.number s.before s.bytes held.counted held.one held.within).0
 
 -- so it is of the fields
 pub kept_within : (a : Inside) → IsKept a → a.before + length a.bytes.items ≤ LARGEST_INPUT
@@ -25,11 +25,15 @@ kept_within a kept = held_within (state_of a) kept.held
 pub kept_number : (a : Inside) → IsKept a → a.number ≤ LARGEST_INPUT + 1
 kept_number a kept = omega (arith, kept_within a kept, kept.held.numbered)
 
--- a piece that passes no limit has at most as many bytes as a longest line with its line feed
-pub held_room : (number before : ℕ) (held taken : List ℕ) → refusal number before (held ++ taken) ≡ None → length held + length taken ≤ LONGEST_LINE + 1
-held_room number before held taken none =
-    let within : length (body_of (held ++ taken)) ≤ LONGEST_LINE = (refusal-none number before (held ++ taken) none).1 in
-    omega (arith, length-body-le (held ++ taken), length-append held taken)
+-- there is room for more bytes of a line, where they pass no limit
+pub kept_room : (a : Inside) (taken : List ℕ) → IsKept a → a.whole ≡ false → first_piece taken ≡ taken → refusal a.number a.before (a.bytes.items ++ taken) ≡ None
+    → length a.bytes.items + length taken ≤ LONGEST_LINE + 1
+kept_room a taken kept open_ one none =
+    let held = a.bytes.items in
+    let going : has_line_feed held ≡ false = sym kept.held.whole ∙ open_ in
+    let whole : first_piece (held ++ taken) ≡ held ++ taken = first_piece-append held taken going ∙ ap (λ r. held ++ r) one in
+    let both = (refusal-none a.number a.before (held ++ taken) kept.held.counted whole none).1 in
+    omega (arith, both, length-append held taken, line_feed-most (held ++ taken))
 
 -- bytes with a line feed are some
 some_with_line_feed : (bytes : List ℕ) → has_line_feed bytes ≡ true → 0 < length bytes
@@ -45,18 +49,20 @@ pub held_empty : (s : State) → s.bytes ≡ [] → s.whole ≡ false → s.befo
 held_empty s none open_ within numbered = record {
   one = rw none refl;
   whole = rw none open_;
-  within = rw none (refusal-empty s.number s.before within);
+  within = rw none (refusal-empty s.number s.before);
+  counted = within;
   numbered = numbered;
   unfinished = λ _. open_;
 }
 
 -- more bytes of the line are held
 pub held_grown : (s : State) (held taken : List ℕ) → s.bytes ≡ held ++ taken → has_line_feed held ≡ false → first_piece taken ≡ taken
-    → s.whole ≡ has_line_feed taken → refusal s.number s.before (held ++ taken) ≡ None → s.number ≤ s.before + 1 → s.refused ≡ None → IsHeld s
-held_grown s held taken is open_ one ends none numbered accepted = record {
+    → s.whole ≡ has_line_feed taken → refusal s.number s.before (held ++ taken) ≡ None → s.before ≤ 268435456 → s.number ≤ s.before + 1 → s.refused ≡ None → IsHeld s
+held_grown s held taken is open_ one ends none counted numbered accepted = record {
   one = rw is (first_piece-append held taken open_ ∙ ap (λ r. held ++ r) one);
   whole = rw is (ends ∙ sym (has_line_feed-append held taken open_));
   within = rw is none;
+  counted = counted;
   numbered = numbered;
   unfinished = λ some. absurd (false≢true (ap is_some (sym accepted) ∙ some));
 }
@@ -69,8 +75,8 @@ held_line s held has =
 -- it isn't too long
 pub held_short : (s : State) → IsHeld s → length (line_of s.bytes) ≤ LONGEST_LINE
 held_short s held =
-    let within : length (body_of s.bytes) ≤ LONGEST_LINE = (refusal-none s.number s.before s.bytes held.within).1 in
-    omega (arith, length-without_last-le 13 (body_of s.bytes))
+    let both = (refusal-none s.number s.before s.bytes held.counted held.one held.within).1 in
+    omega (arith, both, length-body s.bytes held.one, length-without_last-le 13 (body_of s.bytes))
 
 -- of what is held and what comes after it, the piece that has ended comes first
 pub held_first : HeldComesFirst

@@ -1,15 +1,14 @@
--- Pieces of bytes: how they are cut, and how they are gathered again.
-use Rattle.std.proofs.Common.{◌≡◌, ℕ, add-one, zero, suc, ◌+◌, ◌<◌, ◌≤◌, ◌||◌, true, false, cond, eqb, List, [], ◌∷◌, ◌++◌, length, take, drop, map, refl, sym, ap, subst, ◌∙◌, append_assoc, arith, Option, None, Some}
+-- Pieces of bytes: how they are cut.
+use Rattle.std.proofs.Common.{◌≡◌, ℕ, add-one, zero, suc, ◌+◌, ◌<◌, ◌≤◌, ◌||◌, true, false, cond, eqb, List, [], ◌∷◌, ◌++◌, length, take, drop, refl, sym, ap, subst, ◌∙◌, arith, Option, None, Some}
 use Rattle.std.specs.Prelude.{MatchOption, not}
-use Rattle.std.specs.List.{concat}
 use Rattle.std.proofs.lemmas.Bool.{false≢true, false_from_ne_true}
 use Rattle.std.proofs.lemmas.Bool.Decides.{nat_tests}
 use Rattle.std.proofs.Math.Seq.{drop-append_seam, drop-length}
-use Rattle.std.proofs.lemmas.List.{append-nil, length-take-le}
+use Rattle.std.proofs.lemmas.List.{length-take-le}
 use Rattle.std.proofs.lemmas.List.Folds.{list_any-append}
 use Rattle.memchr.specs.Find.{IsFirstByte, NoneBefore, Passes, is_byte}
-use Rattle.hu_lines.specs.Pieces.{has_line_feed, first_piece, in_front, pieces, line_of, parts, gathered}
-use Rattle.hu_lines.specs.Laws.{WholePieceComesFirst, RestIsOnePiece, FirstPieceComesFirst, LinesIgnoreCuts}
+use Rattle.hu_lines.specs.Pieces.{has_line_feed, first_piece, in_front, pieces}
+use Rattle.hu_lines.specs.Laws.{WholePieceComesFirst, RestIsOnePiece, FirstPieceComesFirst}
 
 -- the first piece has a line feed where the bytes have one
 pub has_line_feed-first_piece : (bytes : List ℕ) → has_line_feed (first_piece bytes) ≡ has_line_feed bytes
@@ -92,39 +91,6 @@ has_line_feed-append held bytes open_ = list_any-append (λ b. eqb b 10) held by
 
 has_line_feed-after : (held : List ℕ) (b : ℕ) → has_line_feed held ≡ false → has_line_feed (held ++ b ∷ []) ≡ eqb b 10
 has_line_feed-after held b open_ = has_line_feed-append held (b ∷ []) open_ ∙ elim (eqb b 10) as (λ t. (t || false) ≡ t) [ true ↦ refl | false ↦ refl ]
-
--- pieces with a byte in front of the first are gathered as if that byte were held
-gathered-in_front : (held : List ℕ) (b : ℕ) (ps later : List (List ℕ)) → eqb b 10 ≡ false
-    → gathered held (in_front b ps ++ later) ≡ gathered (held ++ b ∷ []) (ps ++ later)
-gathered-in_front held b [] later other = rw other refl
-gathered-in_front held b (p ∷ ps) later other = rw (other, append_assoc) refl
-
--- the pieces of one more chunk are gathered as they are cut, where that is so of the later chunks
-gathered-pieces : (later : List (List ℕ)) (rest : List ℕ)
-    → ((held : List ℕ) → has_line_feed held ≡ false → gathered held later ≡ pieces (held ++ rest))
-    → (held chunk : List ℕ) → has_line_feed held ≡ false → gathered held (pieces chunk ++ later) ≡ pieces (held ++ (chunk ++ rest))
-gathered-pieces later rest so held [] open_ = so held open_
-gathered-pieces later rest so held (b ∷ bs) open_ =
-    let onward : (held ++ b ∷ []) ++ (bs ++ rest) ≡ held ++ (b ∷ (bs ++ rest)) = append_assoc held (b ∷ []) (bs ++ rest) in
-    let marks : has_line_feed (held ++ b ∷ []) ≡ eqb b 10 = has_line_feed-after held b open_ in
-    elim (eqb b 10) as
-    (λ t. eqb b 10 ≡ t → gathered held (cond t ((b ∷ []) ∷ pieces bs) (in_front b (pieces bs)) ++ later) ≡ pieces (held ++ (b ∷ (bs ++ rest)))) [
-      | true ↦ (λ ends. rw ends
-          (ap (λ r. (held ++ b ∷ []) ∷ r) (gathered-pieces later rest so [] bs refl)
-          ∙ (sym (whole_piece_first (held ++ b ∷ []) (bs ++ rest) (first_piece-append held (b ∷ []) open_ ∙ ap (λ r. held ++ r) (first_piece_single b)) (marks ∙ ends)) ∙ ap pieces onward)))
-      | false ↦ (λ other. gathered-in_front held b (pieces bs) later other ∙ (gathered-pieces later rest so (held ++ b ∷ []) bs (marks ∙ other) ∙ ap pieces onward))
-    ]
-    refl
-
--- parts of chunks are gathered as the pieces of their bytes
-gathered-parts : (chunks : List (List ℕ)) (held : List ℕ) → has_line_feed held ≡ false → gathered held (parts chunks) ≡ pieces (held ++ concat chunks)
-gathered-parts [] [] open_ = refl
-gathered-parts [] (b ∷ bs) open_ = sym (ap pieces (append-nil (b ∷ bs)) ∙ rest_one_piece (b ∷ bs) open_ (omega arith))
-gathered-parts (chunk ∷ chunks) held open_ = gathered-pieces (parts chunks) (concat chunks) (gathered-parts chunks) held chunk open_
-
--- however bytes are cut into chunks, the lines gathered from the chunks are the lines of the bytes
-pub gathered_as_cut : LinesIgnoreCuts
-gathered_as_cut chunks = ap (map line_of) (gathered-parts chunks [] refl)
 
 -- a first piece that has a byte is one piece
 pub one_piece_of : (bytes : List ℕ) → first_piece bytes ≡ bytes → 0 < length bytes → pieces bytes ≡ bytes ∷ []

@@ -18,7 +18,8 @@ use Rattle.hu_collect.specs.Ranks.{IsRankSet, key_of, is_part, CanOpen, IsGrown,
 use Rattle.hu_search.specs.Growth.{rank_entry, Grows, Covers}
 use Rattle.hu_collect.specs.Makes.{MakesReaching, MakesSomeOf}
 use Rattle.hu_search.proofs.lemmas.Beginnings.{Begins}
-use Rattle.hu_search.proofs.lemmas.Ascending.{Ascend-right, each-get}
+use Rattle.hu_kind.proofs.lemmas.Ascending.{Ascend-right}
+use Rattle.hu_kind.proofs.lemmas.Each.{each-get}
 use Rattle.hu_search.proofs.KeyLemmas.{IsRankSet-from, is_part-key_of}
 use Rattle.hu_search.proofs.UnrankLemmas.{InTable-occurs}
 use Rattle.hu_collect.proofs.lemmas.Turns.{MakesReaching-none, MakesReaching-then, MakesReaching-as, MakesSomeOf-then, MakesSomeOf-as, kept-made, empty-contains}

@@ -10,7 +10,8 @@ use Rattle.hu_collect.specs.Rule.{Rule, made, MakesSome}
 use Rattle.hu_collect.specs.Laws.{MakesInTurn, MakesByMembers, MakesByReaching}
 use Rattle.hu_search.specs.Growth.{Grows, Covers, InTable}
 use Rattle.hu_collect.specs.Makes.{MakesReaching, MakesSomeOf}
-use Rattle.hu_search.proofs.lemmas.Ascending.{each-weaker, Member-range}
+use Rattle.hu_kind.proofs.lemmas.Ascending.{Member-range}
+use Rattle.hu_kind.proofs.lemmas.Each.{each-weaker}
 use Rattle.hu_search.proofs.UnrankLemmas.{InTable-occurs, pattern-grows, grows-pattern}
 use Rattle.hu_collect.proofs.lemmas.Turns.{made-all, MakesSome-all}
 

@@ -1,4 +1,4 @@
-use Rattle.std.proofs.Common.{◌≡◌, ◌≤◌, ◌++◌, List, ℕ, length}
+use Rattle.std.proofs.Common.{◌≡◌, ◌++◌, List, ℕ, length}
 use Rattle.hu_report.specs.Page.{Forwards}
 use Rattle.hu_drill.proofs.summary.push_text.Given as goal
 
@@ -7,9 +7,7 @@ abbrev pub invariant-loop-left : goal.invariant-loop-left
 invariant-loop-left g l = record {
   front : List ℕ;
   whole : front ++ l.left ≡ l.text;
-  bytes : Forwards (g.S.Sink.bytes l.initial.sink) (g.S.Sink.bytes l.sink) l.initial.page l.page front;
-  plan : g.S.Sink.plan l.sink ≡ g.S.Sink.plan l.initial.sink;
-  later : g.S.Sink.faults l.initial.sink ≤ g.S.Sink.faults l.sink;
+  sent : Forwards (g.S.Sink.state l.initial.sink) (g.S.Sink.state l.sink) l.initial.page l.page front;
 }
 
 -- each turn takes a byte at least

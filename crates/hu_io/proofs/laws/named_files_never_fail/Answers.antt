@@ -1,9 +1,9 @@
-use Rattle.std.proofs.Common.{◌≡◌, ap, arith}
+use Rattle.std.proofs.Common.{◌≡◌, arith}
 use Rattle.std.proofs.lemmas.Grind.{common_steps}
 use Rattle.hu_io.specs.Files.{content_in}
 use Rattle.hu_io.proofs.laws.named_files_never_fail.Goals as goal
 
 pub returns : goal.returns
 returns c = λ before now name unplanned named plan same rose.
-    let here : content_in now.files name ≡ content_in before.files name = ap (λ f. f name) same in
+    let here : content_in now.files name ≡ content_in before.files name = cc in
     grind (arith, common_steps)

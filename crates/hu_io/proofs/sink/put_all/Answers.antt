@@ -1,7 +1,7 @@
 use Rattle.std.proofs.Common.{arith}
 use Rattle.std.proofs.lemmas.Grind.{common_steps}
-use Rattle.hu_io.proofs.Appended.{Appends-take}
+use Rattle.hu_io.proofs.lemmas.PutLemmas.{Appended-take}
 use Rattle.hu_io.proofs.sink.put_all.Goals as goal
 
 pub loop-sent-preserved : goal.loop-sent-preserved
-loop-sent-preserved g c = grind (arith, common_steps, Appends-take)
+loop-sent-preserved g c = grind (arith, common_steps, Appended-take)

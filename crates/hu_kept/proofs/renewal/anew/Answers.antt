@@ -1,7 +1,7 @@
 use Rattle.std.proofs.Common.{rules, ◌≡◌, [], subst, IfOk}
 use Rattle.hu_base.specs.Base.{records_of}
 use Rattle.hu_collect.specs.Rule.{rule_of}
-use Rattle.hu_collect.specs.Limited.{content_in, rule_in}
+use Rattle.hu_kept.specs.Limited.{content_in, rule_in}
 use Rattle.hu_kept.proofs.RenewalLemmas.{anew-answer}
 use Rattle.hu_kept.proofs.renewal.anew.Goals as goal
 

@@ -1,7 +1,7 @@
 use Rattle.std.proofs.Common.{◌≡◌, [], subst, IfOk}
 use Rattle.hu_base.specs.Base.{records_of}
 use Rattle.hu_collect.specs.Rule.{made, rule_of}
-use Rattle.hu_collect.specs.Limited.{content_in, rule_in}
+use Rattle.hu_kept.specs.Limited.{content_in, rule_in}
 use Rattle.hu_kept.specs.Entries.{entries_from}
 use Rattle.hu_kept.specs.Touched.{untouched}
 use Rattle.hu_kept.proofs.RenewalLemmas.{continued-answer}

@@ -1,6 +1,6 @@
 use Rattle.std.proofs.Common.{rules, ◌≡◌, ◌∷◌, subst}
 use Rattle.hu_collect.specs.Rule.{rule_of}
-use Rattle.hu_collect.specs.Limited.{content_in, rule_in}
+use Rattle.hu_kept.specs.Limited.{content_in, rule_in}
 use Rattle.hu_kept.specs.Entries.{entries_from, entry_from}
 use Rattle.hu_kept.proofs.RenewalLemmas.{Offers, Offers-next}
 use Rattle.hu_kept.proofs.renewal.with_untouched.Goals as goal

@@ -1,5 +1,5 @@
 use Rattle.hu_collect.specs.Rule.{rule_of}
-use Rattle.hu_collect.specs.Limited.{content_in, rule_in}
+use Rattle.hu_kept.specs.Limited.{content_in, rule_in}
 use Rattle.hu_kept.specs.Entries.{entries_from}
 use Rattle.hu_kept.proofs.RenewalLemmas.{Offers}
 use Rattle.hu_kept.proofs.renewal.with_untouched.Given as goal

@@ -3,7 +3,7 @@ use Rattle.std.proofs.lemmas.List.{take_more, map-append, get_or_read}
 use Rattle.std.specs.List.{AllByRecursion}
 use Rattle.hu_search.specs.declared.child.Child.{Child}
 use Rattle.hu_search.specs.Children.{ranks_of}
-use Rattle.hu_search.proofs.lemmas.Ascending.{each-append}
+use Rattle.hu_kind.proofs.lemmas.Each.{each-append}
 use Rattle.hu_list.specs.Slots.{at}
 use Rattle.hu_list.specs.Passes.{no_sum}
 use Rattle.hu_list.specs.Level.{sum_of}

@@ -16,11 +16,11 @@ returns-in_err-grown-clause-err g t c =
     let prefix = c.args.prefix.now in
     let rows = rows_of c.args.rows.now in
     let items = c.deref-item-items.result.now in
-    let rule = g.C.Collect.rule c.args.collect.now in
-    let old = g.C.Collect.content c.args.collect.now in
+    let rule = (g.C.Collect.state c.args.collect.now).rule in
+    let old = (g.C.Collect.state c.args.collect.now).content in
     let s = Search-from prefix rows c.in_ok-items.items.items items c.law_of_turns.ensures c.law_of_members.ensures c.requires.rows c.in_ok-items.ensures c.deref-item-items.ensures.value in
     on_err c.from_residual-in_err-grown.result _
-    (MakesSome-upto prefix rows (numbers_of items) s rule old c.items.item-index (g.C.Collect.content c.items.collect) (g.C.Collect.content c.grow.new.collect) c.items.invariant.2 c.in_err-grown.ensures.err)
+    (MakesSome-upto prefix rows (numbers_of items) s rule old c.items.item-index ((g.C.Collect.state c.items.collect).content) ((g.C.Collect.state c.grow.new.collect).content) c.items.invariant.2 c.in_err-grown.ensures.err)
 
 pub search-requires : goal.search-requires
 unfolding no_item
@@ -28,20 +28,20 @@ search-requires g t c κs within =
     let prefix = c.args.prefix.now in
     let rows = rows_of c.args.rows.now in
     let items = c.deref-item-items.result.now in
-    let rule = g.C.Collect.rule c.args.collect.now in
-    let old = g.C.Collect.content c.args.collect.now in
+    let rule = (g.C.Collect.state c.args.collect.now).rule in
+    let old = (g.C.Collect.state c.args.collect.now).content in
     let i = c.items.item-index in
     let item = (get_or items i no_item).0 in
     let s = Search-from prefix rows c.in_ok-items.items.items items c.law_of_turns.ensures c.law_of_members.ensures c.requires.rows c.in_ok-items.ensures c.deref-item-items.ensures.value in
     let m = Member-item items i no_item c.items-test.true in
     let grown = rows_from c.deref-in-items.result.now c.in_ok-grown.grown.items (grown_rows item rows) c.deref-in-items.ensures.value c.in_ok-grown.ensures.rows in
-    let own = own_from (g.C.Collect.rule c.items.collect) rule (g.C.Collect.content c.items.collect) (g.C.Collect.content c.grow.new.collect) c.items.prefix prefix (grown_rows item rows) item
+    let own = own_from ((g.C.Collect.state c.items.collect).rule) rule ((g.C.Collect.state c.items.collect).content) ((g.C.Collect.state c.grow.new.collect).content) c.items.prefix prefix (grown_rows item rows) item
     c.items.invariant.0 c.items.invariant.1 c.in_ok-grown.ensures.ok in
-    let kept' = kept-own prefix rows (numbers_of items) s rule old i item (next_item items i no_item c.items-test.true) m (g.C.Collect.content c.items.collect) (g.C.Collect.content c.grow.new.collect) c.items.invariant.2 own in
+    let kept' = kept-own prefix rows (numbers_of items) s rule old i item (next_item items i no_item c.items-test.true) m ((g.C.Collect.state c.items.collect).content) ((g.C.Collect.state c.grow.new.collect).content) c.items.invariant.2 own in
     let fewer = cells_in-grown_rows item rows (item_occurs prefix rows (numbers_of items) s rule old item m) in
     let are : AreRows (rows_of c.deref-in-items.result.now) = subst (λ found. AreRows (rows_of found)) (sym c.deref-in-items.ensures.value) c.in_ok-grown.ensures.rules in
-    let same_rule : g.C.Collect.rule c.grow.new.collect ≡ rule = c.in_ok-grown.ensures.rule ∙ c.items.invariant.0 in
-    let kept : IsKept (g.C.Collect.rule c.grow.new.collect) (g.C.Collect.content c.grow.new.collect) = subst (λ r. IsKept r (g.C.Collect.content c.grow.new.collect)) (sym same_rule) kept' in
+    let same_rule : (g.C.Collect.state c.grow.new.collect).rule ≡ rule = c.in_ok-grown.ensures.rule ∙ c.items.invariant.0 in
+    let kept : IsKept ((g.C.Collect.state c.grow.new.collect).rule) ((g.C.Collect.state c.grow.new.collect).content) = subst (λ r. IsKept r ((g.C.Collect.state c.grow.new.collect).content)) (sym same_rule) kept' in
     let smaller : cells_in (rows_of c.deref-in-items.result.now) < cells_in (rows_of c.args.rows.now) = subst (λ rs. cells_in rs < cells_in rows) (sym grown) fewer in
     search rules
 
@@ -51,22 +51,22 @@ returns-in_err-search-clause-err g t c =
     let prefix = c.args.prefix.now in
     let rows = rows_of c.args.rows.now in
     let items = c.deref-item-items.result.now in
-    let rule = g.C.Collect.rule c.args.collect.now in
-    let old = g.C.Collect.content c.args.collect.now in
+    let rule = (g.C.Collect.state c.args.collect.now).rule in
+    let old = (g.C.Collect.state c.args.collect.now).content in
     let i = c.items.item-index in
     let item = (get_or items i no_item).0 in
     let s = Search-from prefix rows c.in_ok-items.items.items items c.law_of_turns.ensures c.law_of_members.ensures c.requires.rows c.in_ok-items.ensures c.deref-item-items.ensures.value in
     let m = Member-item items i no_item c.items-test.true in
     let grown = rows_from c.deref-in-items.result.now c.in_ok-grown.grown.items (grown_rows item rows) c.deref-in-items.ensures.value c.in_ok-grown.ensures.rows in
-    let own = own_from (g.C.Collect.rule c.items.collect) rule (g.C.Collect.content c.items.collect) (g.C.Collect.content c.grow.new.collect) c.items.prefix prefix (grown_rows item rows) item
+    let own = own_from ((g.C.Collect.state c.items.collect).rule) rule ((g.C.Collect.state c.items.collect).content) ((g.C.Collect.state c.grow.new.collect).content) c.items.prefix prefix (grown_rows item rows) item
     c.items.invariant.0 c.items.invariant.1 c.in_ok-grown.ensures.ok in
     let same_rule = c.in_ok-grown.ensures.rule ∙ c.items.invariant.0 in
     let same_prefix = ends_from c.grow.new.prefix c.items.prefix prefix item c.in_ok-grown.ensures.prefix c.items.invariant.1 in
-    let some = some_from (g.C.Collect.rule c.grow.new.collect) rule (g.C.Collect.content c.grow.new.collect) (g.C.Collect.content c.search.new.collect) c.grow.new.prefix (prefix ++ pos item ∷ []) (rows_of c.deref-in-items.result.now) (grown_rows item rows)
+    let some = some_from ((g.C.Collect.state c.grow.new.collect).rule) rule ((g.C.Collect.state c.grow.new.collect).content) ((g.C.Collect.state c.search.new.collect).content) c.grow.new.prefix (prefix ++ pos item ∷ []) (rows_of c.deref-in-items.result.now) (grown_rows item rows)
     same_rule same_prefix grown c.in_err-search.ensures.err in
     on_err c.from_residual-in_err-search.result _
-    (MakesSome-next prefix rows (numbers_of items) s rule old i item (next_item items i no_item c.items-test.true) m (g.C.Collect.content c.items.collect) (g.C.Collect.content c.grow.new.collect) c.items.invariant.2 own
-    (g.C.Collect.content c.search.new.collect) some)
+    (MakesSome-next prefix rows (numbers_of items) s rule old i item (next_item items i no_item c.items-test.true) m ((g.C.Collect.state c.items.collect).content) ((g.C.Collect.state c.grow.new.collect).content) c.items.invariant.2 own
+    ((g.C.Collect.state c.search.new.collect).content) some)
 
 pub items-preserved : goal.items-preserved
 unfolding no_item
@@ -74,23 +74,23 @@ items-preserved g t c =
     let prefix = c.args.prefix.now in
     let rows = rows_of c.args.rows.now in
     let items = c.deref-item-items.result.now in
-    let rule = g.C.Collect.rule c.args.collect.now in
-    let old = g.C.Collect.content c.args.collect.now in
+    let rule = (g.C.Collect.state c.args.collect.now).rule in
+    let old = (g.C.Collect.state c.args.collect.now).content in
     let i = c.items.item-index in
     let item = (get_or items i no_item).0 in
     let s = Search-from prefix rows c.in_ok-items.items.items items c.law_of_turns.ensures c.law_of_members.ensures c.requires.rows c.in_ok-items.ensures c.deref-item-items.ensures.value in
     let m = Member-item items i no_item c.items-test.true in
     let grown = rows_from c.deref-in-items.result.now c.in_ok-grown.grown.items (grown_rows item rows) c.deref-in-items.ensures.value c.in_ok-grown.ensures.rows in
-    let own = own_from (g.C.Collect.rule c.items.collect) rule (g.C.Collect.content c.items.collect) (g.C.Collect.content c.grow.new.collect) c.items.prefix prefix (grown_rows item rows) item
+    let own = own_from ((g.C.Collect.state c.items.collect).rule) rule ((g.C.Collect.state c.items.collect).content) ((g.C.Collect.state c.grow.new.collect).content) c.items.prefix prefix (grown_rows item rows) item
     c.items.invariant.0 c.items.invariant.1 c.in_ok-grown.ensures.ok in
     let same_rule = c.in_ok-grown.ensures.rule ∙ c.items.invariant.0 in
     let same_prefix = ends_from c.grow.new.prefix c.items.prefix prefix item c.in_ok-grown.ensures.prefix c.items.invariant.1 in
-    let more = more_from (g.C.Collect.rule c.grow.new.collect) rule (g.C.Collect.content c.grow.new.collect) (g.C.Collect.content c.search.new.collect) c.grow.new.prefix (prefix ++ pos item ∷ []) (rows_of c.deref-in-items.result.now) (grown_rows item rows)
+    let more = more_from ((g.C.Collect.state c.grow.new.collect).rule) rule ((g.C.Collect.state c.grow.new.collect).content) ((g.C.Collect.state c.search.new.collect).content) c.grow.new.prefix (prefix ++ pos item ∷ []) (rows_of c.deref-in-items.result.now) (grown_rows item rows)
     same_rule same_prefix grown c.in_ok-search.ensures.ok in (
       c.in_ok-search.ensures.rule ∙ same_rule,
       popped c.pop.result c.search.new.prefix c.pop.new.self prefix (pos item) (c.in_ok-search.ensures.prefix ∙ same_prefix) c.pop.ensures.empty c.pop.ensures.last,
-      made-next prefix rows (numbers_of items) s rule old i item (next_item items i no_item c.items-test.true) m (g.C.Collect.content c.items.collect) (g.C.Collect.content c.grow.new.collect) c.items.invariant.2 own
-          (g.C.Collect.content c.search.new.collect) more,
+      made-next prefix rows (numbers_of items) s rule old i item (next_item items i no_item c.items-test.true) m ((g.C.Collect.state c.items.collect).content) ((g.C.Collect.state c.grow.new.collect).content) c.items.invariant.2 own
+          ((g.C.Collect.state c.search.new.collect).content) more,
     )
 
 pub returns-clause-ok : goal.returns-clause-ok
@@ -98,7 +98,7 @@ returns-clause-ok g t c =
     let prefix = c.args.prefix.now in
     let rows = rows_of c.args.rows.now in
     let items = c.deref-item-items.result.now in
-    let rule = g.C.Collect.rule c.args.collect.now in
-    let old = g.C.Collect.content c.args.collect.now in
+    let rule = (g.C.Collect.state c.args.collect.now).rule in
+    let old = (g.C.Collect.state c.args.collect.now).content in
     let s = Search-from prefix rows c.in_ok-items.items.items items c.law_of_turns.ensures c.law_of_members.ensures c.requires.rows c.in_ok-items.ensures c.deref-item-items.ensures.value in
-    made-all prefix rows (numbers_of items) s rule old c.items.item-index (g.C.Collect.content c.items.collect) c.items.invariant.2 (omega (arith, length-map items (λ (item : Item). item.0)))
+    made-all prefix rows (numbers_of items) s rule old c.items.item-index ((g.C.Collect.state c.items.collect).content) c.items.invariant.2 (omega (arith, length-map items (λ (item : Item). item.0)))

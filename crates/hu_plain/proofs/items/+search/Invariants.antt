@@ -10,6 +10,6 @@ decreases-search g l = cells_in (rows_of l.rows.now)
 
 abbrev pub invariant-items : goal.invariant-items
 invariant-items g l =
-    (g.C.Collect.rule l.collect ≡ g.C.Collect.rule l.initial.collect)
+    ((g.C.Collect.state l.collect).rule ≡ (g.C.Collect.state l.initial.collect).rule)
     × (l.prefix ≡ l.initial.prefix)
-    × (g.C.Collect.content l.collect ≡ made (g.C.Collect.rule l.initial.collect) (g.C.Collect.content l.initial.collect) (flat_map (patterns_from l.initial.prefix (rows_of l.rows)) (take l.item-index (numbers_of l.item-items))))
+    × ((g.C.Collect.state l.collect).content ≡ made ((g.C.Collect.state l.initial.collect).rule) ((g.C.Collect.state l.initial.collect).content) (flat_map (patterns_from l.initial.prefix (rows_of l.rows)) (take l.item-index (numbers_of l.item-items))))

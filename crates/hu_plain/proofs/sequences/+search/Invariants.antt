@@ -12,7 +12,7 @@ decreases-search g l = left_in (all_places l.rows.now)
 
 abbrev pub invariant-steps : goal.invariant-steps
 invariant-steps g l = record {
-  rule : g.C.Collect.rule l.collect ≡ g.C.Collect.rule l.initial.collect;
+  rule : (g.C.Collect.state l.collect).rule ≡ (g.C.Collect.state l.initial.collect).rule;
   prefix : l.prefix ≡ l.initial.prefix;
-  made : MadeUpto {S = Step} (GrowsBy l.initial.prefix (all_places l.rows)) (Grows l.initial.prefix (all_places l.rows)) (g.C.Collect.rule l.initial.collect) (g.C.Collect.content l.initial.collect) l.step-items l.step-index (g.C.Collect.content l.collect);
+  made : MadeUpto {S = Step} (GrowsBy l.initial.prefix (all_places l.rows)) (Grows l.initial.prefix (all_places l.rows)) ((g.C.Collect.state l.initial.collect).rule) ((g.C.Collect.state l.initial.collect).content) l.step-items l.step-index ((g.C.Collect.state l.collect).content);
 }

@@ -12,8 +12,8 @@ decreases-visit g l = 2 * (length l.branches.now.ranks.items - (l.at + 1)) + 1
 
 abbrev pub invariant-search-branches : goal.invariant-search-branches
 invariant-search-branches g l = record {
-  rule : g.C.Collect.rule l.collect ≡ g.C.Collect.rule l.initial.collect;
+  rule : (g.C.Collect.state l.collect).rule ≡ (g.C.Collect.state l.initial.collect).rule;
   ranks : l.ranks.items ≡ l.initial.ranks.items;
   bins : l.bins.ranks ≡ l.initial.bins.ranks;
-  made : MakesReaching (g.C.Collect.rule l.initial.collect) (g.C.Collect.content l.initial.collect) (Begins l.ranked l.initial.ranks.items (take l.at l.branches.ranks.items)) (g.C.Collect.content l.collect);
+  made : MakesReaching ((g.C.Collect.state l.initial.collect).rule) ((g.C.Collect.state l.initial.collect).content) (Begins l.ranked l.initial.ranks.items (take l.at l.branches.ranks.items)) ((g.C.Collect.state l.collect).content);
 }

@@ -29,8 +29,8 @@ search-requires-clause-level g c =
 pub search-requires-clause-covers : goal.search-requires-clause-covers
 search-requires-clause-covers g c =
     let r = c.args.ranked.now in
-    let rule = g.C.Collect.rule c.args.collect.now in
-    let content = g.C.Collect.content c.args.collect.now in
+    let rule = (g.C.Collect.state c.args.collect.now).rule in
+    let content = (g.C.Collect.state c.args.collect.now).content in
     let set = c.new-4.result.items in
     let all : c.deref.result.now ≡ range_with_len 0 (length r.items) = c.deref.ensures.value ∙ c.in_ok-ranks.ensures in
     let fits : SFits w128 c.floor-floor.result = search rules in
@@ -43,12 +43,12 @@ search-requires-clause-covers g c =
 pub returns-clause-ok : goal.returns-clause-ok
 returns-clause-ok g c =
     on_ok_weaker c.search.result
-    (all-patterns c.args.ranked.now c.records-records.ensures.rules c.law_of_turns.ensures (g.C.Collect.rule c.args.collect.now) (g.C.Collect.content c.args.collect.now) (g.C.Collect.content c.search.new.collect) c.new-4.result.items c.new-4.ensures.items
+    (all-patterns c.args.ranked.now c.records-records.ensures.rules c.law_of_turns.ensures ((g.C.Collect.state c.args.collect.now).rule) ((g.C.Collect.state c.args.collect.now).content) ((g.C.Collect.state c.search.new.collect).content) c.new-4.result.items c.new-4.ensures.items
     c.law_of_members.ensures c.law_of_reaching.ensures)
     c.search.ensures.ok
 
 pub returns-clause-err : goal.returns-clause-err
 returns-clause-err g c =
     on_err_weaker c.search.result
-    (some-patterns c.args.ranked.now c.records-records.ensures.rules c.law_of_turns.ensures (g.C.Collect.rule c.args.collect.now) (g.C.Collect.content c.args.collect.now) (g.C.Collect.content c.search.new.collect) c.new-4.result.items c.new-4.ensures.items)
+    (some-patterns c.args.ranked.now c.records-records.ensures.rules c.law_of_turns.ensures ((g.C.Collect.state c.args.collect.now).rule) ((g.C.Collect.state c.args.collect.now).content) ((g.C.Collect.state c.search.new.collect).content) c.new-4.result.items c.new-4.ensures.items)
     c.search.ensures.err

@@ -1,7 +1,7 @@
 use Rattle.std.proofs.Common.{sym, subst}
 use Rattle.hu_run.specs.Words.{job, texts_of, names_of}
 use Rattle.hu_run.specs.Run.{Ends}
-use Rattle.hu_run.proofs.InputLemmas.{err_is, err_of}
+use Rattle.hu_input.proofs.InputLemmas.{err_is, err_of}
 use Rattle.hu_run.proofs.top.attempt.Goals as goal
 
 pub returns-in_err-job-clause-ends : goal.returns-in_err-job-clause-ends

@@ -1,5 +1,5 @@
 use Rattle.hu_run.specs.Words.{job, texts_of, names_of}
-use Rattle.hu_run.specs.Part.{Tells}
+use Rattle.hu_input.specs.Part.{Tells}
 use Rattle.hu_run.specs.Stop.{told_line, word_text}
 use Rattle.hu_run.proofs.TopLemmas.{done_no_fault, done_tells_nothing, done_not_refused, done_not_lacking, stop_of_words, stop_tells_words, stop_at_read, stop_at_line, stop_accepted, stop_refused, stop_lacking}
 use Rattle.hu_run.proofs.top.run.Goals as goal

@@ -1,6 +1,6 @@
 use Rattle.hu_collect.proofs.lemmas.Searching.{stopped}
 use Rattle.hu_search.specs.Children.{IsChild, IsOneOf, ranks_of}
-use Rattle.hu_search.proofs.lemmas.Ascending.{each-get}
+use Rattle.hu_kind.proofs.lemmas.Each.{each-get}
 use Rattle.hu_search.proofs.lemmas.Children.{offered-next, some-offered}
 use Rattle.hu_search.proofs.offer.offer_children.Goals as goal
 

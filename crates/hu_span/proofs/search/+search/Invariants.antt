@@ -10,7 +10,7 @@ decreases-search g l = 4097 - length l.steps.now.items
 
 abbrev pub invariant-found : goal.invariant-found
 invariant-found g l = record {
-  rule : g.C.Collect.rule l.collect ≡ g.C.Collect.rule l.initial.collect;
+  rule : (g.C.Collect.state l.collect).rule ≡ (g.C.Collect.state l.initial.collect).rule;
   steps : l.steps.items ≡ l.initial.steps.items;
-  made : MakesReaching (g.C.Collect.rule l.initial.collect) (g.C.Collect.content l.initial.collect) (Among (Through (sequences_of l.rows) (pattern_of l.initial.steps.items)) (take l.candidate-index l.found)) (g.C.Collect.content l.collect);
+  made : MakesReaching ((g.C.Collect.state l.initial.collect).rule) ((g.C.Collect.state l.initial.collect).content) (Among (Through (sequences_of l.rows) (pattern_of l.initial.steps.items)) (take l.candidate-index l.found)) ((g.C.Collect.state l.collect).content);
 }

@@ -11,7 +11,7 @@ pub returns-clause-candidates : goal.returns-clause-candidates
 returns-clause-candidates g c =
     let pattern = pattern_of c.args.steps.now in
     let rows = c.args.rows.now in
-    let floor = floor_of (g.C.Collect.rule c.offer.new.collect) (g.C.Collect.content c.offer.new.collect) in
+    let floor = floor_of ((g.C.Collect.state c.offer.new.collect).rule) ((g.C.Collect.state c.offer.new.collect).content) in
     let fits : FitsSigned w128 c.floor.result = omega (arith, ints, c.floor.type_inv) in
     IfOk-weaker c.candidates.result (λ found. AreCandidates pattern rows (to_z w128 (of_z w128 c.floor.result)) found.items) (λ found. AreCandidates pattern rows floor found.items)
     (λ found are. subst (λ f. AreCandidates pattern rows f found.items) (to_z-of_z w128 c.floor.result fits ∙ c.floor.ensures.value) are)

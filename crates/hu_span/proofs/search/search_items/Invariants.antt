@@ -6,7 +6,7 @@ use Rattle.hu_span.proofs.search.search_items.Given as goal
 
 abbrev pub invariant-items : goal.invariant-items
 invariant-items g l = record {
-  rule : g.C.Collect.rule l.collect ≡ g.C.Collect.rule l.initial.collect;
+  rule : (g.C.Collect.state l.collect).rule ≡ (g.C.Collect.state l.initial.collect).rule;
   steps : l.steps.items ≡ [];
-  made : MakesReaching (g.C.Collect.rule l.initial.collect) (g.C.Collect.content l.initial.collect) (Among (From l.records) (take l.item-index l.items)) (g.C.Collect.content l.collect);
+  made : MakesReaching ((g.C.Collect.state l.initial.collect).rule) ((g.C.Collect.state l.initial.collect).content) (Among (From l.records) (take l.item-index l.items)) ((g.C.Collect.state l.collect).content);
 }

@@ -1,4 +1,4 @@
-use Rattle.std.proofs.Common.{ap, sym, inr}
+use Rattle.std.proofs.Common.{ap, ◌∙◌, inr}
 use Rattle.std.specs.Option.{option_map}
 use Rattle.hu_kind.specs.Number.{number}
 use Rattle.hu_kind.specs.Token.{tokens}
@@ -8,8 +8,10 @@ use Rattle.hu_trans.proofs.numbers.read_items.Goals as goal
 
 pub returns-in-Err-clause-bad : goal.returns-in-Err-clause-bad
 returns-in-Err-clause-bad c =
-    let first = bad_token-some number (tokens c.args.part.now) _ c.loop-token.at _ _ _ c.loop-token.invariant.place c.in-Some.ensures.steps (sym c.in-Err.ensures) in
+    let found = c.in-Some.ensures.found in
+    let place = c.loop-said.invariant.place in
+    let first = bad_token-some number (tokens c.args.part.now) (tokens c.loop-said.rest.now) c.loop-said.at found.token _ _ place found.first (found.value ∙ c.in-Err.is) in
     inr (ap (option_map (BadNumber 1)) first)
 
 pub returns-clause-good : goal.returns-clause-good
-returns-clause-good c = bad_token-none number (tokens c.args.part.now) _ c.loop-token.at c.loop-token.invariant.place c.in-None.ensures.steps.0
+returns-clause-good c = bad_token-none number (tokens c.args.part.now) (tokens c.loop-said.rest.now) c.loop-said.at c.loop-said.invariant.place c.in_default.ensures.none

@@ -5,12 +5,13 @@ use Rattle.hu_trans.specs.Line.{numbers}
 use Rattle.hu_trans.proofs.NumbersLemmas.{bad_from}
 use Rattle.hu_trans.proofs.numbers.read_utilities.Given as goal
 
-abbrev pub invariant-loop-token : goal.invariant-loop-token
-invariant-loop-token l = record {
-  ready : (goal.iterator-loop-token).can_next l.token-iterator;
-  finite : (goal.iterator-loop-token).is_finite l.token-iterator;
-  so_far : l.utilities.items ++ numbers signed_number l.token-iterator ≡ numbers signed_number (tokens l.part);
-  place : bad_from signed_number 0 (tokens l.part) ≡ bad_from signed_number l.at l.token-iterator;
+abbrev pub invariant-loop-said : goal.invariant-loop-said
+invariant-loop-said l = record {
+  so_far : l.utilities.items ++ numbers signed_number (tokens l.rest) ≡ numbers signed_number (tokens l.part);
+  place : bad_from signed_number 0 (tokens l.part) ≡ bad_from signed_number l.at (tokens l.rest);
   count : length l.utilities.items ≡ l.at;
-  few : l.at + length l.token-iterator ≤ 1048576;
+  few : l.at + length l.rest ≤ 1048576;
 }
+
+abbrev pub decreases-loop-said : goal.decreases-loop-said
+decreases-loop-said l = length l.rest

@@ -1,4 +1,4 @@
-use Rattle.hu_io.proofs.Lookups.{Adds-pairs}
+use Rattle.hu_io.proofs.LookupLemmas.{Adds-pairs}
 use Rattle.hu_io.proofs.contents.Contents.add.Goals as goal
 
 pub returns-clause-ok : goal.returns-clause-ok

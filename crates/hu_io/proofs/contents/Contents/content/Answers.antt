@@ -1,6 +1,6 @@
 use Rattle.std.proofs.Common.{sym, ap, ◌∙◌}
 use Rattle.std.specs.Option.{option_map}
-use Rattle.hu_io.proofs.Lookups.{content_in-pairs}
+use Rattle.hu_io.proofs.LookupLemmas.{content_in-pairs}
 use Rattle.hu_io.proofs.contents.Contents.content.Goals as goal
 
 pub returns-in-Some : goal.returns-in-Some

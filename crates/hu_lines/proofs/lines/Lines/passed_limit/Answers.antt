@@ -16,4 +16,4 @@ returns c =
     let from : c.from.result ≡ cond (has_line_feed taken) 1 0 = c.from.ensures ∙ (as_number c.args.whole ∙ ap (λ t. cond {A = ℕ} t 1 0) c.requires.whole) in
     let body : ((c.len.result + length taken) - c.from.result) + cond (has_line_feed taken) 1 0 ≡ c.len.result + length taken = omega (arith, line_feed-le taken) in
     rw (← c.self.view_is)
-    (c.limit_passed.ensures ∙ sym (refusal_by_length inside.number inside.before _ _ inside.bytes.items taken begun c.requires.one (omega arith) body))
+    (c.limit_passed.ensures ∙ sym (refusal_by_length inside.number inside.before _ _ inside.bytes.items taken c.self.invariant.held.counted begun c.requires.one (omega arith) body))

@@ -1,5 +1,5 @@
 use Rattle.std.proofs.Common.{sym, subst}
-use Rattle.hu_run.specs.Part.{Tells}
+use Rattle.hu_input.specs.Part.{Tells}
 use Rattle.hu_run.specs.Stop.{stop_line}
 use Rattle.hu_run.proofs.stop.Stop.tell.Goals as goal
 

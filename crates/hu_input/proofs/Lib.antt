@@ -1,0 +1,6 @@
+mod PartLemmas
+mod InputLemmas
+mod IntakeLemmas
+mod FrontLemmas
+mod FileLemmas
+mod NamesLemmas

@@ -1,0 +1,35 @@
+//! The engines.
+
+ghost use Rattle.std.specs.Prelude.{◌≡◌};
+ghost use Rattle.hu_mine.specs.Engine.{offers};
+
+use hu_kind::Task;
+
+/// An engine: the way in which patterns are searched. All engines of a task give the same answer.
+#[derive(Clone, Copy, Debug, PartialEq, Eq)]
+pub enum Engine {
+    /// Every pattern that occurs is tried.
+    Plain,
+    /// Utility lists.
+    Lists,
+    /// Projected and merged rows.
+    Project,
+    /// A kept answer to which batches are appended.
+    Kept,
+    /// Utility chains, for sequences.
+    Chain,
+}
+
+impl Engine {
+    /// Whether a task offers the engine.
+    pub fn serves(self, task: Task) -> bool
+        ensures { result ≡ offers task self }
+    {
+        match (task, self) {
+            (Task::Items | Task::Closed, Engine::Chain) => false,
+            (Task::Items | Task::Closed, _) => true,
+            (Task::Sequences, Engine::Plain | Engine::Chain) => true,
+            (Task::Sequences, _) => false,
+        }
+    }
+}
