@@ -7,6 +7,7 @@ pub mod LeftLemmas
 pub mod ChosenLemmas
 pub mod GrownLemmas
 pub mod SearchLemmas
+pub mod TurnLemmas
 pub mod NodeSums
 pub mod SetLemmas
 pub mod ListLemmas

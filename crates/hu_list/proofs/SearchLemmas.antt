@@ -1,11 +1,12 @@
 -- What a search over tails does, set by set.
-use Rattle.std.proofs.Common.{◌≡◌, ℕ, zero, suc, ◌+◌, ◌-◌, ◌*◌, ◌<◌, ◌≤◌, Bool, true, false, cond, ℤ, pos, ◌+ℤ◌, ◌≤ℤ◌, ◌<ℤ◌, List, [], ◌∷◌, ◌++◌, length, get_or, map, sum_by, inl, inr, ◌⊎◌, refl, sym, ap, ◌∙◌, subst, arith, append_assoc, Contains, nat_eq}
+use Rattle.std.proofs.Common.{◌≡◌, ℕ, zero, suc, ◌+◌, ◌-◌, ◌*◌, ◌<◌, ◌≤◌, Bool, true, false, cond, ℤ, pos, ◌+ℤ◌, ◌≤ℤ◌, ◌<ℤ◌, List, [], ◌∷◌, ◌++◌, length, get_or, map, sum_by, inl, inr, ◌⊎◌, refl, sym, ap, ◌∙◌, subst, arith, append_assoc, Contains, nat_eq, flat_map}
 use Rattle.std.specs.List.{AllByRecursion}
 use Rattle.std.proofs.lemmas.Int.{ints}
 use Rattle.hu_kind.specs.declared.entry.Entry.{Entry}
 use Rattle.hu_kind.specs.Database.{utility, support}
 use Rattle.hu_kind.specs.Order.{Ascend}
-use Rattle.hu_kind.proofs.lemmas.Members.{Member, Member-from_contains, Contains-from_member}
+use Rattle.hu_kind.proofs.lemmas.Members.{Member, Member-from_contains, Contains-from_member, Member-from_flat_map}
+use Rattle.hu_kind.proofs.lemmas.Occurring.{at_member, held-members}
 use Rattle.hu_totals.specs.Ranked.{Ranking}
 use Rattle.hu_collect.specs.State.{State, floor_in, IsInOrder, Reached}
 use Rattle.hu_collect.specs.Rule.{passes}
@@ -13,14 +14,16 @@ use Rattle.hu_collect.proofs.lemmas.Searching.{reached-rule, reached-floor, reac
 use Rattle.hu_search.specs.declared.child.Child.{Child}
 use Rattle.hu_search.specs.Growth.{rank_entry, Grows, InTable}
 use Rattle.hu_search.specs.Children.{IsChild, AreChildren, AreEnough, AreOpen, IsBarren, IsBound, Counts, ranks_of}
-use Rattle.hu_kind.proofs.lemmas.Each.{each-left, each-right}
+use Rattle.hu_kind.proofs.lemmas.Each.{each-weaker, each-left, each-right}
 use Rattle.std.proofs.lemmas.List.Sums.{sum_by-cons}
 use Rattle.hu_kind.specs.Record.{items_in, holds, values_of, absolute_of}
 use Rattle.hu_totals.specs.Ranked.{IsRanking}
 use Rattle.hu_kind.proofs.lemmas.Ascending.{each-ascending, each-in_range}
+use Rattle.hu_list.specs.Slots.{among}
 use Rattle.hu_list.specs.Tails.{TailOf, tail_from, earned, held, size_of}
 use Rattle.hu_list.specs.View.{IsTail}
 use Rattle.hu_list.specs.Level.{IsLeft, IsMost, IsLevel, AreChosen}
+use Rattle.hu_list.proofs.LeftLemmas.{among-contains}
 
 -- the rank from which on a set may grow
 abbrev pub next : List ℕ → ℕ
@@ -37,6 +40,10 @@ pub next-below : (set : List ℕ) (z : ℕ) → Ascend (set ++ z ∷ []) → nex
 next-below [] z up = omega arith
 next-below (x ∷ []) z up = let low = up.0 in let first = low.0 in omega (arith, first)
 next-below (x ∷ y ∷ xs) z up = next-below (y ∷ xs) z up.1
+
+-- the last rank of a set is in the table where all are
+pub last-in : (set : List ℕ) (z n : ℕ) → AllByRecursion (λ rank. rank < n) (set ++ z ∷ []) → z < n
+last-in set z n all = let last = each-right (λ rank. rank < n) set (z ∷ []) all in last.0
 
 -- what counts later counted before
 counts-before : {s t : State} {e : Entry} → t.rule ≡ s.rule → floor_in s ≤ℤ floor_in t → Counts t e → Counts s e
@@ -122,7 +129,22 @@ empty-barren s r set [] left none entry grows counts = by grows.more grows.some 
     by (first ∷ more) some up occurs = let same = left.support first more up in absurd (omega (arith, same, occurs))
 empty-barren s r set (tail ∷ tails) left none entry grows counts = absurd (omega (arith, none))
 
--- ---- the records as tails of the empty set
+-- ---- the records as tails of the empty set, and all ranks
+
+in_cells : (n rank : ℕ) (cells : List (ℕ × ℤ)) → AllByRecursion (λ cell. cell.0 < n) cells → Member rank (items_in cells) → rank < n
+in_cells n rank [] all m = absurd m
+in_cells n rank (cell ∷ cells) all (inl e) = let low = all.0 in omega (arith, e, low)
+in_cells n rank (cell ∷ cells) all (inr m) = in_cells n rank cells all.1 m
+
+-- all ranks are enough for the empty set
+pub enough-first : (s : State) (r : Ranking) (set ranks : List ℕ) → IsRanking r → set ≡ [] → ((z : ℕ) → z < length r.items → among z ranks ≡ true) → AreEnough s r set ranks
+enough-first s r set ranks rules none all = subst (λ set. AreEnough s r set ranks) (sym none) (λ more up occurs counts.
+    each-weaker (λ rank. Member rank (flat_map items_in r.records)) (Contains ranks) more
+    (λ rank m.
+    let found = Member-from_flat_map items_in rank r.records m in
+    among-contains rank ranks (all rank (in_cells (length r.items) rank found.0
+    (at_member (λ cells. AllByRecursion (λ cell. cell.0 < length r.items) cells) found.0 r.records (each-in_range (length r.items) r.records rules.in_range) found.1) found.2)))
+    (held-members r.records more occurs))
 
 earned-first : (records : List (List (ℕ × ℤ))) (more : List ℕ) → utility records more ≡ earned (map tail_from records) more
 earned-first [] more = refl

@@ -1,8 +1,7 @@
-use Rattle.std.proofs.Common.{◌≡◌, ◌≤ℤ◌, ◌+◌, ◌-◌, ◌*◌, length}
-use Rattle.hu_collect.specs.State.{floor_in, Reached}
-use Rattle.hu_search.specs.Children.{IsUpto}
+use Rattle.std.proofs.Common.{◌≡◌, ◌+◌, ◌-◌, ◌*◌, length}
 use Rattle.hu_list.specs.Board.{HasRoom}
 use Rattle.hu_list.proofs.SearchLemmas.{next}
+use Rattle.hu_list.proofs.TurnLemmas.{IsSoFar}
 use Rattle.hu_list.proofs.search.+search.Given as goal
 
 -- a search comes after the entry of a set with more ranks before it, and before that of one with fewer
@@ -16,6 +15,5 @@ abbrev pub invariant-search-chosen : goal.invariant-search-chosen
 invariant-search-chosen g l = record {
   ranks : l.ranks.items ≡ l.fn.ranks.items;
   room : HasRoom l.board (length l.ranked.items);
-  rises : floor_in (g.C.Collect.state l.initial.collect) ≤ℤ floor_in (g.C.Collect.state l.collect);
-  upto : Reached (g.C.Collect.state l.fn.collect) (IsUpto l.ranked l.fn.ranks.items l.later.items l.child-items l.at) (g.C.Collect.state l.collect);
+  so_far : IsSoFar (g.C.Collect.state l.fn.collect) (g.C.Collect.state l.collect) l.ranked l.fn.ranks.items l.later.items l.child-items l.lists.items l.at;
 }
