@@ -1,5 +1,5 @@
 -- The tails of a set with a rank more: what sets earn over them, and that they keep the rules of tails.
-use Rattle.std.proofs.Common.{◌≡◌, ℕ, ◌+◌, ◌<◌, ◌≤◌, ◌^◌, Bool, true, false, cond, nat_lt, ◌&&◌, ℤ, pos, ◌+ℤ◌, List, [], ◌∷◌, ◌++◌, length, get_or, take, filter, nat_eq, refl, sym, ap, ◌∙◌, subst, arith, append_assoc, sum_by}
+use Rattle.std.proofs.Common.{◌≡◌, ℕ, ◌+◌, ◌<◌, ◌≤◌, Bool, true, false, cond, nat_lt, ◌&&◌, ℤ, pos, ◌+ℤ◌, List, [], ◌∷◌, ◌++◌, length, get_or, take, filter, nat_eq, refl, sym, ap, ◌∙◌, subst, arith, append_assoc, sum_by}
 use Rattle.std.specs.List.{AllByRecursion, IsDistinct}
 use Rattle.std.proofs.lemmas.List.{length-map}
 use Rattle.hu_search.specs.declared.child.Child.{Child}
@@ -18,7 +18,7 @@ use Rattle.hu_totals.specs.Ranked.{Ranking}
 use Rattle.hu_kind.proofs.lemmas.Each.{each-weaker, each-left, each-right, each-append}
 use Rattle.hu_kind.proofs.lemmas.Ascending.{Ascend-right}
 use Rattle.hu_list.specs.Tails.{TailOf, earned, held, after, grown_at, grown, has_cells, size_of}
-use Rattle.hu_list.specs.View.{IsTail, AreTails}
+use Rattle.hu_list.specs.View.{IsTail}
 use Rattle.hu_list.specs.Level.{IsLeft, AreGrown}
 use Rattle.hu_list.proofs.AfterLemmas.{holds-after, values_of-after, Ascend-after, each-after, absolute_of-after}
 use Rattle.hu_list.proofs.LeftLemmas.{at-has}

@@ -1,26 +1,25 @@
 -- What the tails of a set say of its children.
-use Rattle.std.proofs.Common.{◌≡◌, ℕ, zero, suc, ◌+◌, ◌<◌, ◌≤◌, Bool, true, false, cond, eqb, ◌||◌, ◌&&◌, ℤ, pos, ◌+ℤ◌, ◌≤ℤ◌, ◌<ℤ◌, Option, None, Some, List, [], ◌∷◌, ◌++◌, length, get_or, take, inl, inr, ◌⊎◌, refl, sym, ap, ◌∙◌, subst, arith, Contains, nat_eq, append-nil, IfSome, MatchOption, Result, Ok, Err, IfOk}
+use Rattle.std.proofs.Common.{◌≡◌, ℕ, zero, suc, ◌+◌, ◌<◌, Bool, true, false, cond, eqb, ◌||◌, ◌&&◌, ℤ, pos, ◌≤ℤ◌, ◌<ℤ◌, Option, None, Some, List, [], ◌∷◌, ◌++◌, length, get_or, take, inl, inr, ◌⊎◌, refl, sym, ap, ◌∙◌, subst, arith, Contains, nat_eq, append-nil, IfSome, MatchOption, Result, Ok, Err, IfOk}
 use Rattle.std.specs.Prelude.{⊤}
 use Rattle.std.specs.List.{AllByRecursion, IsDistinct}
 use Rattle.std.proofs.lemmas.Bool.{eq-eqb, eqb-true, or_cases, false≢true}
 use Rattle.std.proofs.lemmas.Int.{ints}
 use Rattle.std.proofs.lemmas.List.{take_more}
-use Rattle.hu_kind.specs.Database.{utility, support}
 use Rattle.hu_kind.specs.Order.{Ascend}
 use Rattle.hu_kind.specs.Record.{has, items_in}
 use Rattle.hu_kind.proofs.lemmas.Members.{Member, Member-append_left, Member-append_right, Member-from_contains, Contains-from_member}
 use Rattle.hu_totals.specs.Ranked.{Ranking}
 use Rattle.hu_collect.specs.State.{State, floor_in}
 use Rattle.hu_search.specs.declared.child.Child.{Child}
-use Rattle.hu_search.specs.Growth.{rank_entry, InTable}
-use Rattle.hu_search.specs.Children.{IsChild, AreChildren, AreEnough, Counts, ranks_of}
+use Rattle.hu_search.specs.Growth.{InTable}
+use Rattle.hu_search.specs.Children.{IsChild, AreEnough, ranks_of}
 use Rattle.hu_kind.proofs.lemmas.Each.{each-weaker, each-left, each-right, each-append}
 use Rattle.hu_kind.proofs.lemmas.Ascending.{Ascend-right, Ascend-across}
 use Rattle.hu_list.specs.declared.sums.Sum.{Sum}
 use Rattle.hu_list.specs.Slots.{among, at}
-use Rattle.hu_list.specs.Tails.{TailOf, earned, held, gain_with}
+use Rattle.hu_list.specs.Tails.{TailOf, held, gain_with}
 use Rattle.hu_list.specs.Passes.{met_in, gaining, summing, no_sum}
-use Rattle.hu_list.specs.View.{IsTail, AreTails}
+use Rattle.hu_list.specs.View.{IsTail}
 use Rattle.hu_list.specs.Level.{IsLeft, IsRefused, IsMost, IsLevel, AreKept, sum_of}
 use Rattle.hu_list.proofs.SlotLemmas.{at-absent, distinct-before, at-place, false_from}
 use Rattle.hu_list.proofs.GrowthLemmas.{AllUp, gained, gained-out, gain-unheld, earned-gain, summed-support, summed-utility, summed-bound}

@@ -1,5 +1,5 @@
 -- Passes over cells and tails, a cell at a time.
-use Rattle.std.proofs.Common.{◌≡◌, ℕ, zero, suc, ◌+◌, ◌<◌, ◌≤◌, Bool, true, false, cond, eqb, ◌||◌, ℤ, unsigned_abs, ◌+ℤ◌, List, [], ◌∷◌, length, get_or, drop, map, inl, inr, refl, sym, ap, ◌∙◌, subst, arith, add-one, sum_by}
+use Rattle.std.proofs.Common.{◌≡◌, ℕ, zero, suc, ◌+◌, ◌<◌, ◌≤◌, Bool, true, false, cond, eqb, ◌||◌, ℤ, unsigned_abs, ◌+ℤ◌, List, [], ◌∷◌, length, get_or, drop, inl, inr, refl, sym, ap, ◌∙◌, subst, arith, add-one, sum_by}
 use Rattle.std.specs.List.{AllByRecursion}
 use Rattle.std.proofs.lemmas.Bool.{ne_eqb, eq-eqb, eqb-true, or_cases, cases_eq}
 use Rattle.std.proofs.lemmas.List.{drop_more}

@@ -1,5 +1,5 @@
 -- What a search over tails does, set by set.
-use Rattle.std.proofs.Common.{◌≡◌, ℕ, zero, suc, ◌+◌, ◌-◌, ◌*◌, ◌<◌, ◌≤◌, Bool, true, false, cond, ℤ, pos, ◌+ℤ◌, ◌≤ℤ◌, ◌<ℤ◌, List, [], ◌∷◌, ◌++◌, length, get_or, map, sum_by, inl, inr, ◌⊎◌, refl, sym, ap, ◌∙◌, subst, arith, append_assoc, Contains, nat_eq, flat_map}
+use Rattle.std.proofs.Common.{◌≡◌, ℕ, ◌+◌, ◌<◌, ◌≤◌, Bool, true, false, cond, ℤ, pos, ◌+ℤ◌, ◌≤ℤ◌, List, [], ◌∷◌, ◌++◌, length, map, sum_by, inl, inr, refl, sym, ap, ◌∙◌, subst, arith, append_assoc, Contains, flat_map}
 use Rattle.std.specs.List.{AllByRecursion}
 use Rattle.std.proofs.lemmas.Int.{ints}
 use Rattle.hu_kind.specs.declared.entry.Entry.{Entry}
@@ -10,11 +10,11 @@ use Rattle.hu_kind.proofs.lemmas.Occurring.{at_member, held-members}
 use Rattle.hu_totals.specs.Ranked.{Ranking}
 use Rattle.hu_collect.specs.State.{State, floor_in, IsInOrder, Reached}
 use Rattle.hu_collect.specs.Rule.{passes}
-use Rattle.hu_collect.proofs.lemmas.Searching.{reached-rule, reached-floor, reached-none}
+use Rattle.hu_collect.proofs.lemmas.Searching.{reached-none}
 use Rattle.hu_search.specs.declared.child.Child.{Child}
-use Rattle.hu_search.specs.Growth.{rank_entry, Grows, InTable}
+use Rattle.hu_search.specs.Growth.{rank_entry, Grows}
 use Rattle.hu_search.specs.Children.{IsChild, AreChildren, AreEnough, AreOpen, IsBarren, IsBound, Counts, ranks_of}
-use Rattle.hu_kind.proofs.lemmas.Each.{each-weaker, each-left, each-right}
+use Rattle.hu_kind.proofs.lemmas.Each.{each-weaker, each-right}
 use Rattle.std.proofs.lemmas.List.Sums.{sum_by-cons}
 use Rattle.hu_kind.specs.Record.{items_in, holds, values_of, absolute_of}
 use Rattle.hu_totals.specs.Ranked.{IsRanking}
@@ -137,13 +137,15 @@ in_cells n rank (cell ∷ cells) all (inl e) = let low = all.0 in omega (arith, 
 in_cells n rank (cell ∷ cells) all (inr m) = in_cells n rank cells all.1 m
 
 -- all ranks are enough for the empty set
-pub enough-first : (s : State) (r : Ranking) (set ranks : List ℕ) → IsRanking r → set ≡ [] → ((z : ℕ) → z < length r.items → among z ranks ≡ true) → AreEnough s r set ranks
+pub enough-first : (s : State) (r : Ranking) (set ranks : List ℕ) → IsRanking r → set ≡ []
+    → ((z : ℕ) → z < length r.items → among z ranks ≡ true) → AreEnough s r set ranks
 enough-first s r set ranks rules none all = subst (λ set. AreEnough s r set ranks) (sym none) (λ more up occurs counts.
     each-weaker (λ rank. Member rank (flat_map items_in r.records)) (Contains ranks) more
     (λ rank m.
     let found = Member-from_flat_map items_in rank r.records m in
     among-contains rank ranks (all rank (in_cells (length r.items) rank found.0
-    (at_member (λ cells. AllByRecursion (λ cell. cell.0 < length r.items) cells) found.0 r.records (each-in_range (length r.items) r.records rules.in_range) found.1) found.2)))
+    (at_member (λ cells. AllByRecursion (λ cell. cell.0 < length r.items) cells) found.0 r.records
+    (each-in_range (length r.items) r.records rules.in_range) found.1) found.2)))
     (held-members r.records more occurs))
 
 earned-first : (records : List (List (ℕ × ℤ))) (more : List ℕ) → utility records more ≡ earned (map tail_from records) more

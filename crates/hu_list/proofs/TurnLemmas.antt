@@ -21,6 +21,7 @@ use Rattle.hu_list.proofs.SearchLemmas.{enough-later, open-is, chosen-children}
 
 -- all children of a set were offered, and of those that were chosen then the first are entered
 pub record IsSoFar (old now : State) (r : Ranking) (set later : List ℕ) (chosen : List Child) (lists : List (Vec Tail Global)) (at : ℕ) : Type 0 where
+  -- the state after the offers of all children, and these
   pub mid : State
   pub children : List Child
   pub level : IsLevel old r set children
@@ -59,7 +60,7 @@ module _ {old now : State} {r : Ranking} {set later : List ℕ} {chosen : List C
   pub so_far-all : (d : Child) → (length chosen ≤ at) ⊎ ((get_or chosen at d).bound <ℤ floor_in now) → Reached old (Grows r set) now
   so_far-all d ends =
       let opened = subst (λ ranks. AreOpen so_far.mid r set ranks chosen) (sym so_far.ranks)
-          (open-is {s = old} {t = so_far.mid} r set so_far.children chosen (reached-rule so_far.offers) (reached-floor ordered so_far.offers) so_far.level so_far.are) in
+      (open-is {s = old} {t = so_far.mid} r set so_far.children chosen (reached-rule so_far.offers) (reached-floor ordered so_far.offers) so_far.level so_far.are) in
       upto-all r set later chosen at d ordered enough so_far.offers opened so_far.are.fall so_far.rises ends so_far.upto
 
   module _ (within : at < length chosen) (d : Child) where
@@ -74,8 +75,9 @@ module _ {old now : State} {r : Ranking} {set later : List ℕ} {chosen : List C
         let rank : get_or (ranks_of chosen) at 0 ≡ (get_or chosen at d).rank = get_or-map (λ (child : Child). child.rank) chosen at d 0 within in
         let long : at < length lists = omega (arith, so_far.len, within) in
         let tails : get_or (lists_of lists) at [] ≡ tails_of list.items =
-            get_or-map (λ (list : Vec Tail Global). tails_of list.items) lists at list [] long ∙ ap (λ (l : Vec Tail Global). tails_of l.items) (sym is) in
-        subst (λ z. IsLeft r (set ++ z ∷ []) (tails_of list.items)) rank (subst (IsLeft r (set ++ get_or (ranks_of chosen) at 0 ∷ [])) tails (so_far.grown at within))
+        get_or-map (λ (list : Vec Tail Global). tails_of list.items) lists at list [] long ∙ ap (λ (l : Vec Tail Global). tails_of l.items) (sym is) in
+        subst (λ z. IsLeft r (set ++ z ∷ []) (tails_of list.items)) rank
+        (subst (IsLeft r (set ++ get_or (ranks_of chosen) at 0 ∷ [])) tails (so_far.grown at within))
 
     pub so_far-next : {next : State} → Reached now (Grows r (set ++ (get_or chosen at d).rank ∷ [])) next → IsSoFar old next r set later chosen lists (at + 1)
     so_far-next entered = record {

@@ -1,5 +1,5 @@
 -- Some ranks below a number, each once, and lists that go along with them.
-use Rattle.std.specs.Prelude.{◌≡◌, ℕ, ◌<◌, ◌==◌, Bool, false, List, [], ◌∷◌, length, take, get_or, slice_index_or, if◌then◌else◌}
+use Rattle.std.specs.Prelude.{◌≡◌, ℕ, ◌<◌, ◌==◌, Bool, false, List, [], ◌∷◌, length, take, slice_index_or, if◌then◌else◌}
 use Rattle.std.specs.List.{list_any}
 
 -- some of the ranks below a number

@@ -36,7 +36,7 @@ pub fn mine<C: Collect, G: Gate>(
     collect: &mut C,
     gate: &G,
 ) -> Result<(), NoMemory>
-    requires floor { ranked.now.floor ≤ℤ floor_in (C.state collect.old) }
+    requires ranked_floor { ranked.now.floor ≤ℤ floor_in (C.state collect.old) }
     requires gate_floor { G.floor gate.now ≤ℤ floor_in (C.state collect.old) }
     requires right { G.IsRightFor gate.now ranked.now.records }
     requires rests { RestsOn (C.state collect.old).rule.table ranked.now.items }
@@ -121,7 +121,9 @@ fn search<C: Collect, G: Gate>(
         if child.bound < collect.floor() {
             break;
         }
-        enter(alloc, ranked, ranks, child, &lists[at], &later, board, collect, gate)?;
+        enter(
+            alloc, ranked, ranks, child, &lists[at], &later, board, collect, gate,
+        )?;
     }
     Ok(())
 }

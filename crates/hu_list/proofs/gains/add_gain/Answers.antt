@@ -1,7 +1,6 @@
-use Rattle.std.proofs.Common.{◌≡◌, ℕ, ℤ, pos, ◌+ℤ◌, cond, eqb, to_z, of_z, get_or, set, sym, ap, ◌∙◌, arith, inl, inr, refl, true, false}
+use Rattle.std.proofs.Common.{◌≡◌, pos, ◌+ℤ◌, to_z, of_z, ◌∙◌, arith}
 use Rattle.std.specs.Int.{w128}
 use Rattle.std.proofs.lemmas.Int.{ints}
-use Rattle.std.proofs.lemmas.Bool.{cases_eq, ne_eqb, eq-eqb}
 use Rattle.std.proofs.lemmas.List.{get_or_read}
 use Rattle.hu_list.specs.Slots.{at}
 use Rattle.hu_list.proofs.SlotLemmas.{at-set, at-push, at-place, at-absent, changed_at}

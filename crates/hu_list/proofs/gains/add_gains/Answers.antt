@@ -1,11 +1,11 @@
-use Rattle.std.proofs.Common.{◌≡◌, ◌<◌, ◌+◌, ◌^◌, ℕ, ℤ, pos, ◌+ℤ◌, unsigned_abs, true, cond, eqb, to_z, of_z, get_or, length, drop, sym, ap, ◌∙◌, subst, arith}
+use Rattle.std.proofs.Common.{◌≡◌, ◌<◌, ℕ, ℤ, pos, ◌+ℤ◌, unsigned_abs, cond, eqb, to_z, of_z, get_or, ap, ◌∙◌, arith}
 use Rattle.std.specs.Int.{w128}
 use Rattle.std.proofs.lemmas.Int.{ints}
 use Rattle.hu_totals.specs.declared.ranked.Dense.{Dense}
 use Rattle.hu_list.specs.Slots.{among, at}
-use Rattle.hu_list.specs.Tails.{share, size_of}
-use Rattle.hu_list.specs.Passes.{met, gaining}
-use Rattle.hu_list.specs.View.{cells_of, tail_of}
+use Rattle.hu_list.specs.Tails.{share}
+use Rattle.hu_list.specs.Passes.{gaining}
+use Rattle.hu_list.specs.View.{tail_of}
 use Rattle.hu_list.proofs.ShareLemmas.{share-within}
 use Rattle.hu_list.proofs.PassLemmas.{rank-at, has-here, has-later, apart-later, pass-next}
 use Rattle.hu_list.proofs.gains.add_gains.Goals as goal

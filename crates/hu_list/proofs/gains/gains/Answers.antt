@@ -1,10 +1,8 @@
-use Rattle.std.proofs.Common.{◌≡◌, ◌<◌, ◌+◌, ◌^◌, ℕ, ℤ, pos, unsigned_abs, get_or, length, drop, [], sym, ap, ◌∙◌, subst, arith}
-use Rattle.std.proofs.lemmas.Int.{ints}
-use Rattle.std.proofs.lemmas.List.{at_drop_all}
+use Rattle.std.proofs.Common.{ℕ, ℤ, pos, unsigned_abs, get_or, [], sym, ap, ◌∙◌, subst, arith}
 use Rattle.hu_list.specs.declared.tail.Tail.{Tail}
 use Rattle.hu_list.specs.Slots.{at}
-use Rattle.hu_list.specs.Passes.{met_in, gaining}
-use Rattle.hu_list.specs.View.{tail_of, tails_of, IsTail}
+use Rattle.hu_list.specs.Passes.{gaining}
+use Rattle.hu_list.specs.View.{tail_of, IsTail}
 use Rattle.hu_list.proofs.PassLemmas.{tail-at, tails-next, sizes-split, gaining-within}
 use Rattle.hu_list.proofs.gains.gains.Goals as goal
 

@@ -1,13 +1,13 @@
-use Rattle.std.proofs.Common.{◌≡◌, ◌<◌, ◌++◌, ◌∷◌, [], ℕ, List, pos, true, false, cond, get_or, set, length, drop, nat_lt, ◌&&◌, sym, ap, ◌∙◌, subst, arith, unsigned_abs, ◌+ℤ◌, ◌+◌, ◌-◌, to_z, of_z, eqb, take}
+use Rattle.std.proofs.Common.{◌≡◌, ◌++◌, ◌∷◌, [], ℕ, List, pos, cond, get_or, length, drop, nat_lt, ◌&&◌, sym, ap, ◌∙◌, arith, ◌+ℤ◌, ◌+◌, ◌-◌, to_z, of_z, eqb, take}
 use Rattle.std.specs.Int.{w128}
 use Rattle.std.proofs.lemmas.List.{take_all, length-drop, length-map}
 use Rattle.hu_totals.specs.View.{dense_pair}
 use Rattle.std.proofs.lemmas.Int.{ints}
 use Rattle.hu_totals.specs.declared.ranked.Dense.{Dense}
 use Rattle.hu_list.specs.Slots.{among, at}
-use Rattle.hu_list.specs.Tails.{TailOf, size_of}
+use Rattle.hu_list.specs.Tails.{TailOf}
 use Rattle.hu_list.specs.Passes.{growing}
-use Rattle.hu_list.specs.View.{cells_of, tail_of, tails_of, lists_of}
+use Rattle.hu_list.specs.View.{cells_of, tail_of, lists_of}
 use Rattle.hu_list.proofs.ShareLemmas.{place-within}
 use Rattle.hu_list.proofs.PassLemmas.{pass-next}
 use Rattle.hu_list.proofs.grow.add_tails.Goals as goal

@@ -1,7 +1,7 @@
-use Rattle.std.proofs.Common.{◌≡◌, ◌<◌, ℕ, pos, get_or, length, [], arith}
+use Rattle.std.proofs.Common.{pos, [], arith}
 use Rattle.hu_list.specs.declared.tail.Tail.{Tail}
-use Rattle.hu_list.specs.View.{tail_of, tails_of, IsTail}
-use Rattle.hu_list.proofs.PassLemmas.{tail-at, tails-next, size-at}
+use Rattle.hu_list.specs.View.{IsTail}
+use Rattle.hu_list.proofs.PassLemmas.{tail-at, size-at}
 use Rattle.hu_list.proofs.grow.grown.Goals as goal
 
 pub add_tails-requires-clause-rules : goal.add_tails-requires-clause-rules

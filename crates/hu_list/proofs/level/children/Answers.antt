@@ -1,6 +1,6 @@
-use Rattle.std.proofs.Common.{◌≡◌, ◌≤ℤ◌, ℕ, ℤ, pos, get_or, length, [], List, sym, ap, ◌∙◌, subst, arith, to_z, of_z, nat_eq, rules}
+use Rattle.std.proofs.Common.{◌≡◌, ◌≤ℤ◌, pos, ap, ◌∙◌, subst, to_z, of_z, rules}
 use Rattle.std.specs.Int.{w128}
-use Rattle.std.specs.List.{AllByRecursion, IsDistinct}
+use Rattle.std.specs.List.{AllByRecursion}
 use Rattle.std.proofs.lemmas.Int.{to_z-of_z}
 use Rattle.std.specs.declared.vec.Vec.{Vec}
 use Rattle.std.specs.declared.alloc.Global.{Global}
@@ -8,7 +8,7 @@ use Rattle.hu_collect.specs.State.{floor_in}
 use Rattle.hu_search.specs.declared.child.Child.{Child}
 use Rattle.hu_search.specs.Children.{ranks_of}
 use Rattle.hu_list.specs.Slots.{at}
-use Rattle.hu_list.specs.Passes.{met_in, gaining, summing, no_sum}
+use Rattle.hu_list.specs.Passes.{met_in, gaining, no_sum}
 use Rattle.hu_list.specs.View.{tails_of}
 use Rattle.hu_list.specs.Level.{IsLevel, AreKept, sum_of}
 use Rattle.hu_list.proofs.LeftLemmas.{rank-later, below-last, level-is, both_ok}

@@ -1,4 +1,4 @@
-use Rattle.std.proofs.Common.{List, ◌≡◌, ◌<◌, ◌<ℤ◌, ℕ, get_or, length, take, sym, ap, ◌∙◌, subst, arith, to_z, of_z}
+use Rattle.std.proofs.Common.{List, ◌≡◌, ◌<◌, ◌<ℤ◌, get_or, length, take, sym, ap, ◌∙◌, subst, arith, to_z, of_z}
 use Rattle.std.specs.Int.{w128}
 use Rattle.std.proofs.lemmas.Int.{ints}
 use Rattle.hu_search.specs.declared.child.Child.{Child}

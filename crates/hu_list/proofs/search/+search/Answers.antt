@@ -1,11 +1,9 @@
-use Rattle.std.proofs.Common.{rules, ◌≡◌, ◌<◌, ◌≤◌, ◌+◌, ◌-◌, ◌*◌, ◌≤ℤ◌, ◌<ℤ◌, ℕ, pos, [], ◌∷◌, ◌++◌, List, length, nat_eq, to_z, of_z, get_or, slice_index_or, inl, inr, refl, sym, ap, ◌∙◌, subst, arith}
+use Rattle.std.proofs.Common.{rules, ◌≡◌, ◌<◌, ◌≤◌, ◌+◌, ◌-◌, ◌*◌, ◌≤ℤ◌, pos, [], ◌∷◌, ◌++◌, List, length, nat_eq, to_z, of_z, slice_index_or, inl, inr, refl, sym, ap, ◌∙◌, subst, arith}
 use Rattle.std.specs.List.{AllByRecursion, IsDistinct}
 use Rattle.std.specs.Int.{w128}
 use Rattle.std.proofs.lemmas.Bool.{eqb-true}
 use Rattle.std.proofs.lemmas.Int.{ints}
 use Rattle.std.proofs.lemmas.List.{length-map}
-use Rattle.std.specs.declared.vec.Vec.{Vec}
-use Rattle.std.specs.declared.alloc.Global.{Global}
 use Rattle.hu_kind.specs.Order.{Ascend}
 use Rattle.hu_collect.specs.State.{floor_in, IsInOrder, Reached, ReachedSome}
 use Rattle.hu_collect.specs.Ranks.{RestsOn}
@@ -19,7 +17,7 @@ use Rattle.hu_list.specs.View.{tails_of, lists_of, tail_of}
 use Rattle.hu_list.specs.Board.{HasRoom}
 use Rattle.hu_list.specs.Level.{IsLeft, IsLevel, AreChosen, AreGrown}
 use Rattle.hu_list.proofs.SearchLemmas.{next, next-push, next-below, last-in, barren-reached, empty-barren, chosen-children}
-use Rattle.hu_list.proofs.TurnLemmas.{IsSoFar, offered-stopped, so_far-ordered, so_far-rule, so_far-rises, so_far-once, so_far-within, so_far-all, so_far-child, so_far-enough, so_far-left, so_far-next, so_far-some}
+use Rattle.hu_list.proofs.TurnLemmas.{offered-stopped, so_far-ordered, so_far-rule, so_far-rises, so_far-once, so_far-within, so_far-all, so_far-child, so_far-enough, so_far-left, so_far-next, so_far-some}
 use Rattle.hu_list.proofs.search.+search.Goals.{enter-then-is_empty-via-then-is_empty, enter-then-is_empty-via-else-is_empty+in_ok-opens+then-not-branch, search-else-chosen-test, search-then-chosen-test+then-child-floor}
 use Rattle.hu_list.proofs.search.+search.Goals as goal
 
@@ -54,7 +52,8 @@ enter-search-requires g t c κs within =
     let enough : AreEnough s r c.push.new.self.items c.fill.new.self.ranks =
     subst (λ set. AreEnough s r set c.fill.new.self.ranks) (sym pushed)
     (subst (AreEnough s r (c.args.ranks.now.items ++ c.args.child.now.rank ∷ [])) (sym filled) c.requires.enough) in
-    let room : HasRoom record { kept = c.fill.new.self; found = c.args.board.now.found } n = record { kept = c.fill.ensures.room ∙ c.requires.room.kept; found = c.requires.room.found } in
+    let room : HasRoom record { kept = c.fill.new.self; found = c.args.board.now.found } n =
+    record { kept = c.fill.ensures.room ∙ c.requires.room.kept; found = c.requires.room.found } in
     let after : next c.push.new.self.items ≡ c.args.child.now.rank + 1 = ap next pushed ∙ next-push c.args.ranks.now.items c.args.child.now.rank in
     let smaller : 2 * (n - next c.push.new.self.items) < 2 * (n - (c.args.child.now.rank + 1)) + 1 = omega (arith, after) in
     search rules
@@ -70,7 +69,8 @@ search-returns-in_err-offer_children-clause-searches g t c =
     let r = c.args.ranked.now in
     let old = g.C.Collect.state c.args.collect.now in
     let new = g.C.Collect.state c.offer_children.new.collect in
-    let some : ReachedSome old (Grows r c.deref-2.result.now) new = offered-some r c.deref-2.result.now (ranks_of c.deref-3.result.now) c.in_err-offer_children.ensures in
+    let some : ReachedSome old (Grows r c.deref-2.result.now) new =
+    offered-some r c.deref-2.result.now (ranks_of c.deref-3.result.now) c.in_err-offer_children.ensures in
     stopped {P = Grows r c.args.ranks.now.items} c.from_residual-in_err-offer_children.result c.from_residual-in_err-offer_children.ensures.0
     (subst (λ set. ReachedSome old (Grows r set) new) c.deref-2.ensures.value some)
 
@@ -96,7 +96,8 @@ pub search-grown_by-requires-clause-children : goal.search-grown_by-requires-cla
 search-grown_by-requires-clause-children g t c =
     let r = c.args.ranked.now in
     let right : AreChildren r c.deref.result.now c.in_ok-chosen.chosen.items =
-    chosen-children r c.deref.result.now (to_z w128 (of_z w128 c.floor.result)) c.in_ok-children.children.items c.in_ok-chosen.chosen.items c.in_ok-children.ensures.level.right c.in_ok-chosen.ensures in
+    chosen-children r c.deref.result.now (to_z w128 (of_z w128 c.floor.result)) c.in_ok-children.children.items c.in_ok-chosen.chosen.items
+    c.in_ok-children.ensures.level.right c.in_ok-chosen.ensures in
     subst (λ set. AreChildren r set c.deref-6.result.now) (c.deref.ensures.value ∙ sym c.deref-5.ensures.value)
     (subst (AreChildren r c.deref.result.now) (sym c.deref-6.ensures.value) right)
 
@@ -126,10 +127,12 @@ search-chosen-init g t c =
     (subst (λ zs. Reached old (IsOneOf r c.deref-2.result.now zs) mid) (ap ranks_of c.deref-3.ensures.value ∙ sym ranks) c.in_ok-offer_children.ensures) in
     let floor : to_z w128 (of_z w128 c.floor.result) ≡ floor_in mid = omega (arith, ints, c.floor.type_inv) ∙ c.floor.ensures.value in
     let are : AreChosen (floor_in mid) children items =
-    subst (AreChosen (floor_in mid) children) (sym c.deref-child-items.ensures.value) (subst (λ f. AreChosen f children c.in_ok-chosen.chosen.items) floor c.in_ok-chosen.ensures) in
+    subst (AreChosen (floor_in mid) children) (sym c.deref-child-items.ensures.value)
+    (subst (λ f. AreChosen f children c.in_ok-chosen.chosen.items) floor c.in_ok-chosen.ensures) in
     let same : c.deref-6.result.now ≡ items = c.deref-6.ensures.value ∙ sym c.deref-child-items.ensures.value in
     let grown : AreGrown r set items (lists_of lists) =
-    subst (λ xs. AreGrown r set xs (lists_of lists)) same (subst (λ xs. AreGrown r xs c.deref-6.result.now (lists_of lists)) c.deref-5.ensures.value c.in_ok-lists.ensures.lists) in
+    subst (λ xs. AreGrown r set xs (lists_of lists)) same
+    (subst (λ xs. AreGrown r xs c.deref-6.result.now (lists_of lists)) c.deref-5.ensures.value c.in_ok-lists.ensures.lists) in
     record {
       ranks = refl;
       room = record {
@@ -191,7 +194,8 @@ search-returns-in_err-enter-clause-searches g t c =
     let rank = (slice_index_or c.deref-child-items.result.now c.chosen.at none).rank in
     stopped {P = Grows r c.args.ranks.now.items} c.from_residual-in_err-enter.result c.from_residual-in_err-enter.ensures.0
     (so_far-some c.chosen.invariant.so_far c.requires.ordered c.chosen-test.true none
-    (subst (λ set. ReachedSome (g.C.Collect.state c.chosen.collect) (Grows r (set ++ rank ∷ [])) (g.C.Collect.state c.enter.new.collect)) c.chosen.invariant.ranks c.in_err-enter.ensures.searches))
+    (subst (λ set. ReachedSome (g.C.Collect.state c.chosen.collect) (Grows r (set ++ rank ∷ [])) (g.C.Collect.state c.enter.new.collect))
+    c.chosen.invariant.ranks c.in_err-enter.ensures.searches))
 
 pub search-chosen-preserved : goal.search-chosen-preserved
 search-chosen-preserved g t c =
@@ -202,7 +206,8 @@ search-chosen-preserved g t c =
       ranks = c.in_ok-enter.ensures.ranks ∙ c.chosen.invariant.ranks;
       room = c.enter.ensures.room;
       so_far = so_far-next c.chosen.invariant.so_far c.requires.ordered c.chosen-test.true none
-          (subst (λ set. Reached (g.C.Collect.state c.chosen.collect) (Grows r (set ++ rank ∷ [])) (g.C.Collect.state c.enter.new.collect)) c.chosen.invariant.ranks c.in_ok-enter.ensures.searches);
+          (subst (λ set. Reached (g.C.Collect.state c.chosen.collect) (Grows r (set ++ rank ∷ [])) (g.C.Collect.state c.enter.new.collect))
+          c.chosen.invariant.ranks c.in_ok-enter.ensures.searches);
     }
 
 pub search-returns-clause-searches : goal.search-returns-clause-searches

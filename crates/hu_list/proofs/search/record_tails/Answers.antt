@@ -1,10 +1,10 @@
-use Rattle.std.proofs.Common.{◌≡◌, List, [], ◌∷◌, refl, map, take, sym, ap, ◌∙◌, subst, arith}
+use Rattle.std.proofs.Common.{◌≡◌, List, [], ◌∷◌, refl, map, sym, ap, ◌∙◌, subst, arith}
 use Rattle.std.proofs.lemmas.List.{take_all}
 use Rattle.std.specs.declared.vec.Vec.{Vec}
 use Rattle.std.specs.declared.alloc.Global.{Global}
 use Rattle.hu_totals.specs.declared.ranked.Dense.{Dense}
 use Rattle.hu_totals.specs.View.{pairs_in}
-use Rattle.hu_list.specs.Tails.{TailOf, tail_from}
+use Rattle.hu_list.specs.Tails.{tail_from}
 use Rattle.hu_list.specs.View.{tails_of}
 use Rattle.hu_list.specs.Level.{IsLeft}
 use Rattle.hu_list.proofs.SearchLemmas.{left-first}

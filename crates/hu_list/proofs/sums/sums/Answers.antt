@@ -1,7 +1,5 @@
-use Rattle.std.proofs.Common.{◌≡◌, ◌<◌, ◌+◌, ◌^◌, ℕ, ℤ, pos, unsigned_abs, get_or, length, drop, [], sym, ap, ◌∙◌, subst, arith}
-use Rattle.std.proofs.lemmas.Int.{ints}
+use Rattle.std.proofs.Common.{◌≡◌, ℕ, pos, unsigned_abs, get_or, length, [], sym, ap, ◌∙◌, subst, arith}
 use Rattle.std.proofs.lemmas.List.{length-replicate}
-use Rattle.hu_kind.specs.Record.{absolute_of}
 use Rattle.hu_list.specs.declared.tail.Tail.{Tail}
 use Rattle.hu_list.specs.declared.sums.Sum.{Sum}
 use Rattle.hu_list.specs.Slots.{at}

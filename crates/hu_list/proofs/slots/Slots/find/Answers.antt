@@ -1,4 +1,4 @@
-use Rattle.std.proofs.Common.{◌≡◌, ◌<◌, ℕ, ap, sym, ◌∙◌, false, length, get_or, subst, arith, IsSome}
+use Rattle.std.proofs.Common.{◌≡◌, ◌<◌, ap, sym, ◌∙◌, false, length, get_or, subst, arith, IsSome}
 use Rattle.std.proofs.lemmas.Bool.{false≢true}
 use Rattle.hu_list.specs.Slots.{IsPlace, among, SlotsOf}
 use Rattle.hu_list.proofs.SlotLemmas.{missing, slots-place}
