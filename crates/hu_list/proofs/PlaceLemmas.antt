@@ -10,7 +10,7 @@ use Rattle.hu_totals.specs.declared.ranked.Dense.{Dense}
 use Rattle.hu_totals.specs.View.{dense_pair}
 use Rattle.hu_list.specs.declared.list.Node.{Node}
 use Rattle.hu_list.specs.Joins.{from_place, first_own, joined_node, Fits}
-use Rattle.hu_list.specs.Gathered.{node_in}
+use Rattle.hu_list.specs.Nodes.{node_in}
 
 pub position_or_len-le : {A : Type 0} (p : A → Bool) (xs : List A) → position_or_len p xs ≤ length xs
 position_or_len-le p [] = omega arith

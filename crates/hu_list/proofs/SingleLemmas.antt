@@ -13,8 +13,7 @@ use Rattle.hu_totals.specs.declared.ranked.Dense.{Dense}
 use Rattle.hu_totals.specs.View.{pairs_in}
 use Rattle.hu_totals.proofs.lemmas.RecordCells.{has-below}
 use Rattle.hu_list.specs.declared.list.Node.{Node}
-use Rattle.hu_list.specs.Nodes.{rest_after, node_of, nodes_from, list_of}
-use Rattle.hu_list.specs.Gathered.{node_in}
+use Rattle.hu_list.specs.Nodes.{rest_after, node_of, nodes_from, node_in, list_of}
 
 -- the nodes in records and then in others
 pub nodes_from-append : (place : ℕ) (records more : List (List (ℕ × ℤ))) (set : List ℕ) → nodes_from place (records ++ more) set ≡ nodes_from place records set ++ nodes_from (place + length records) more set

@@ -1,85 +1,97 @@
--- One turn of a search: a branch's set is offered, and then what grows it.
-use Rattle.std.proofs.Common.{◌≡◌, ℕ, ◌<◌, ◌+◌, ℤ, pos, ◌≤ℤ◌, Option, List, [], ◌∷◌, ◌++◌, length, get_or, take, drop, refl, sym, ap, ◌∙◌, subst, arith}
+-- One turn of a search over tails: a child is entered, or the rest is left.
+use Rattle.std.proofs.Common.{◌≡◌, ℕ, ◌+◌, ◌<◌, ◌≤◌, ◌≤ℤ◌, ◌<ℤ◌, ◌⊎◌, List, [], ◌∷◌, ◌++◌, length, get_or, sym, ap, ◌∙◌, subst, arith, nat_eq}
+use Rattle.std.specs.List.{AllByRecursion, IsDistinct}
+use Rattle.std.specs.declared.vec.Vec.{Vec}
+use Rattle.std.specs.declared.alloc.Global.{Global}
 use Rattle.std.proofs.lemmas.Int.{ints}
-use Rattle.std.proofs.lemmas.List.{get_or-map, length-map, drop-map}
-use Rattle.hu_kind.specs.declared.entry.Entry.{Entry}
-use Rattle.hu_kind.specs.Order.{Ascend}
+use Rattle.std.proofs.lemmas.List.{get_or-map}
+use Rattle.hu_kind.proofs.lemmas.Each.{each-get}
 use Rattle.hu_totals.specs.Ranked.{Ranking}
-use Rattle.hu_collect.specs.Rule.{Rule, made, floor_of, IsKept}
-use Rattle.hu_collect.specs.Laws.{MakesInTurn, KeepsFloor, LeavesBelowFloor}
-use Rattle.hu_list.specs.declared.list.Node.{Node}
-use Rattle.hu_list.specs.declared.branch.Branch.{Branch}
-use Rattle.hu_search.specs.Growth.{rank_entry, Grows, Covers}
-use Rattle.hu_list.specs.Level.{ranks_of, IsLevel, IsFork}
-use Rattle.hu_collect.specs.Makes.{MakesReaching, MakesSomeOf}
-use Rattle.hu_search.proofs.lemmas.Beginnings.{Begins}
-use Rattle.hu_search.proofs.lemmas.SearchLemmas.{kept-offered, floor-offered, floor-upto, next-made, some-next, some-offered, Covers-later}
-use Rattle.hu_list.proofs.LevelLemmas.{IsFork-at}
+use Rattle.hu_collect.specs.State.{State, floor_in, IsInOrder, Reached, ReachedSome}
+use Rattle.hu_collect.proofs.lemmas.Searching.{reached-in_order, reached-rule, reached-floor}
+use Rattle.hu_search.specs.declared.child.Child.{Child}
+use Rattle.hu_search.specs.Growth.{Grows}
+use Rattle.hu_search.specs.Children.{IsChild, AreEnough, AreOpen, IsOneOf, IsUpto, ranks_of}
+use Rattle.hu_search.proofs.lemmas.Children.{upto-none, upto-next, upto-some, upto-stopped, upto-all}
+use Rattle.hu_list.specs.declared.tail.Tail.{Tail}
+use Rattle.hu_list.specs.View.{tails_of, lists_of}
+use Rattle.hu_list.specs.Level.{IsLeft, IsLevel, AreChosen, AreGrown}
+use Rattle.hu_list.proofs.GrownLemmas.{ranks-within}
+use Rattle.hu_list.proofs.SearchLemmas.{enough-later, open-is, chosen-children}
 
-module _ (r : Ranking) (prefix : Option (List Node)) (ranks : List ℕ) (branches : List Branch) (level : IsLevel r prefix ranks branches) (turns : MakesInTurn) (floors : KeepsFloor) (low : LeavesBelowFloor)
-    (rule : Rule) (old : List Entry) (kept : IsKept rule old) (covers : Covers rule old r ranks (ranks_of branches))
-    (i : ℕ) (b : Branch) (within : i < length branches) (b_is : b ≡ get_or branches i b) (now : Rule) (content offered : List Entry) (held shown : List ℕ)
-    (same_rule : now ≡ rule) (same_ranks : held ≡ ranks) (shown_is : shown ≡ held)
-    (so_far : MakesReaching rule old (Begins r ranks (take i (ranks_of branches))) content) (least : pos 1 ≤ℤ floor_of now content)
-    (is : offered ≡ made now content (rank_entry r (shown ++ b.rank ∷ []) ∷ [])) where
-  rank_is : get_or (ranks_of branches) i 0 ≡ b.rank
-  rank_is = get_or-map (λ (branch : Branch). branch.rank) branches i b 0 within ∙ ap (λ (branch : Branch). branch.rank) (sym b_is)
+-- all children of a set were offered, and of those that were chosen then the first are entered
+pub record IsSoFar (old now : State) (r : Ranking) (set later : List ℕ) (chosen : List Child) (lists : List (Vec Tail Global)) (at : ℕ) : Type 0 where
+  -- the state after the offers of all children, and these
+  pub mid : State
+  pub children : List Child
+  pub level : IsLevel old r set children
+  pub ranks : later ≡ ranks_of children
+  pub offers : Reached old (IsOneOf r set later) mid
+  pub are : AreChosen (floor_in mid) children chosen
+  pub len : length lists ≡ length chosen
+  pub grown : AreGrown r set chosen (lists_of lists)
+  pub rises : floor_in mid ≤ℤ floor_in now
+  pub upto : Reached old (IsUpto r set later chosen at) now
 
-  in_ranks : i < length (ranks_of branches)
-  in_ranks = omega (arith, length-map branches (λ (branch : Branch). branch.rank))
+-- want of memory after all children were offered
+pub offered-stopped : {old mid : State} (r : Ranking) (set ranks : List ℕ) → Reached old (IsOneOf r set ranks) mid → ReachedSome old (Grows r set) mid
+offered-stopped r set ranks offers = upto-stopped r set ranks [] 0 (upto-none r set ranks [] offers)
 
-  set_is : ranks ++ get_or (ranks_of branches) i 0 ∷ [] ≡ ranks ++ b.rank ∷ []
-  set_is = ap (λ n. ranks ++ n ∷ []) rank_is
+module _ {old now : State} {r : Ranking} {set later : List ℕ} {chosen : List Child} {lists : List (Vec Tail Global)} {at : ℕ}
+    (so_far : IsSoFar old now r set later chosen lists at) (ordered : IsInOrder old) where
+  pub so_far-ordered : IsInOrder now
+  so_far-ordered = reached-in_order so_far.upto
 
-  pub fork : (later : List Branch) (again : List ℕ) → later ≡ drop (i + 1) branches → again ≡ held → IsFork r prefix again b later
-  fork later again later_is again_is =
-      subst (λ bs. IsFork r prefix again b bs) (sym later_is)
-      (subst (λ s. IsFork r prefix s b (drop (i + 1) branches)) (sym (again_is ∙ same_ranks)) (IsFork-at r prefix ranks branches i b level within b_is))
+  pub so_far-rule : now.rule ≡ old.rule
+  so_far-rule = reached-rule so_far.upto
 
-  up : Ascend (ranks ++ get_or (ranks_of branches) i 0 ∷ [])
-  up = subst Ascend (sym set_is) (fork (drop (i + 1) branches) ranks refl (sym same_ranks)).here.ascending
+  pub so_far-rises : floor_in old ≤ℤ floor_in now
+  so_far-rises = reached-floor ordered so_far.upto
 
-  own_is : offered ≡ made rule content (rank_entry r (ranks ++ get_or (ranks_of branches) i 0 ∷ []) ∷ [])
-  own_is =
-      is
-      ∙ ap (λ u. made u content (rank_entry r (shown ++ b.rank ∷ []) ∷ [])) same_rule
-      ∙ ap (λ s. made rule content (rank_entry r (s ++ b.rank ∷ []) ∷ [])) (shown_is ∙ same_ranks)
-      ∙ ap (λ s. made rule content (rank_entry r s ∷ [])) (sym set_is)
+  enough : AreEnough old r set later
+  enough = subst (AreEnough old r set) (sym so_far.ranks) so_far.level.enough
 
-  least_rule : pos 1 ≤ℤ floor_of rule content
-  least_rule = subst (λ u. pos 1 ≤ℤ floor_of u content) same_rule least
+  pub so_far-once : IsDistinct nat_eq later
+  so_far-once = subst (IsDistinct nat_eq) (sym so_far.ranks) so_far.level.once
 
-  rises : floor_of rule old ≤ℤ floor_of rule offered
-  rises = floor-offered r ranks (ranks_of branches) i 0 in_ranks turns floors low rule old content offered up so_far least_rule own_is (floor-upto r ranks (ranks_of branches) floors rule i old content kept so_far)
+  pub so_far-within : AllByRecursion (λ rank. rank < length r.items) later
+  so_far-within = subst (AllByRecursion (λ rank. rank < length r.items)) (sym so_far.ranks) (ranks-within r set so_far.children so_far.level.right)
 
-  pub turn-covers : (after : Rule) (later : List Branch) (again : List ℕ) → after ≡ now → later ≡ drop (i + 1) branches → again ≡ held → Covers after offered r (again ++ b.rank ∷ []) (ranks_of later)
-  turn-covers after later again after_is later_is again_is =
-      let first = Covers-later r rule old offered ranks (ranks_of branches) i 0 covers level.ascending in_ranks rises in
-      let taken : drop (i + 1) (ranks_of branches) ≡ ranks_of later = drop-map (λ (branch : Branch). branch.rank) (i + 1) branches ∙ ap ranks_of (sym later_is) in
-      let set : ranks ++ get_or (ranks_of branches) i 0 ∷ [] ≡ again ++ b.rank ∷ [] = set_is ∙ ap (λ s. s ++ b.rank ∷ []) (sym (again_is ∙ same_ranks)) in
-      subst (λ u. Covers u offered r (again ++ b.rank ∷ []) (ranks_of later)) (sym (after_is ∙ same_rule))
-      (subst (λ s. Covers rule offered r s (ranks_of later)) set (subst (λ ts. Covers rule offered r (ranks ++ get_or (ranks_of branches) i 0 ∷ []) ts) taken first))
+  pub so_far-all : (d : Child) → (length chosen ≤ at) ⊎ ((get_or chosen at d).bound <ℤ floor_in now) → Reached old (Grows r set) now
+  so_far-all d ends =
+      let opened = subst (λ ranks. AreOpen so_far.mid r set ranks chosen) (sym so_far.ranks)
+      (open-is {s = old} {t = so_far.mid} r set so_far.children chosen (reached-rule so_far.offers) (reached-floor ordered so_far.offers) so_far.level so_far.are) in
+      upto-all r set later chosen at d ordered enough so_far.offers opened so_far.are.fall so_far.rises ends so_far.upto
 
-  pub turn-floor : (after : Rule) (floor : ℤ) → after ≡ now → floor ≤ℤ floor_of rule old → floor ≤ℤ floor_of after offered
-  turn-floor after floor after_is below =
-      subst (λ u. floor ≤ℤ floor_of u offered) (sym (after_is ∙ same_rule)) (let more = rises in let under : floor ≤ℤ floor_of rule offered = omega (arith, ints, below, more) in under)
+  module _ (within : at < length chosen) (d : Child) where
+    pub so_far-child : IsChild r set (get_or chosen at d)
+    so_far-child = each-get (IsChild r set) chosen at d (chosen-children r set (floor_in so_far.mid) so_far.children chosen so_far.level.right so_far.are) within
 
-  pub turn-kept : (after : Rule) → after ≡ now → IsKept after offered
-  turn-kept after after_is =
-      subst (λ u. IsKept u offered) (sym (after_is ∙ same_rule))
-      (kept-offered r ranks (ranks_of branches) i 0 in_ranks turns floors low rule old content offered up so_far least_rule own_is)
+    pub so_far-enough : AreEnough now r (set ++ (get_or chosen at d).rank ∷ []) later
+    so_far-enough = enough-later old now r set (get_or chosen at d).rank later so_far-rule so_far-rises enough
 
-  pub turn-offered : (new : List Entry) → new ≡ offered → MakesSomeOf rule old (Grows r ranks) new
-  turn-offered new same = some-offered r ranks (ranks_of branches) i 0 in_ranks turns floors low rule old content offered up so_far least_rule own_is new same
+    pub so_far-left : (list : Vec Tail Global) → list ≡ get_or lists at list → IsLeft r (set ++ (get_or chosen at d).rank ∷ []) (tails_of list.items)
+    so_far-left list is =
+        let rank : get_or (ranks_of chosen) at 0 ≡ (get_or chosen at d).rank = get_or-map (λ (child : Child). child.rank) chosen at d 0 within in
+        let long : at < length lists = omega (arith, so_far.len, within) in
+        let tails : get_or (lists_of lists) at [] ≡ tails_of list.items =
+        get_or-map (λ (list : Vec Tail Global). tails_of list.items) lists at list [] long ∙ ap (λ (l : Vec Tail Global). tails_of l.items) (sym is) in
+        subst (λ z. IsLeft r (set ++ z ∷ []) (tails_of list.items)) rank
+        (subst (IsLeft r (set ++ get_or (ranks_of chosen) at 0 ∷ [])) tails (so_far.grown at within))
 
-  pub turn-next : (after : Rule) (set : List ℕ) (new : List Entry) → after ≡ now → set ≡ held ++ b.rank ∷ [] → MakesReaching after offered (Grows r set) new → MakesReaching rule old (Begins r ranks (take (i + 1) (ranks_of branches))) new
-  turn-next after set new after_is is_set grown =
-      let by_set = subst (λ s. MakesReaching after offered (Grows r s) new) (is_set ∙ ap (λ s. s ++ b.rank ∷ []) same_ranks ∙ sym set_is) grown in
-      let by_rule = subst (λ u. MakesReaching u offered (Grows r (ranks ++ get_or (ranks_of branches) i 0 ∷ [])) new) (after_is ∙ same_rule) by_set in
-      next-made r ranks (ranks_of branches) i 0 in_ranks turns floors low rule old content offered up so_far least_rule own_is new by_rule
+    pub so_far-next : {next : State} → Reached now (Grows r (set ++ (get_or chosen at d).rank ∷ [])) next → IsSoFar old next r set later chosen lists (at + 1)
+    so_far-next entered = record {
+      mid = so_far.mid;
+      children = so_far.children;
+      level = so_far.level;
+      ranks = so_far.ranks;
+      offers = so_far.offers;
+      are = so_far.are;
+      len = so_far.len;
+      grown = so_far.grown;
+      rises = let a = so_far.rises in let b = reached-floor so_far-ordered entered in omega (arith, ints, a, b);
+      upto = upto-next r set later chosen at d within ordered so_far.upto entered;
+    }
 
-  pub turn-some : (after : Rule) (set : List ℕ) (new : List Entry) → after ≡ now → set ≡ held ++ b.rank ∷ [] → MakesSomeOf after offered (Grows r set) new → MakesSomeOf rule old (Grows r ranks) new
-  turn-some after set new after_is is_set grown =
-      let by_set = subst (λ s. MakesSomeOf after offered (Grows r s) new) (is_set ∙ ap (λ s. s ++ b.rank ∷ []) same_ranks ∙ sym set_is) grown in
-      let by_rule = subst (λ u. MakesSomeOf u offered (Grows r (ranks ++ get_or (ranks_of branches) i 0 ∷ [])) new) (after_is ∙ same_rule) by_set in
-      some-next r ranks (ranks_of branches) i 0 in_ranks turns floors low rule old content offered up so_far least_rule own_is new by_rule
+    pub so_far-some : {next : State} → ReachedSome now (Grows r (set ++ (get_or chosen at d).rank ∷ [])) next → ReachedSome old (Grows r set) next
+    so_far-some some = upto-some r set later chosen at d within so_far.upto some

@@ -1,50 +1,60 @@
--- A level of a search over utility lists: a set of ranks, and a branch for each later rank by which it may grow.
-use Rattle.std.specs.Prelude.{◌≡◌, ℕ, ◌+◌, ◌<◌, ◌≤◌, ◌⊎◌, ℤ, Option, List, [], ◌∷◌, ◌++◌, map, length}
-use Rattle.std.specs.List.{Contains, AllByRecursion}
+-- What a search over tails knows of a set and of its children.
+use Rattle.std.specs.Prelude.{◌≡◌, ℕ, true, nat_eq, ◌⊎◌, ◌≤ℤ◌, ◌<ℤ◌, ℤ, Option, None, Some, List, [], ◌∷◌, ◌++◌, ◌<◌, slice_index_or, length}
+use Rattle.std.specs.List.{AllByRecursion, Contains, IsDistinct}
+use Rattle.hu_kind.specs.Database.{utility, support}
 use Rattle.hu_kind.specs.Order.{Ascend}
+use Rattle.hu_kind.specs.Record.{items_in}
 use Rattle.hu_totals.specs.Ranked.{Ranking}
-use Rattle.hu_search.specs.Growth.{InTable, IsLow}
-use Rattle.hu_list.specs.declared.list.Node.{Node}
-use Rattle.hu_list.specs.declared.branch.Branch.{Branch}
-use Rattle.hu_list.specs.Nodes.{list_of}
-use Rattle.hu_list.specs.Joins.{IsPrefix}
+use Rattle.hu_collect.specs.State.{State}
+use Rattle.hu_search.specs.declared.child.Child.{Child}
+use Rattle.hu_search.specs.Children.{AreChildren, AreEnough, Fall, ranks_of}
+use Rattle.hu_list.specs.declared.sums.Sum.{Sum}
+use Rattle.hu_list.specs.Slots.{among}
+use Rattle.hu_list.specs.Tails.{TailOf, earned, held}
+use Rattle.hu_list.specs.View.{AreTails}
 
--- the ranks of branches
-abbrev pub ranks_of : List Branch → List ℕ
-ranks_of branches = map (λ branch. branch.rank) branches
+-- tails are what a set leaves: their ranks are later, and they say of every set that grows it what it earns and how many
+-- records hold it
+pub record IsLeft (r : Ranking) (set : List ℕ) (tails : List TailOf) : Type 0 where
+  pub rules : AreTails (length r.items) tails
+  pub later : AllByRecursion (λ tail. Ascend (set ++ items_in tail.cells)) tails
+  pub utility : (first : ℕ) (more : List ℕ) → Ascend (set ++ first ∷ more) → utility r.records (set ++ first ∷ more) ≡ earned tails (first ∷ more)
+  pub support : (first : ℕ) (more : List ℕ) → Ascend (set ++ first ∷ more) → support r.records (set ++ first ∷ more) ≡ held tails (first ∷ more)
 
--- a branch has a later rank, and the list of the set with it
-pub record IsBranch (r : Ranking) (ranks : List ℕ) (branch : Branch) : Type 0 where
-  pub ascending : Ascend (ranks ++ branch.rank ∷ [])
-  pub in_table : branch.rank < length r.items
-  pub is : branch.list ≡ list_of r.records (ranks ++ branch.rank ∷ [])
+-- no set that holds a last rank and another earns a floor, in all records for which this is right
+abbrev pub IsRefused : (List (List (ℕ × ℤ)) → Type 0) → ℤ → Option ℕ → ℕ → Type 0
+IsRefused Right floor None rank = ⊥
+IsRefused Right floor (Some last) rank = (records : List (List (ℕ × ℤ))) → Right records → (set : List ℕ) → Ascend set → Contains set last → Contains set rank
+    → utility records set <ℤ floor
 
--- the branch of a set by a later rank
-abbrev pub branch_of : Ranking → List ℕ → ℕ → Branch
-branch_of r ranks rank = record { rank = rank; list = list_of r.records (ranks ++ rank ∷ []) }
+-- no set that grows a set by a child's rank and then by later ones of these earns more than the child's bound
+abbrev pub IsMost : Ranking → List ℕ → List ℕ → Child → Type 0
+IsMost r set ranks child = (more : List ℕ) → Ascend (set ++ child.rank ∷ more) → AllByRecursion (Contains ranks) more
+    → utility r.records (set ++ child.rank ∷ more) ≤ℤ child.bound
 
--- branches with these lists, by rank from a number on
-abbrev pub branches_from : ℕ → List (List Node) → List Branch
-branches_from rank [] = []
-branches_from rank (list ∷ lists) = (record { rank = rank; list = list }) ∷ branches_from (rank + 1) lists
+-- the children of a set that a search offers and may enter: no other set counts that grows it
+pub record IsLevel (s : State) (r : Ranking) (set : List ℕ) (children : List Child) : Type 0 where
+  pub right : AreChildren r set children
+  pub enough : AreEnough s r set (ranks_of children)
+  pub most : AllByRecursion (IsMost r set (ranks_of children)) children
+  pub once : IsDistinct nat_eq (ranks_of children)
 
--- a set with its list, and branches by rank ascending
-pub record IsLevel (r : Ranking) (prefix : Option (List Node)) (ranks : List ℕ) (branches : List Branch) : Type 0 where
-  pub in_table : InTable r ranks
-  pub prefix_is : IsPrefix prefix r.records ranks
-  pub ascending : Ascend (ranks_of branches)
-  pub each : AllByRecursion (IsBranch r ranks) branches
+-- the sums of a child
+abbrev pub sum_of : Child → Sum
+sum_of child = record { support = child.support; utility = child.utility; bound = child.bound }
 
--- a branch of a level, and those after it
-pub record IsFork (r : Ranking) (prefix : Option (List Node)) (ranks : List ℕ) (branch : Branch) (later : List Branch) : Type 0 where
-  pub level : IsLevel r prefix ranks later
-  pub here : IsBranch r ranks branch
-  pub after : AllByRecursion (λ rank. branch.rank < rank) (ranks_of later)
+-- of ranks with gains those that are kept: they reach a floor, and each other one doesn't or is refused
+pub record AreKept (Right : List (List (ℕ × ℤ)) → Type 0) (gate floor : ℤ) (last : Option ℕ) (gain : ℕ → ℤ) (ranks kept : List ℕ) : Type 0 where
+  pub sound : (z : ℕ) → among z kept ≡ true → floor ≤ℤ gain z
+  pub whole : (z : ℕ) → among z ranks ≡ true → (among z kept ≡ true) ⊎ ((gain z <ℤ floor) ⊎ IsRefused Right gate last z)
 
--- what a branch's set makes with each later one: a branch of the next level, where it isn't low
-pub record AreJoined (r : Ranking) (floor : ℤ) (ranks : List ℕ) (branch : Branch) (later grown : List Branch) : Type 0 where
-  pub ascending : Ascend (ranks_of grown)
-  pub each : AllByRecursion (IsBranch r (ranks ++ branch.rank ∷ [])) grown
-  pub fewer : length grown ≤ length later
-  pub from_later : AllByRecursion (Contains (ranks_of later)) (ranks_of grown)
-  pub others : (rank : ℕ) → Contains (ranks_of later) rank → (Contains (ranks_of grown) rank) ⊎ IsLow r.records floor ((ranks ++ branch.rank ∷ []) ++ rank ∷ [])
+-- of children those whose bound reaches a floor, best bound first
+pub record AreChosen (floor : ℤ) (children chosen : List Child) : Type 0 where
+  pub fall : Fall chosen
+  pub from : AllByRecursion (Contains children) chosen
+  pub whole : (child : Child) → Contains children child → Contains chosen child ⊎ (child.bound <ℤ floor)
+  pub once : IsDistinct nat_eq (ranks_of chosen)
+
+-- lists that go along with children are the tails of their sets, where cells are left
+abbrev pub AreGrown : Ranking → List ℕ → List Child → List (List TailOf) → Type 0
+AreGrown r set chosen lists = (i : ℕ) → i < length chosen → IsLeft r (set ++ slice_index_or (ranks_of chosen) i 0 ∷ []) (slice_index_or lists i [])

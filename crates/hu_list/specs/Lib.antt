@@ -1,6 +1,10 @@
 pub mod Nodes
 pub mod Bounds
 pub mod Joins
-pub mod Gathered
+pub mod Slots
+pub mod Tails
+pub mod View
+pub mod Passes
 pub mod Level
+pub mod Board
 pub mod Rows

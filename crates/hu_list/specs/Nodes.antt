@@ -1,8 +1,8 @@
 -- Utility lists over records of ranks. The list of a set of ranks has a node for each record that holds the set: the record's
 -- place, what the set earns there, and the values above 0 that stand after it. After HUI-Miner (Liu and Qu, 2012).
-use Rattle.std.specs.Prelude.{ℕ, ◌+◌, ◌^◌, ◌<◌, nat_lt, ℤ, pos, ◌+ℤ◌, unsigned_abs, List, [], ◌∷◌, ◌++◌, length, if◌then◌else◌}
+use Rattle.std.specs.Prelude.{ℕ, ◌+◌, ◌^◌, ◌<◌, nat_lt, ◌==◌, ℤ, pos, ◌+ℤ◌, unsigned_abs, List, [], ◌∷◌, ◌++◌, length, if◌then◌else◌}
 use Rattle.std.specs.List.{All, AllAdjacentBelow, list_all, sum_by}
-use Rattle.hu_kind.specs.Record.{holds, values_of, positive_part, absolute_of}
+use Rattle.hu_kind.specs.Record.{holds, values_of, positive_part, absolute_of, gain}
 use Rattle.hu_list.specs.declared.list.Node.{Node}
 
 -- the sum of a record's values above 0 at ranks after all those of a set
@@ -35,3 +35,8 @@ RanksAscend records = All (λ cells. AllAdjacentBelow (λ a b. a.0 < b.0) cells 
 pub record AreRanked (records : List (List (ℕ × ℤ))) : Type 0 where
   pub ascending : RanksAscend records
   pub sum_fits : sum_by absolute_of records < 2 ^ 127
+
+-- the node of a rank in a record at a place, where it stands there
+abbrev pub node_in : ℕ → ℕ → List (ℕ × ℤ) → List Node
+node_in place rank [] = []
+node_in place rank (cell ∷ cells) = if cell.0 == rank then (record { place = place; own = cell.1; rest = gain cells }) ∷ [] else node_in place rank cells

@@ -3,8 +3,7 @@
 ghost use Rattle.std.specs.Prelude.{◌≡◌, ◌+◌, ◌++◌, ◌<◌, ◌^◌, nat_eq, [], ◌∷◌, map, position, IfOk, option_to_list};
 ghost use Rattle.hu_kind.specs.Record.{gain, positive_part, absolute_of};
 ghost use Rattle.hu_totals.specs.View.{dense_pair, pairs_in};
-ghost use Rattle.hu_list.specs.Nodes.{list_of, nodes_from, AreRanked};
-ghost use Rattle.hu_list.specs.Gathered.{node_in};
+ghost use Rattle.hu_list.specs.Nodes.{list_of, nodes_from, node_in, AreRanked};
 
 use crate::list::Node;
 use crate::merge::push_some;

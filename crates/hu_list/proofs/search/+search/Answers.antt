@@ -1,117 +1,219 @@
-use Rattle.std.proofs.Common.{rules, ◌≡◌, ◌∷◌, [], ◌++◌, ◌<◌, ◌+◌, ◌≤ℤ◌, List, ◌-◌, Some, length, take, drop, refl, sym, ap, ◌∙◌, subst, vec_len, arith}
-use Rattle.std.specs.Option.{option_copied}
-use Rattle.std.proofs.lemmas.List.{take_rest, length-drop, length-map}
-use Rattle.hu_collect.specs.Rule.{floor_of, IsKept}
+use Rattle.std.proofs.Common.{rules, ◌≡◌, ◌<◌, ◌≤◌, ◌+◌, ◌-◌, ◌*◌, ◌≤ℤ◌, pos, [], ◌∷◌, ◌++◌, List, length, nat_eq, to_z, of_z, slice_index_or, inl, inr, refl, sym, ap, ◌∙◌, subst, arith}
+use Rattle.std.specs.List.{AllByRecursion, IsDistinct}
+use Rattle.std.specs.Int.{w128}
+use Rattle.std.proofs.lemmas.Bool.{eqb-true}
+use Rattle.std.proofs.lemmas.Int.{ints}
+use Rattle.std.proofs.lemmas.List.{length-map}
+use Rattle.hu_kind.specs.Order.{Ascend}
+use Rattle.hu_collect.specs.State.{floor_in, IsInOrder, Reached, ReachedSome}
 use Rattle.hu_collect.specs.Ranks.{RestsOn}
-use Rattle.hu_list.specs.declared.branch.Branch.{Branch}
-use Rattle.hu_list.specs.Level.{ranks_of, IsLevel}
-use Rattle.hu_search.specs.Growth.{Covers}
-use Rattle.hu_search.proofs.lemmas.SearchLemmas.{all-made, none-made, on_err, popped, some-upto}
-use Rattle.hu_list.proofs.TurnLemmas.{fork, turn-covers, turn-floor, turn-kept, turn-offered, turn-next, turn-some}
+use Rattle.hu_collect.proofs.lemmas.Searching.{stopped}
+use Rattle.hu_search.specs.declared.child.Child.{Child}
+use Rattle.hu_search.specs.Growth.{Grows, InTable}
+use Rattle.hu_search.specs.Children.{AreChildren, IsOneOf, AreEnough, IsBarren, ranks_of}
+use Rattle.hu_search.proofs.lemmas.Children.{offered-some, upto-none}
+use Rattle.hu_list.specs.declared.tail.Tail.{Tail}
+use Rattle.hu_list.specs.View.{tails_of, lists_of, tail_of}
+use Rattle.hu_list.specs.Board.{HasRoom}
+use Rattle.hu_list.specs.Level.{IsLeft, IsLevel, AreChosen, AreGrown}
+use Rattle.hu_list.proofs.SearchLemmas.{next, next-push, next-below, last-in, barren-reached, empty-barren, chosen-children}
+use Rattle.hu_list.proofs.TurnLemmas.{offered-stopped, so_far-ordered, so_far-rule, so_far-rises, so_far-once, so_far-within, so_far-all, so_far-child, so_far-enough, so_far-left, so_far-next, so_far-some}
+use Rattle.hu_list.proofs.search.+search.Goals.{enter-then-is_empty-via-then-is_empty, enter-then-is_empty-via-else-is_empty+in_ok-opens+then-not-branch, search-else-chosen-test, search-then-chosen-test+then-child-floor}
 use Rattle.hu_list.proofs.search.+search.Goals as goal
 
-pub branches-init : goal.branches-init
-branches-init g t c = record {
-  rule = refl;
-  ranks = refl;
-  made = none-made c.args.ranked.now c.args.ranks.now.items (ranks_of c.args.branches.now) c.law_of_turns.ensures ((g.C.Collect.state c.args.collect.now).rule) ((g.C.Collect.state c.args.collect.now).content) c.requires.kept;
-}
+-- ---- enter
 
-pub returns-in_err-offer-clause-err : goal.returns-in_err-offer-clause-err
-returns-in_err-offer-clause-err g t c =
-    on_err c.from_residual.result _
-    (some-upto c.args.ranked.now c.args.ranks.now.items (ranks_of c.args.branches.now) c.law_of_turns.ensures ((g.C.Collect.state c.args.collect.now).rule) c.branches.at ((g.C.Collect.state c.args.collect.now).content)
-    ((g.C.Collect.state c.branches.collect).content) ((g.C.Collect.state c.offer.new.collect).content) c.branches.invariant.made c.in_err-offer.ensures.err)
+pub enter-fill-requires-clause-within : goal.enter-fill-requires-clause-within
+enter-fill-requires-clause-within g t c = subst (λ n. AllByRecursion (λ rank. rank < n) c.args.later.now) (sym c.requires.room.kept) c.requires.within
 
-pub grown-requires-clause-fork : goal.grown-requires-clause-fork
-grown-requires-clause-fork g t c =
-    fork c.args.ranked.now (option_copied c.args.prefix) c.args.ranks.now.items c.args.branches.now c.requires.level c.law_of_turns.ensures c.law_of_floors.ensures c.law_of_low_entries.ensures
-    ((g.C.Collect.state c.args.collect.now).rule) ((g.C.Collect.state c.args.collect.now).content) c.requires.kept c.requires.covers c.branches.at c.index-branches-at.result c.branches-test.true c.index-branches-at.is
-    ((g.C.Collect.state c.branches.collect).rule) ((g.C.Collect.state c.branches.collect).content) ((g.C.Collect.state c.offer.new.collect).content) c.branches.ranks.items c.deref.result.now
-    c.branches.invariant.rule c.branches.invariant.ranks c.deref.ensures.value c.branches.invariant.made c.in_ok-offer.ensures.least c.in_ok-offer.ensures.ok
-    (take (length c.args.branches.now - (c.branches.at + 1)) (drop (c.branches.at + 1) c.args.branches.now)) c.deref-in-branches.result.now (take_rest c.args.branches.now (c.branches.at + 1)) c.deref-in-branches.ensures.value
-
-pub grown-requires-clause-covers : goal.grown-requires-clause-covers
-grown-requires-clause-covers g t c =
-    turn-covers c.args.ranked.now (option_copied c.args.prefix) c.args.ranks.now.items c.args.branches.now c.requires.level c.law_of_turns.ensures c.law_of_floors.ensures c.law_of_low_entries.ensures
-    ((g.C.Collect.state c.args.collect.now).rule) ((g.C.Collect.state c.args.collect.now).content) c.requires.kept c.requires.covers c.branches.at c.index-branches-at.result c.branches-test.true c.index-branches-at.is
-    ((g.C.Collect.state c.branches.collect).rule) ((g.C.Collect.state c.branches.collect).content) ((g.C.Collect.state c.offer.new.collect).content) c.branches.ranks.items c.deref.result.now
-    c.branches.invariant.rule c.branches.invariant.ranks c.deref.ensures.value c.branches.invariant.made c.in_ok-offer.ensures.least c.in_ok-offer.ensures.ok
-    ((g.C.Collect.state c.offer.new.collect).rule) (take (length c.args.branches.now - (c.branches.at + 1)) (drop (c.branches.at + 1) c.args.branches.now)) c.deref-in-branches.result.now c.in_ok-offer.ensures.rule (take_rest c.args.branches.now (c.branches.at + 1)) c.deref-in-branches.ensures.value
-
-pub grown-requires-clause-floor : goal.grown-requires-clause-floor
-grown-requires-clause-floor g t c =
-    turn-floor c.args.ranked.now (option_copied c.args.prefix) c.args.ranks.now.items c.args.branches.now c.requires.level c.law_of_turns.ensures c.law_of_floors.ensures c.law_of_low_entries.ensures
-    ((g.C.Collect.state c.args.collect.now).rule) ((g.C.Collect.state c.args.collect.now).content) c.requires.kept c.requires.covers c.branches.at c.index-branches-at.result c.branches-test.true c.index-branches-at.is
-    ((g.C.Collect.state c.branches.collect).rule) ((g.C.Collect.state c.branches.collect).content) ((g.C.Collect.state c.offer.new.collect).content) c.branches.ranks.items c.deref.result.now
-    c.branches.invariant.rule c.branches.invariant.ranks c.deref.ensures.value c.branches.invariant.made c.in_ok-offer.ensures.least c.in_ok-offer.ensures.ok
-    ((g.C.Collect.state c.offer.new.collect).rule) (g.G.Gate.floor c.args.gate.now) c.in_ok-offer.ensures.rule c.requires.floor
-
-pub returns-in_err-grown-clause-err : goal.returns-in_err-grown-clause-err
-returns-in_err-grown-clause-err g t c =
-    on_err c.from_residual-in_err-grown.result _
-    (turn-offered c.args.ranked.now (option_copied c.args.prefix) c.args.ranks.now.items c.args.branches.now c.requires.level c.law_of_turns.ensures c.law_of_floors.ensures c.law_of_low_entries.ensures
-    ((g.C.Collect.state c.args.collect.now).rule) ((g.C.Collect.state c.args.collect.now).content) c.requires.kept c.requires.covers c.branches.at c.index-branches-at.result c.branches-test.true c.index-branches-at.is
-    ((g.C.Collect.state c.branches.collect).rule) ((g.C.Collect.state c.branches.collect).content) ((g.C.Collect.state c.offer.new.collect).content) c.branches.ranks.items c.deref.result.now
-    c.branches.invariant.rule c.branches.invariant.ranks c.deref.ensures.value c.branches.invariant.made c.in_ok-offer.ensures.least c.in_ok-offer.ensures.ok
-    ((g.C.Collect.state c.offer.new.collect).content) refl)
-
-pub returns-in_err-push-clause-err : goal.returns-in_err-push-clause-err
-returns-in_err-push-clause-err g t c =
-    on_err c.from_residual-in_err-push.result _
-    (turn-offered c.args.ranked.now (option_copied c.args.prefix) c.args.ranks.now.items c.args.branches.now c.requires.level c.law_of_turns.ensures c.law_of_floors.ensures c.law_of_low_entries.ensures
-    ((g.C.Collect.state c.args.collect.now).rule) ((g.C.Collect.state c.args.collect.now).content) c.requires.kept c.requires.covers c.branches.at c.index-branches-at.result c.branches-test.true c.index-branches-at.is
-    ((g.C.Collect.state c.branches.collect).rule) ((g.C.Collect.state c.branches.collect).content) ((g.C.Collect.state c.offer.new.collect).content) c.branches.ranks.items c.deref.result.now
-    c.branches.invariant.rule c.branches.invariant.ranks c.deref.ensures.value c.branches.invariant.made c.in_ok-offer.ensures.least c.in_ok-offer.ensures.ok
-    ((g.C.Collect.state c.offer.new.collect).content) refl)
-
-pub search-requires : goal.search-requires
-search-requires g t c κs within =
+pub enter-returns-then-is_empty-clause-searches : goal.enter-returns-then-is_empty-clause-searches
+enter-returns-then-is_empty-clause-searches g t c =
+    let s = g.C.Collect.state c.args.collect.now in
     let r = c.args.ranked.now in
-    let b = c.index-branches-at.result in
-    let then = (g.C.Collect.state c.offer.new.collect).rule in
-    let offered = (g.C.Collect.state c.offer.new.collect).content in
-    let found = c.deref-in-branches-2.result.now in
-    let set : c.deref-in-branches.result.now ++ b.rank ∷ [] ≡ c.push.new.self.items = ap (λ s. s ++ b.rank ∷ []) c.deref-in-branches.ensures.value ∙ sym c.in_ok-push.ensures.items in
-    let same : c.in_ok-grown.grown.items ≡ found = sym c.deref-in-branches-2.ensures.value in
-    let level : IsLevel r (Some b.list) c.push.new.self.items found = subst (λ s. IsLevel r (Some b.list) s found) set (subst (λ bs. IsLevel r (Some b.list) (c.deref-in-branches.result.now ++ b.rank ∷ []) bs) same c.in_ok-grown.ensures.level) in
-    let covers : Covers then offered r c.push.new.self.items (ranks_of found) = subst (λ s. Covers then offered r s (ranks_of found)) set (subst (λ (bs : List Branch). Covers then offered r (c.deref-in-branches.result.now ++ b.rank ∷ []) (ranks_of bs)) same c.in_ok-grown.ensures.covers) in
-    let kept : IsKept then offered = turn-kept c.args.ranked.now (option_copied c.args.prefix) c.args.ranks.now.items c.args.branches.now c.requires.level c.law_of_turns.ensures c.law_of_floors.ensures c.law_of_low_entries.ensures
-    ((g.C.Collect.state c.args.collect.now).rule) ((g.C.Collect.state c.args.collect.now).content) c.requires.kept c.requires.covers c.branches.at c.index-branches-at.result c.branches-test.true c.index-branches-at.is
-    ((g.C.Collect.state c.branches.collect).rule) ((g.C.Collect.state c.branches.collect).content) ((g.C.Collect.state c.offer.new.collect).content) c.branches.ranks.items c.deref.result.now
-    c.branches.invariant.rule c.branches.invariant.ranks c.deref.ensures.value c.branches.invariant.made c.in_ok-offer.ensures.least c.in_ok-offer.ensures.ok
-    then c.in_ok-offer.ensures.rule in
-    let floor : g.G.Gate.floor c.args.gate.now ≤ℤ floor_of then offered = turn-floor c.args.ranked.now (option_copied c.args.prefix) c.args.ranks.now.items c.args.branches.now c.requires.level c.law_of_turns.ensures c.law_of_floors.ensures c.law_of_low_entries.ensures
-    ((g.C.Collect.state c.args.collect.now).rule) ((g.C.Collect.state c.args.collect.now).content) c.requires.kept c.requires.covers c.branches.at c.index-branches-at.result c.branches-test.true c.index-branches-at.is
-    ((g.C.Collect.state c.branches.collect).rule) ((g.C.Collect.state c.branches.collect).content) ((g.C.Collect.state c.offer.new.collect).content) c.branches.ranks.items c.deref.result.now
-    c.branches.invariant.rule c.branches.invariant.ranks c.deref.ensures.value c.branches.invariant.made c.in_ok-offer.ensures.least c.in_ok-offer.ensures.ok
-    then (g.G.Gate.floor c.args.gate.now) c.in_ok-offer.ensures.rule c.requires.floor in
-    let rests : RestsOn then.table r.items = subst (λ u. RestsOn u.table r.items) (sym (c.in_ok-offer.ensures.rule ∙ c.branches.invariant.rule)) c.requires.rests in
-    let smaller : length found < length c.args.branches.now =
-    omega (arith, ap length same, c.in_ok-grown.ensures.fewer, ap length (take_rest c.args.branches.now (c.branches.at + 1)), length-drop (c.branches.at + 1) c.args.branches.now, c.branches-test.true) in
+    let set = c.args.ranks.now.items ++ c.args.child.now.rank ∷ [] in
+    elim c.then-is_empty.branch [
+      | enter-then-is_empty-via-then-is_empty w ↦
+          barren-reached s r set c.requires.ordered (empty-barren s r set (tails_of c.args.tails.now) c.requires.left
+          (length-map c.args.tails.now tail_of ∙ eqb-true (length c.args.tails.now) 0 (sym c.is_empty.ensures ∙ w.if-is_empty.true)))
+      | enter-then-is_empty-via-else-is_empty+in_ok-opens+then-not-branch w ↦
+          barren-reached s r set c.requires.ordered
+          (subst (λ ranks. IsBarren s r (ranks ++ c.args.child.now.rank ∷ [])) w.deref.ensures.value (w.in_ok-opens.ensures w.if-not-branch.true))
+    ]
+
+pub enter-search-requires : goal.enter-search-requires
+enter-search-requires g t c κs within =
+    let r = c.args.ranked.now in
+    let s = g.C.Collect.state c.args.collect.now in
+    let n = length r.items in
+    let pushed : c.push.new.self.items ≡ c.args.ranks.now.items ++ c.args.child.now.rank ∷ [] = c.in_ok-push.ensures.items in
+    let table : InTable r c.push.new.self.items = subst (InTable r) (sym pushed) c.requires.table in
+    let left : IsLeft r c.push.new.self.items (tails_of c.args.tails.now) = subst (λ set. IsLeft r set (tails_of c.args.tails.now)) (sym pushed) c.requires.left in
+    let filled : c.fill.new.self.ranks ≡ c.args.later.now = c.in_ok-fill.ensures.ranks in
+    let enough : AreEnough s r c.push.new.self.items c.fill.new.self.ranks =
+    subst (λ set. AreEnough s r set c.fill.new.self.ranks) (sym pushed)
+    (subst (AreEnough s r (c.args.ranks.now.items ++ c.args.child.now.rank ∷ [])) (sym filled) c.requires.enough) in
+    let room : HasRoom record { kept = c.fill.new.self; found = c.args.board.now.found } n =
+    record { kept = c.fill.ensures.room ∙ c.requires.room.kept; found = c.requires.room.found } in
+    let after : next c.push.new.self.items ≡ c.args.child.now.rank + 1 = ap next pushed ∙ next-push c.args.ranks.now.items c.args.child.now.rank in
+    let smaller : 2 * (n - next c.push.new.self.items) < 2 * (n - (c.args.child.now.rank + 1)) + 1 = omega (arith, after) in
     search rules
 
-pub returns-in_err-search-clause-err : goal.returns-in_err-search-clause-err
-returns-in_err-search-clause-err g t c =
-    on_err c.from_residual-in_err-search.result _
-    (turn-some c.args.ranked.now (option_copied c.args.prefix) c.args.ranks.now.items c.args.branches.now c.requires.level c.law_of_turns.ensures c.law_of_floors.ensures c.law_of_low_entries.ensures
-    ((g.C.Collect.state c.args.collect.now).rule) ((g.C.Collect.state c.args.collect.now).content) c.requires.kept c.requires.covers c.branches.at c.index-branches-at.result c.branches-test.true c.index-branches-at.is
-    ((g.C.Collect.state c.branches.collect).rule) ((g.C.Collect.state c.branches.collect).content) ((g.C.Collect.state c.offer.new.collect).content) c.branches.ranks.items c.deref.result.now
-    c.branches.invariant.rule c.branches.invariant.ranks c.deref.ensures.value c.branches.invariant.made c.in_ok-offer.ensures.least c.in_ok-offer.ensures.ok
-    ((g.C.Collect.state c.offer.new.collect).rule) c.push.new.self.items ((g.C.Collect.state c.search.new.collect).content) c.in_ok-offer.ensures.rule c.in_ok-push.ensures.items c.in_err-search.ensures.err)
+-- ---- search
 
-pub branches-preserved : goal.branches-preserved
-branches-preserved g t c = record {
-  rule = c.in_ok-search.ensures.rule ∙ c.in_ok-offer.ensures.rule ∙ c.branches.invariant.rule;
-  ranks = popped c.branches.ranks.items c.index-branches-at.result.rank c.search.new.ranks.items c.pop.new.self.items c.pop.result (vec_len c.search.new.ranks) (c.in_ok-search.ensures.ranks ∙ c.in_ok-push.ensures.items) c.pop.ensures.items (omega (arith, c.search.new.ranks.ok)) c.pop.ensures.variant ∙ c.branches.invariant.ranks;
-  made = turn-next c.args.ranked.now (option_copied c.args.prefix) c.args.ranks.now.items c.args.branches.now c.requires.level c.law_of_turns.ensures c.law_of_floors.ensures c.law_of_low_entries.ensures
-      ((g.C.Collect.state c.args.collect.now).rule) ((g.C.Collect.state c.args.collect.now).content) c.requires.kept c.requires.covers c.branches.at c.index-branches-at.result c.branches-test.true c.index-branches-at.is
-      ((g.C.Collect.state c.branches.collect).rule) ((g.C.Collect.state c.branches.collect).content) ((g.C.Collect.state c.offer.new.collect).content) c.branches.ranks.items c.deref.result.now
-      c.branches.invariant.rule c.branches.invariant.ranks c.deref.ensures.value c.branches.invariant.made c.in_ok-offer.ensures.least c.in_ok-offer.ensures.ok
-      ((g.C.Collect.state c.offer.new.collect).rule) c.push.new.self.items ((g.C.Collect.state c.search.new.collect).content) c.in_ok-offer.ensures.rule c.in_ok-push.ensures.items c.in_ok-search.ensures.ok;
-}
+pub search-children-requires-clause-enough : goal.search-children-requires-clause-enough
+search-children-requires-clause-enough g t c =
+    subst (λ set. AreEnough (g.C.Collect.state c.args.collect.now) c.args.ranked.now set c.args.board.now.kept.ranks) (sym c.deref.ensures.value) c.requires.enough
 
-pub returns-clause-ok : goal.returns-clause-ok
-returns-clause-ok g t c =
-    all-made c.args.ranked.now c.args.ranks.now.items (ranks_of c.args.branches.now) c.law_of_floors.ensures c.law_of_turns.ensures ((g.C.Collect.state c.args.collect.now).rule) c.branches.at ((g.C.Collect.state c.args.collect.now).content) ((g.C.Collect.state c.branches.collect).content)
-    c.requires.kept c.requires.covers c.branches.invariant.made (omega (arith, length-map c.args.branches.now (λ (branch : Branch). branch.rank), c.branches-test.false))
+pub search-returns-in_err-offer_children-clause-searches : goal.search-returns-in_err-offer_children-clause-searches
+search-returns-in_err-offer_children-clause-searches g t c =
+    let r = c.args.ranked.now in
+    let old = g.C.Collect.state c.args.collect.now in
+    let new = g.C.Collect.state c.offer_children.new.collect in
+    let some : ReachedSome old (Grows r c.deref-2.result.now) new =
+    offered-some r c.deref-2.result.now (ranks_of c.deref-3.result.now) c.in_err-offer_children.ensures in
+    stopped {P = Grows r c.args.ranks.now.items} c.from_residual-in_err-offer_children.result c.from_residual-in_err-offer_children.ensures.0
+    (subst (λ set. ReachedSome old (Grows r set) new) c.deref-2.ensures.value some)
+
+pub search-returns-in_err-later-clause-searches : goal.search-returns-in_err-later-clause-searches
+search-returns-in_err-later-clause-searches g t c =
+    let r = c.args.ranked.now in
+    let old = g.C.Collect.state c.args.collect.now in
+    let new = g.C.Collect.state c.offer_children.new.collect in
+    stopped {P = Grows r c.args.ranks.now.items} c.from_residual-in_err-later.result c.from_residual-in_err-later.ensures.0
+    (subst (λ set. ReachedSome old (Grows r set) new) c.deref-2.ensures.value
+    (offered-stopped r c.deref-2.result.now (ranks_of c.deref-3.result.now) c.in_ok-offer_children.ensures))
+
+pub search-returns-in_err-chosen-clause-searches : goal.search-returns-in_err-chosen-clause-searches
+search-returns-in_err-chosen-clause-searches g t c =
+    let r = c.args.ranked.now in
+    let old = g.C.Collect.state c.args.collect.now in
+    let new = g.C.Collect.state c.offer_children.new.collect in
+    stopped {P = Grows r c.args.ranks.now.items} c.from_residual-in_err-chosen.result c.from_residual-in_err-chosen.ensures.0
+    (subst (λ set. ReachedSome old (Grows r set) new) c.deref-2.ensures.value
+    (offered-stopped r c.deref-2.result.now (ranks_of c.deref-3.result.now) c.in_ok-offer_children.ensures))
+
+pub search-grown_by-requires-clause-children : goal.search-grown_by-requires-clause-children
+search-grown_by-requires-clause-children g t c =
+    let r = c.args.ranked.now in
+    let right : AreChildren r c.deref.result.now c.in_ok-chosen.chosen.items =
+    chosen-children r c.deref.result.now (to_z w128 (of_z w128 c.floor.result)) c.in_ok-children.children.items c.in_ok-chosen.chosen.items
+    c.in_ok-children.ensures.level.right c.in_ok-chosen.ensures in
+    subst (λ set. AreChildren r set c.deref-6.result.now) (c.deref.ensures.value ∙ sym c.deref-5.ensures.value)
+    (subst (AreChildren r c.deref.result.now) (sym c.deref-6.ensures.value) right)
+
+pub search-returns-in_err-lists-clause-searches : goal.search-returns-in_err-lists-clause-searches
+search-returns-in_err-lists-clause-searches g t c =
+    let r = c.args.ranked.now in
+    let old = g.C.Collect.state c.args.collect.now in
+    let new = g.C.Collect.state c.offer_children.new.collect in
+    stopped {P = Grows r c.args.ranks.now.items} c.from_residual-in_err-lists.result c.from_residual-in_err-lists.ensures.0
+    (subst (λ set. ReachedSome old (Grows r set) new) c.deref-2.ensures.value
+    (offered-stopped r c.deref-2.result.now (ranks_of c.deref-3.result.now) c.in_ok-offer_children.ensures))
+
+pub search-chosen-init : goal.search-chosen-init
+search-chosen-init g t c =
+    let r = c.args.ranked.now in
+    let old = g.C.Collect.state c.args.collect.now in
+    let mid = g.C.Collect.state c.offer_children.new.collect in
+    let set = c.args.ranks.now.items in
+    let children = c.in_ok-children.children.items in
+    let later = c.in_ok-later.later.items in
+    let items = c.deref-child-items.result.now in
+    let lists = c.in_ok-lists.lists.items in
+    let level : IsLevel old r set children = subst (λ xs. IsLevel old r xs children) c.deref.ensures.value c.in_ok-children.ensures.level in
+    let ranks : later ≡ ranks_of children = c.in_ok-later.ensures ∙ ap ranks_of c.deref-4.ensures.value in
+    let offers : Reached old (IsOneOf r set later) mid =
+    subst (λ xs. Reached old (IsOneOf r xs later) mid) c.deref-2.ensures.value
+    (subst (λ zs. Reached old (IsOneOf r c.deref-2.result.now zs) mid) (ap ranks_of c.deref-3.ensures.value ∙ sym ranks) c.in_ok-offer_children.ensures) in
+    let floor : to_z w128 (of_z w128 c.floor.result) ≡ floor_in mid = omega (arith, ints, c.floor.type_inv) ∙ c.floor.ensures.value in
+    let are : AreChosen (floor_in mid) children items =
+    subst (AreChosen (floor_in mid) children) (sym c.deref-child-items.ensures.value)
+    (subst (λ f. AreChosen f children c.in_ok-chosen.chosen.items) floor c.in_ok-chosen.ensures) in
+    let same : c.deref-6.result.now ≡ items = c.deref-6.ensures.value ∙ sym c.deref-child-items.ensures.value in
+    let grown : AreGrown r set items (lists_of lists) =
+    subst (λ xs. AreGrown r set xs (lists_of lists)) same
+    (subst (λ xs. AreGrown r xs c.deref-6.result.now (lists_of lists)) c.deref-5.ensures.value c.in_ok-lists.ensures.lists) in
+    record {
+      ranks = refl;
+      room = record {
+        kept = c.children.ensures.kept_room ∙ c.requires.room.kept;
+        found = c.grown_by.ensures.room ∙ c.children.ensures.found_room ∙ c.requires.room.found;
+      };
+      so_far = record {
+        mid = mid;
+        children = children;
+        level = level;
+        ranks = ranks;
+        offers = offers;
+        are = are;
+        len = c.in_ok-lists.ensures.len ∙ ap length same;
+        grown = grown;
+        rises = omega (arith, ints);
+        upto = upto-none r set later items offers;
+      };
+    }
+
+pub search-enter-requires : goal.search-enter-requires
+search-enter-requires g t c κs within =
+    let r = c.args.ranked.now in
+    let s = g.C.Collect.state c.chosen.collect in
+    let n = length r.items in
+    let none : Child = record { rank = 0; utility = pos 0; support = 0; bound = pos 0 } in
+    let rank = (slice_index_or c.deref-child-items.result.now c.chosen.at record { rank = 0; utility = pos 0; support = 0; bound = pos 0 }).rank in
+    let same : c.args.ranks.now.items ≡ c.chosen.ranks.items = sym c.chosen.invariant.ranks in
+    let so_far = c.chosen.invariant.so_far in
+    let child = so_far-child so_far c.requires.ordered c.chosen-test.true none in
+    let table : InTable r (c.chosen.ranks.items ++ rank ∷ []) = subst (λ set. InTable r (set ++ rank ∷ [])) same child.in_table in
+    let up : Ascend (c.chosen.ranks.items ++ rank ∷ []) = subst (λ set. Ascend (set ++ rank ∷ [])) same child.ascending in
+    let list : IsLeft r (c.args.ranks.now.items ++ rank ∷ []) (tails_of c.index.result.now.items) =
+    so_far-left so_far c.requires.ordered c.chosen-test.true none c.index.result.now c.index.ensures in
+    let left : IsLeft r (c.chosen.ranks.items ++ rank ∷ []) (tails_of c.deref-in-chosen.result.now) =
+    subst (λ set. IsLeft r (set ++ rank ∷ []) (tails_of c.deref-in-chosen.result.now)) same
+    (subst (λ (list : List Tail). IsLeft r (c.args.ranks.now.items ++ rank ∷ []) (tails_of list)) (sym c.deref-in-chosen.ensures.value) list) in
+    let later : c.in_ok-later.later.items ≡ c.deref-in-chosen-2.result.now = sym c.deref-in-chosen-2.ensures.value in
+    let enough : AreEnough s r (c.chosen.ranks.items ++ rank ∷ []) c.deref-in-chosen-2.result.now =
+    subst (AreEnough s r (c.chosen.ranks.items ++ rank ∷ [])) later
+    (subst (λ set. AreEnough s r (set ++ rank ∷ []) c.in_ok-later.later.items) same (so_far-enough so_far c.requires.ordered c.chosen-test.true none)) in
+    let once : IsDistinct nat_eq c.deref-in-chosen-2.result.now = subst (IsDistinct nat_eq) later (so_far-once so_far c.requires.ordered) in
+    let inside : AllByRecursion (λ z. z < n) c.deref-in-chosen-2.result.now = subst (AllByRecursion (λ z. z < n)) later (so_far-within so_far c.requires.ordered) in
+    let ordered : IsInOrder s = so_far-ordered so_far c.requires.ordered in
+    let before = c.requires.floor in
+    let rises : floor_in (g.C.Collect.state c.args.collect.now) ≤ℤ floor_in s = so_far-rises so_far c.requires.ordered in
+    let floor : g.G.Gate.floor c.args.gate.now ≤ℤ floor_in s = omega (arith, ints, rises, before) in
+    let rests : RestsOn s.rule.table r.items = subst (λ rule. RestsOn rule.table r.items) (sym (so_far-rule so_far c.requires.ordered)) c.requires.rests in
+    let room : HasRoom c.chosen.board n = c.chosen.invariant.room in
+    let low : next c.args.ranks.now.items ≤ rank = next-below c.args.ranks.now.items rank child.ascending in
+    let last : rank < n = last-in c.args.ranks.now.items rank n child.in_table in
+    let smaller : 2 * (n - (rank + 1)) + 1 < 2 * (n - next c.args.ranks.now.items) = omega (arith, low, last) in
+    search rules
+
+pub search-returns-in_err-enter-clause-searches : goal.search-returns-in_err-enter-clause-searches
+search-returns-in_err-enter-clause-searches g t c =
+    let r = c.args.ranked.now in
+    let none : Child = record { rank = 0; utility = pos 0; support = 0; bound = pos 0 } in
+    let rank = (slice_index_or c.deref-child-items.result.now c.chosen.at none).rank in
+    stopped {P = Grows r c.args.ranks.now.items} c.from_residual-in_err-enter.result c.from_residual-in_err-enter.ensures.0
+    (so_far-some c.chosen.invariant.so_far c.requires.ordered c.chosen-test.true none
+    (subst (λ set. ReachedSome (g.C.Collect.state c.chosen.collect) (Grows r (set ++ rank ∷ [])) (g.C.Collect.state c.enter.new.collect))
+    c.chosen.invariant.ranks c.in_err-enter.ensures.searches))
+
+pub search-chosen-preserved : goal.search-chosen-preserved
+search-chosen-preserved g t c =
+    let r = c.args.ranked.now in
+    let none : Child = record { rank = 0; utility = pos 0; support = 0; bound = pos 0 } in
+    let rank = (slice_index_or c.deref-child-items.result.now c.chosen.at none).rank in
+    record {
+      ranks = c.in_ok-enter.ensures.ranks ∙ c.chosen.invariant.ranks;
+      room = c.enter.ensures.room;
+      so_far = so_far-next c.chosen.invariant.so_far c.requires.ordered c.chosen-test.true none
+          (subst (λ set. Reached (g.C.Collect.state c.chosen.collect) (Grows r (set ++ rank ∷ [])) (g.C.Collect.state c.enter.new.collect))
+          c.chosen.invariant.ranks c.in_ok-enter.ensures.searches);
+    }
+
+pub search-returns-clause-searches : goal.search-returns-clause-searches
+search-returns-clause-searches g t c =
+    let none : Child = record { rank = 0; utility = pos 0; support = 0; bound = pos 0 } in
+    so_far-all c.chosen.invariant.so_far c.requires.ordered none (elim c.chosen-test.branch [
+      | search-else-chosen-test w ↦ inl (omega (arith, w.chosen-test.false))
+      | search-then-chosen-test+then-child-floor w ↦ inr (omega (arith, ints, w.floor-in-chosen.ensures.value, w.if-child-floor.true, w.floor-in-chosen.type_inv))
+    ])

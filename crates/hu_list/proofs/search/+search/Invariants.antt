@@ -1,15 +1,19 @@
-use Rattle.std.proofs.Common.{◌≡◌, length, take}
-use Rattle.hu_collect.specs.Makes.{MakesReaching}
-use Rattle.hu_list.specs.Level.{ranks_of}
-use Rattle.hu_search.proofs.lemmas.Beginnings.{Begins}
+use Rattle.std.proofs.Common.{◌≡◌, ◌+◌, ◌-◌, ◌*◌, length}
+use Rattle.hu_list.specs.Board.{HasRoom}
+use Rattle.hu_list.proofs.SearchLemmas.{next}
+use Rattle.hu_list.proofs.TurnLemmas.{IsSoFar}
 use Rattle.hu_list.proofs.search.+search.Given as goal
 
-abbrev pub decreases-search : goal.decreases-search
-decreases-search g l = length l.branches.now
+-- a search comes after the entry of a set with more ranks before it, and before that of one with fewer
+abbrev pub decreases-enter : goal.decreases-enter
+decreases-enter g l = 2 * (length l.ranked.now.items - (l.child.now.rank + 1)) + 1
 
-abbrev pub invariant-branches : goal.invariant-branches
-invariant-branches g l = record {
-  rule : (g.C.Collect.state l.collect).rule ≡ (g.C.Collect.state l.initial.collect).rule;
-  ranks : l.ranks.items ≡ l.initial.ranks.items;
-  made : MakesReaching ((g.C.Collect.state l.initial.collect).rule) ((g.C.Collect.state l.initial.collect).content) (Begins l.ranked l.initial.ranks.items (take l.at (ranks_of l.branches))) ((g.C.Collect.state l.collect).content);
+abbrev pub decreases-search : goal.decreases-search
+decreases-search g l = 2 * (length l.ranked.now.items - next l.ranks.now.items)
+
+abbrev pub invariant-search-chosen : goal.invariant-search-chosen
+invariant-search-chosen g l = record {
+  ranks : l.ranks.items ≡ l.fn.ranks.items;
+  room : HasRoom l.board (length l.ranked.items);
+  so_far : IsSoFar (g.C.Collect.state l.fn.collect) (g.C.Collect.state l.collect) l.ranked l.fn.ranks.items l.later.items l.child-items l.lists.items l.at;
 }

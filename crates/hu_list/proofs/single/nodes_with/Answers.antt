@@ -3,8 +3,7 @@ use Rattle.std.proofs.lemmas.List.{map_more, length-take-le, length-map}
 use Rattle.hu_kind.specs.Record.{items_in, absolute_of}
 use Rattle.hu_kind.specs.Order.{Ascend}
 use Rattle.hu_totals.specs.View.{dense_pair, pairs_in}
-use Rattle.hu_list.specs.Nodes.{list_of}
-use Rattle.hu_list.specs.Gathered.{node_in}
+use Rattle.hu_list.specs.Nodes.{list_of, node_in}
 use Rattle.hu_kind.proofs.lemmas.Ascending.{each-ascending}
 use Rattle.hu_list.proofs.SingleLemmas.{list_of-more, at-records, absolute-record}
 use Rattle.hu_list.proofs.single.nodes_with.Goals as goal

@@ -1,0 +1,7 @@
+use Rattle.std.proofs.Common.{◌≡◌, take}
+use Rattle.hu_list.specs.Tails.{kept_gain}
+use Rattle.hu_list.specs.View.{cells_of}
+use Rattle.hu_list.proofs.tail.kept_gain.Given as goal
+
+abbrev pub invariant-loop-cell : goal.invariant-loop-cell
+invariant-loop-cell l = l.gain ≡ kept_gain l.kept.ranks (cells_of (take l.cell-index l.cells))

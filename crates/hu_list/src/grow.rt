@@ -1,0 +1,83 @@
+//! The tails of the sets with one rank more.
+
+ghost use Rattle.std.specs.Prelude.{◌≡◌, ◌<◌, ◌+◌, ◌^◌, ◌==◌, ◌&&◌, nat_lt, ◌++◌, [], ◌∷◌, ℕ, List, pos, length, if◌then◌else◌, IfOk, OnOk};
+ghost use Rattle.hu_list.specs.Slots.{among, at, IsPlace};
+ghost use Rattle.hu_list.specs.Tails.{size_of};
+ghost use Rattle.hu_list.specs.Passes.{met, met_in, growing};
+ghost use Rattle.hu_list.specs.View.{tail_of, tails_of, lists_of, IsTail, AreTails};
+
+use crate::slots::Slots;
+use crate::tail::Tail;
+use hu_kind::NoMemory;
+use std::alloc::Global;
+
+/// The tails of the set with each of these ranks more, where cells are left, in one pass over the cells.
+pub(crate) fn grown<'a>(
+    alloc: Global,
+    tails: &[Tail<'a>],
+    slots: &Slots,
+) -> Result<Vec<Vec<Tail<'a>>>, NoMemory>
+    requires rules { AreTails slots.now.room (tails_of tails.now) }
+    ensures len { IfOk result (λ lists. length lists.items ≡ length slots.now.ranks) }
+    ensures lists { IfOk result (λ lists. (z : ℕ) → at [] slots.now.ranks (lists_of lists.items) z ≡ met_in (growing slots.now.ranks) z (tails_of tails.now) []) }
+{
+    let mut lists = empty_lists(alloc, slots.ranks().len())?;
+    for tail in tails {
+        add_tails(slots, &mut lists, tail)?;
+    }
+    Ok(lists)
+}
+
+/// So many lists without tails.
+fn empty_lists<'a>(alloc: Global, count: usize) -> Result<Vec<Vec<Tail<'a>>>, NoMemory>
+    ensures len { IfOk result (λ lists. length lists.items ≡ count) }
+    ensures none { IfOk result (λ lists. (ranks : List ℕ) → (z : ℕ) → at [] ranks (lists_of lists.items) z ≡ []) }
+{
+    let mut lists = Vec::with_capacity(alloc, count)?;
+    for _list in 0..count {
+        lists.push(Vec::new(alloc))?;
+    }
+    Ok(lists)
+}
+
+/// Adds what a tail leaves to each rank that it holds.
+fn add_tails<'a>(
+    slots: &Slots,
+    lists: &mut Vec<Vec<Tail<'a>>>,
+    tail: &Tail<'a>,
+) -> Result<(), NoMemory>
+    requires len { length lists.old.items ≡ length slots.now.ranks }
+    requires rules { IsTail slots.now.room (tail_of tail.now) }
+    requires fits { size_of (tail_of tail.now) < 2 ^ 127 }
+    ensures len { OnOk result (length lists.new.items ≡ length slots.now.ranks) }
+    ensures lists { OnOk result ((z : ℕ) → at [] slots.now.ranks (lists_of lists.new.items) z ≡ met (growing slots.now.ranks (tail_of tail.now)) z (tail_of tail.now).cells (at [] slots.now.ranks (lists_of lists.old.items) z)) }
+{
+    for (at, cell) in tail.cells.iter().enumerate() {
+        let left = Tail {
+            own: tail.own + cell.value,
+            cells: &tail.cells[at + 1..],
+        };
+        add_tail(slots, lists, cell.rank, left)?;
+    }
+    Ok(())
+}
+
+/// Adds a tail to the list of a rank, where it has a slot and cells are left.
+fn add_tail<'a>(
+    slots: &Slots,
+    lists: &mut Vec<Vec<Tail<'a>>>,
+    rank: u32,
+    tail: Tail<'a>,
+) -> Result<(), NoMemory>
+    requires len { length lists.old.items ≡ length slots.now.ranks }
+    ensures len { OnOk result (length lists.new.items ≡ length slots.now.ranks) }
+    ensures lists { OnOk result ((z : ℕ) → at [] slots.now.ranks (lists_of lists.new.items) z ≡ (if z == rank then (if among rank slots.now.ranks && nat_lt 0 (length tail.entry.cells.now) then at [] slots.now.ranks (lists_of lists.old.items) z ++ tail_of tail.entry ∷ [] else at [] slots.now.ranks (lists_of lists.old.items) z) else at [] slots.now.ranks (lists_of lists.old.items) z)) }
+{
+    if tail.cells.is_empty() {
+        return Ok(());
+    }
+    if let Some(slot) = slots.find(rank) {
+        lists[slot].push(tail)?;
+    }
+    Ok(())
+}
