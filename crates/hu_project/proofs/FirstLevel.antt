@@ -11,7 +11,7 @@ use Rattle.hu_rows.specs.Rows.{RowOf, AreRows, AreCounted, over, count_over}
 use Rattle.hu_rows.specs.Tally.{AreBelow}
 use Rattle.hu_rows.proofs.lemmas.Counted.{each-held}
 use Rattle.hu_search.specs.Growth.{InTable}
-use Rattle.hu_search.proofs.UnrankLemmas.{InTable-occurs}
+use Rattle.hu_search.proofs.lemmas.UnrankLemmas.{InTable-occurs}
 use Rattle.hu_project.specs.Level.{IsLevel}
 
 range-low : (a n k : ℕ) → Member k (range_with_len a n) → k < a + n

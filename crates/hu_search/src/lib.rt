@@ -1,8 +1,10 @@
 //! Searches of itemsets over the ranks of their items.
 //!
-//! What a search has to make, and which sets it may leave out, stands in `specs/Growth.antt`; what it makes turn by turn in
-//! `proofs/SearchLemmas.antt`, and that this is what all itemsets make in `proofs/WholeLemmas.antt`. [`key_of`] is the key of
-//! a set of ranks. The engines over ranks stand on it; it stands on hu_kind, hu_totals and hu_collect.
+//! A search offers all sets with one rank more than a set, its children ([`Child`], [`offer_children`]), puts those that may
+//! lead on in the order of their falling bounds ([`best_first`]), asks the collector before it enters one ([`opens`]), and stops at
+//! the first whose bound is below the floor. That this leaves out nothing that counts stands in `specs/Children.antt` and
+//! `proofs/lemmas/Children.antt`; what grows a set in `specs/Growth.antt`. [`key_of`] is the key of a set of ranks. The engines over
+//! ranks stand on it; it stands on hu_kind, hu_totals and hu_collect.
 #![tactic(auto)]
 
 mod child;

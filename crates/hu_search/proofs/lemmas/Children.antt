@@ -16,7 +16,7 @@ use Rattle.hu_collect.proofs.lemmas.Searching.{empty-contains, reached-rule, rea
 use Rattle.hu_search.specs.declared.child.Child.{Child}
 use Rattle.hu_search.specs.Growth.{rank_entry, Grows}
 use Rattle.hu_search.specs.Children.{IsChild, ranks_of, IsOneOf, IsBelow, Counts, AreEnough, IsBarren, IsBound, AreOpen, Fall, IsUpto}
-use Rattle.hu_search.proofs.UnrankLemmas.{pattern-grows, grows-pattern}
+use Rattle.hu_search.proofs.lemmas.UnrankLemmas.{pattern-grows, grows-pattern}
 
 -- ---- the ranks of the first children
 

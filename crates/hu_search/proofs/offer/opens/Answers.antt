@@ -1,5 +1,4 @@
-use Rattle.hu_search.proofs.lemmas.SearchLemmas.{can_open}
-use Rattle.hu_search.proofs.OpenLemmas.{barren-shut}
+use Rattle.hu_search.proofs.OpenLemmas.{can_open, barren-shut}
 use Rattle.hu_search.proofs.offer.opens.Goals as goal
 
 pub opens-requires : goal.opens-requires
