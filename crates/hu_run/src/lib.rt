@@ -10,6 +10,8 @@
 mod answer;
 mod jobs;
 mod stop;
+#[cfg(test)]
+mod tests;
 mod top;
 mod words;
 
