@@ -2,7 +2,6 @@
 
 ghost use Rattle.hu_io.specs.MemoryFiles.{FilesView, files_state};
 
-mod drill;
 mod failures;
 mod items;
 mod refusals;

@@ -57,7 +57,6 @@ fn items_in_a_record(rt: HostRuntime) -> Result<(), Fail> {
         ("lists", 100),
         ("project", 100),
         ("kept", 100),
-        ("project", 4096),
     ];
     for (engine, last) in cases {
         finds_all(&rt, rt.alloc(), engine, last)?;
