@@ -1,11 +1,11 @@
 -- What taking in a front of a piece makes of the states of lines.
-use Rattle.std.proofs.Common.{◌≡◌, ℕ, ◌+◌, ◌<◌, ◌≤◌, Bool, true, false, cond, List, [], ◌++◌, length, take, drop, Result, Ok, Err, Some, None, refl, sym, ap, ◌∙◌, subst, append_assoc, take-append-drop, length-append, arith}
+use Rattle.std.proofs.Common.{inl, inr, ◌≡◌, ℕ, ◌+◌, ◌<◌, ◌≤◌, Bool, true, false, cond, List, [], ◌++◌, length, take, drop, Result, Ok, Err, Some, None, refl, sym, ap, ◌∙◌, subst, append_assoc, take-append-drop, length-append, arith}
 use Rattle.std.specs.Option.{option_or}
 use Rattle.hu_lines.specs.declared.limits.LineFault.{LineFault}
-use Rattle.hu_lines.specs.declared.limits.LineFault.TheVariants as limit
 use Rattle.hu_lines.specs.Pieces.{first_piece, has_line_feed}
 use Rattle.hu_lines.specs.Limits.{refusal}
 use Rattle.hu_lines.specs.Lines.{State, begun, grown, refusal_of, IsHeld}
+use Rattle.hu_lines.proofs.lemmas.LimitLemmas.{refusal_names}
 use Rattle.hu_input.specs.declared.reason.Reason.{Reason}
 use Rattle.hu_input.specs.declared.intake.LineStop.{LineStop}
 use Rattle.hu_input.specs.declared.intake.LineStop.TheVariants.{Refused, NoMemory}
@@ -16,19 +16,11 @@ use Rattle.hu_input.specs.Intake.{limit_stop, bytes_in, IsOpen, outcome, outcome
 use Rattle.hu_input.proofs.IntakeLemmas.{outcome_held, outcome_accepted, outcome_refused, outcome_limited}
 
 -- a limit names the line that passes it
-limit_by_tests : (long large : Bool) (number : ℕ) (fault : LineFault) → cond long (Some (limit.LineTooLong number)) (cond large (Some (limit.InputTooLarge number)) None) ≡ Some fault
-    → limit_stop fault ≡ Refused number (limit_reason fault)
-limit_by_tests true large number fault is =
-    let same : limit.LineTooLong number ≡ fault = cc in
-    subst (λ f. limit_stop f ≡ Refused number (limit_reason f)) same refl
-limit_by_tests false true number fault is =
-    let same : limit.InputTooLarge number ≡ fault = cc in
-    subst (λ f. limit_stop f ≡ Refused number (limit_reason f)) same refl
-limit_by_tests false false number fault is = cc
-
 limit_of_line : (number before : ℕ) (piece : List ℕ) (fault : LineFault) → refusal number before piece ≡ Some fault → limit_stop fault ≡ Refused number (limit_reason fault)
-unfolding refusal
-limit_of_line number before piece fault is = limit_by_tests _ _ number fault is
+limit_of_line number before piece fault is = elim (refusal_names number before piece fault is) [
+  | inl long ↦ subst (λ f. limit_stop f ≡ Refused number (limit_reason f)) (sym long) refl
+  | inr large ↦ subst (λ f. limit_stop f ≡ Refused number (limit_reason f)) (sym large) refl
+]
 
 -- what is so of the next line and of this one is so of the line that begins
 pub begun_by_test : (P : State → Type 0) (whole : Bool) (next same : State) → (whole ≡ true → P next) → (whole ≡ false → P same) → P (cond whole next same)
