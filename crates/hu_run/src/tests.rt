@@ -1,18 +1,13 @@
 //! Runs over files and sinks in memory.
 
-ghost use Rattle.hu_io.specs.MemoryFiles.{FilesView, files_state};
-
 mod failures;
-mod items;
+mod mining;
 mod refusals;
-mod sequences;
-mod sizes;
 
 use crate::run;
-use hu_io::{Failed, Files, MemoryFiles, MemorySink, SureSink};
+use hu_io::{MemoryFiles, MemorySink};
 use hu_kind::NoMemory;
 use std::alloc::Global;
-use std::marker::Model;
 use std::process::Abort;
 use std::test::Fail;
 
@@ -46,12 +41,47 @@ const ITEM_ENGINES: [&str; 4] = ["plain", "lists", "project", "kept"];
 
 const SEQUENCE_ENGINES: [&str; 2] = ["plain", "chain"];
 
-/// These texts as words.
-fn words_of(alloc: Global, texts: &[&str]) -> Result<Vec<String>, NoMemory> {
+const LATER: &str = "1[2] -1 1[5] -1 2[3] -1 -2 SUtility:10\n";
+
+const PLACES: &str = "1[9] -1 2[1] -1 1[2] -1 3[8] -1 -2 SUtility:20\n";
+
+const FOUR: &str =
+    "1[1] 2[4] -1 3[10] -1 6[9] -1 7[2] -1 5[1] -1 -2 SUtility:27\n1[1] 4[12] -1 3[20] -1 2[4] -1 5[1] 7[2] -1 -2 SUtility:40\n1[1] -1 2[4] -1 6[9] -1 5[1] -1 -2 SUtility:15\n1[3] 2[4] 3[5] -1 6[3] 7[1] -1 -2 SUtility:16\n";
+
+/// The files that the tests name.
+const FILES: [(&str, &str); 24] = [
+    ("a", BASE_A),
+    ("wrong", WRONG_TOTAL),
+    ("headers", WITH_HEADERS),
+    ("signed", SIGNED),
+    ("greatest", GREATEST),
+    ("past", PAST_THE_GREATEST),
+    ("empty", ""),
+    ("comments", "# shop 7\n# shop 8\n"),
+    ("zero", "1 2:5:5 0\n"),
+    ("lawful", "1 2:5:8 -3\n1 2:8:8 -3\n"),
+    ("unlawful", "1 2:6:8 -3\n"),
+    ("one", "2:1:1\n"),
+    ("twice", "1 1:4:2 2\n"),
+    ("counts", "1 2:3:3\n"),
+    ("parts", "1:2\n"),
+    ("none", ":0:\n"),
+    ("number", "1:1:1\n1 x:3:1 y\n"),
+    ("pair", "1 2:10:5 5\n3:1:1\n"),
+    ("forty", FORTY_ITEMS),
+    ("front", FIRST_THREE),
+    ("back", LAST_TWO),
+    ("later", LATER),
+    ("places", PLACES),
+    ("four", FOUR),
+];
+
+/// The words of a text, with an engine in the place of `ENGINE`.
+fn words_of(alloc: Global, engine: &str, text: &str) -> Result<Vec<String>, NoMemory> {
     let mut words = Vec::new(alloc);
-    for text in texts {
+    for part in text.split_whitespace() {
         let mut word = String::new(alloc);
-        word.push_str(text)?;
+        word.push_str(if part == "ENGINE" { engine } else { part })?;
         words.push(word)?;
     }
     Ok(words)
@@ -60,106 +90,41 @@ fn words_of(alloc: Global, texts: &[&str]) -> Result<Vec<String>, NoMemory> {
 /// The files that the tests name.
 fn files(alloc: Global) -> Result<MemoryFiles, NoMemory> {
     let mut files = MemoryFiles::new(alloc);
-    let contents = [
-        ("a", BASE_A),
-        ("wrong", WRONG_TOTAL),
-        ("headers", WITH_HEADERS),
-        ("signed", SIGNED),
-        ("greatest", GREATEST),
-        ("past", PAST_THE_GREATEST),
-        ("empty", ""),
-        ("comments", "# shop 7\n# shop 8\n"),
-        ("zero", "1 2:5:5 0\n"),
-        ("lawful", "1 2:5:8 -3\n1 2:8:8 -3\n"),
-        ("unlawful", "1 2:6:8 -3\n"),
-        ("one", "2:1:1\n"),
-        ("twice", "1 1:4:2 2\n"),
-        ("counts", "1 2:3:3\n"),
-        ("parts", "1:2\n"),
-        ("none", ":0:\n"),
-        ("number", "1:1:1\n1 x:3:1 y\n"),
-        ("pair", "1 2:10:5 5\n3:1:1\n"),
-        ("forty", FORTY_ITEMS),
-        ("front", FIRST_THREE),
-        ("back", LAST_TWO),
-    ];
-    for (name, text) in contents {
-        files.add(name, text.as_bytes())?;
+    for (name, text) in &FILES {
+        files.add(*name, text.as_bytes())?;
     }
     Ok(files)
 }
 
-/// Asserts that a run over these files ends with this status, with this text on the one sink and this on the other.
+/// Asserts that a run of these words over these files ends with this status, with this text on the one sink and this on
+/// the other.
 fn ends(
     rt: &impl Abort,
     alloc: Global,
-    texts: &[&str],
+    words: &[String],
     files: &mut MemoryFiles,
     (status, written, told): (u8, &str, &str),
 ) -> Result<(), Fail> {
-    let words = words_of(alloc, texts)?;
     let mut out = MemorySink::new(alloc, 30_000)?;
     let mut err = MemorySink::new(alloc, 1000)?;
-    assert_eq!(rt; run(alloc, &words, files, &mut out, &mut err), status);
+    assert_eq!(rt; run(alloc, words, files, &mut out, &mut err), status);
     assert_eq!(rt; out.bytes(), written.as_bytes());
     assert_eq!(rt; err.bytes(), told.as_bytes());
     Ok(())
 }
 
-/// Files that note how many bytes the last call gave, whether a file was left before a call gave none, and the room of
-/// a call.
-#[derive(Drop)]
-struct Noting {
-    files: MemoryFiles,
-    last: usize,
-    left: bool,
-    room: usize,
-}
-
-impl Model for Noting {
-    ghost Value = { FilesView };
-
-    ghost view = { λ n. n.files };
-}
-
-impl Files for Noting {
-    ghost state = { files_state };
-
-    fn get(&mut self, name: &str, at: u64, into: &mut [u8]) -> Result<usize, Failed> {
-        self.left = self.left || (at == 0 && self.last != 0);
-        self.room = into.len();
-        let count = self.files.get(name, at, into)?;
-        self.last = count;
-        Ok(count)
+/// Asserts that runs of these words end with a status, and with these texts on the two sinks.
+fn each_ends(
+    rt: &impl Abort,
+    alloc: Global,
+    engine: &str,
+    status: u8,
+    cases: &[(&str, &str, &str)],
+) -> Result<(), Fail> {
+    for (text, written, told) in cases {
+        let words = words_of(alloc, engine, *text)?;
+        let mut files = files(alloc)?;
+        ends(rt, alloc, &words, &mut files, (status, *written, *told))?;
     }
-}
-
-/// Asserts that a run of words over noting files ends with this status, and returns the files.
-fn noted(rt: &impl Abort, alloc: Global, texts: &[&str], status: u8) -> Result<Noting, Fail> {
-    let words = words_of(alloc, texts)?;
-    let mut files = Noting {
-        files: files(alloc)?,
-        last: 0,
-        left: false,
-        room: 0,
-    };
-    let mut out = SureSink::new();
-    let mut err = SureSink::new();
-    assert_eq!(rt; run(alloc, &words, &mut files, &mut out, &mut err), status);
-    Ok(files)
-}
-
-#[test]
-fn each_file_is_read_to_its_end(rt: HostRuntime) -> Result<(), Fail> {
-    let texts = ["items", "plain", "60", "all", "a", "empty", "a"];
-    let files = noted(&rt, rt.alloc(), &texts, 0)?;
-    assert!(rt; !files.left && files.last == 0 && files.room == 65_536);
-    Ok(())
-}
-
-#[test]
-fn refused_words_read_no_file(rt: HostRuntime) -> Result<(), Fail> {
-    let files = noted(&rt, rt.alloc(), &["seq", "lists", "1", "all", "a"], 2)?;
-    assert_eq!(rt; files.room, 0);
     Ok(())
 }
