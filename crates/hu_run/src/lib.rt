@@ -11,6 +11,8 @@ mod answer;
 mod jobs;
 pub mod laws;
 mod stop;
+#[cfg(test)]
+mod tests;
 mod top;
 mod words;
 
