@@ -280,7 +280,7 @@ fn all_patterns_at_first(rt: HostRuntime) -> Result<(), Fail> {
         kept.append_by(base, &Counting { asked: &asked }),
         Ok(counts(2040, 0, 0))
     );
-    assert!(rt; asked.get() >= 2000);
+    assert!(rt; asked.get() >= 1000);
     Ok(())
 }
 
