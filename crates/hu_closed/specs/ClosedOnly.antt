@@ -4,7 +4,8 @@ use Rattle.hu_kind.specs.Itemsets.{item_patterns, closed_patterns}
 use Rattle.hu_collect.specs.Rule.{Rule}
 use Rattle.hu_collect.specs.Ranks.{RestsOn}
 use Rattle.hu_collect.specs.State.{State, offered}
-use Rattle.hu_totals.specs.Ranked.{Ranking, ranked}
+use Rattle.hu_totals.specs.declared.weights.RankOrder.{RankOrder}
+use Rattle.hu_totals.specs.Ranked.{Ranking, ranked_by}
 use Rattle.hu_closed.specs.Keys.{is_closed_key}
 
 -- the inner collector
@@ -28,9 +29,9 @@ closed_rule inner records table = record {
   table = Some table;
 }
 
--- ranks are those of records, with some floor
+-- ranks are those of records, in some order and with some floor
 abbrev pub IsRankingOf : List (List (ℕ × ℤ)) → Ranking → Type 0
-IsRankingOf records ranking = (floor : ℤ) × (ranking ≡ ranked floor records)
+IsRankingOf records ranking = (order : RankOrder) × (floor : ℤ) × (ranking ≡ ranked_by order floor records)
 
 -- ranks are those of the records, and a rule rests on them where it rests on ranks
 pub record AreOfOne (inner : Option (List ℕ)) (records : List (List (ℕ × ℤ))) (ranking : Ranking) : Type 0 where

@@ -13,10 +13,11 @@ use Rattle.hu_kind.specs.Itemsets.{sublists, occurring_sets, item_entry, item_pa
 use Rattle.hu_kind.specs.Answer.{found}
 use Rattle.hu_kind.proofs.lemmas.Members.{Member, Member-from_contains, Contains-from_member, Member-append_cases, Member-map, Member-from_map, Member-filter, Member-from_filter}
 use Rattle.hu_kind.proofs.lemmas.Occurring.{at_member, by_members, Member-ranking, Occurs, held-members, Occurs-from_member, Member-from_occurs}
-use Rattle.hu_totals.specs.Ranked.{ranked, ranked_items, by_twu, cells_from, over_ranks, item_at, unranked}
+use Rattle.hu_totals.specs.declared.weights.RankOrder.{RankOrder}
+use Rattle.hu_totals.specs.Ranked.{ranked_by, ordered_items, by_order, cells_from, over_ranks, item_at, unranked}
 use Rattle.hu_totals.specs.Laws.{KeepsSets, RanksHigh, KeepsPatterns}
 use Rattle.hu_totals.proofs.lemmas.SortedLists.{Member-to_ranking}
-use Rattle.hu_totals.proofs.lemmas.WeightLemmas.{by_twu_exact}
+use Rattle.hu_totals.proofs.lemmas.WeightLemmas.{by_order_exact}
 use Rattle.hu_totals.proofs.lemmas.RecordCells.{value_of-absent}
 use Rattle.hu_totals.proofs.lemmas.RankingRules.{All-from_each}
 
@@ -148,9 +149,9 @@ each-member items [] all = tt
 each-member items (x ∷ xs) all = (Member-from_contains x items all.0, each-member items xs all.1)
 
 -- sets of ranked items keep their utility and their support
-pub KeepsSets-ranked : (floor : ℤ) (records : List (List (ℕ × ℤ))) → KeepsSets records (ranked floor records)
-KeepsSets-ranked floor records set some all =
-    let items = ranked_items floor records in
+pub KeepsSets-ranked : (order : RankOrder) (floor : ℤ) (records : List (List (ℕ × ℤ))) → KeepsSets records (ranked_by order floor records)
+KeepsSets-ranked order floor records set some all =
+    let items = ordered_items order floor records in
     let members = each-member items set (each-from_all (Contains items) set all) in
     (utility-over items set some members records, support-over items set some members records)
 
@@ -256,17 +257,17 @@ held records set earns = elim (cases_lt 0 (support records set)) [
   | inr none ↦ let nothing' = utility-unheld records set (omega arith) in absurd (omega (arith, ints))
 ]
 
-module _ (floor : ℤ) (records : List (List (ℕ × ℤ))) (least : pos 1 ≤ℤ floor) where
-  ranked-member : (x : ℕ) (set : List ℕ) → Ascend set → AllByRecursion (λ i. Member i (flat_map items_in records)) set → floor ≤ℤ utility records set → Member x set → Member x (ranked_items floor records)
+module _ (order : RankOrder) (floor : ℤ) (records : List (List (ℕ × ℤ))) (least : pos 1 ≤ℤ floor) where
+  ranked-member : (x : ℕ) (set : List ℕ) → Ascend set → AllByRecursion (λ i. Member i (flat_map items_in records)) set → floor ≤ℤ utility records set → Member x set → Member x (ordered_items order floor records)
   ranked-member x set up occurs high m =
       let weight = utility-twu records x set up m in
       let here : Member x (items_of records) = Member-ranking x (flat_map items_in records) (at_member (λ i. Member i (flat_map items_in records)) x set occurs m) in
       let reaches : int_le floor (twu records (x ∷ [])) ≡ true = grind (arith, ints) in
-      Member-to_ranking (by_twu records) (by_twu_exact records) x (filter (λ i. int_le floor (twu records (i ∷ []))) (items_of records))
+      Member-to_ranking (by_order order records) (by_order_exact order records) x (filter (λ i. int_le floor (twu records (i ∷ []))) (items_of records))
       (Member-filter (λ i. int_le floor (twu records (i ∷ []))) x (items_of records) here reaches)
 
   -- a set that earns the floor has ranked items alone
-  pub RanksHigh-ranked : RanksHigh records (ranked floor records)
+  pub RanksHigh-ranked : RanksHigh records (ranked_by order floor records)
   RanksHigh-ranked [] inside high = λ k d within. absurd (omega arith)
   RanksHigh-ranked (x ∷ xs) inside high =
       let set = x ∷ xs in
@@ -274,7 +275,7 @@ module _ (floor : ℤ) (records : List (List (ℕ × ℤ))) (least : pos 1 ≤�
       let occurring = Member-filter (λ s. nat_lt 0 (length s) && nat_lt 0 (support records s)) set (sublists (items_of records)) (Member-from_contains set (sublists (items_of records)) inside)
       (and_from (nat_lt 0 (length set)) (nat_lt 0 (support records set)) (lt-ltb 0 (length set) (omega arith)) (lt-ltb 0 (support records set) some)) in
       let o = Occurs-from_member records set occurring in
-      let items = ranked_items floor records in
+      let items = ordered_items order floor records in
       All-from_each (Contains items) set
       (by_members (Contains items) set (λ y m. Contains-from_member y items (ranked-member y set o.ascending (held-members records set some) high m)))
 
@@ -301,18 +302,18 @@ module _ (floor : ℤ) (records : List (List (ℕ × ℤ))) (least : pos 1 ≤�
       ]
       by false ih m' = ih m'
 
-  same_entry : (set : List ℕ) → 0 < length set → All (Contains (ranked_items floor records)) set → item_entry (unranked (ranked floor records)) set ≡ item_entry records set
+  same_entry : (set : List ℕ) → 0 < length set → All (Contains (ordered_items order floor records)) set → item_entry (unranked (ranked_by order floor records)) set ≡ item_entry records set
   same_entry set some all =
-      let same = KeepsSets-ranked floor records set some all in
+      let same = KeepsSets-ranked order floor records set some all in
       λ j. record { key = map pos set; utility = same.0 j; support = same.1 j }
 
-  pub KeepsPatterns-ranked : KeepsPatterns records (ranked floor records)
+  pub KeepsPatterns-ranked : KeepsPatterns records (ranked_by order floor records)
   KeepsPatterns-ranked low upto entry = (to, from)
     where
-      to : Contains (found low (item_patterns (unranked (ranked floor records)))) entry → Contains (found low (item_patterns records)) entry
+      to : Contains (found low (item_patterns (unranked (ranked_by order floor records)))) entry → Contains (found low (item_patterns records)) entry
       to c =
-          let over = unranked (ranked floor records) in
-          let items = ranked_items floor records in
+          let over = unranked (ranked_by order floor records) in
+          let items = ordered_items order floor records in
           let kept' = Member-from_filter (λ (e : Entry). int_le low e.utility) entry (item_patterns over) (Member-from_contains entry (found low (item_patterns over)) c) in
           let of_set = Member-from_map (item_entry over) entry (occurring_sets over) kept'.0 in
           let set = of_set.0 in
@@ -320,16 +321,16 @@ module _ (floor : ℤ) (records : List (List (ℕ × ℤ))) (least : pos 1 ≤�
           let inside = held-members over set o.held in
           let all = All-from_each (Contains items) set
           (by_members (Contains items) set (λ i m. Contains-from_member i items (member-over i items records (at_member (λ j. Member j (flat_map items_in over)) i set inside m)))) in
-          let same = KeepsSets-ranked floor records set o.some all in
+          let same = KeepsSets-ranked order floor records set o.some all in
           let o' : Occurs records set = record { some = o.some; ascending = o.ascending; held = subst (λ n. 0 < n) same.1 o.held } in
           let entry' = sym (same_entry set o.some all) ∙ of_set.2 in
           let m = Member-map (item_entry records) set (occurring_sets records) (Member-from_occurs records set o') in
           Contains-from_member entry (found low (item_patterns records))
           (Member-filter (λ (e : Entry). int_le low e.utility) entry (item_patterns records) (subst (λ e. Member e (item_patterns records)) entry' m) kept'.1)
 
-      from : Contains (found low (item_patterns records)) entry → Contains (found low (item_patterns (unranked (ranked floor records)))) entry
+      from : Contains (found low (item_patterns records)) entry → Contains (found low (item_patterns (unranked (ranked_by order floor records)))) entry
       from c =
-          let over = unranked (ranked floor records) in
+          let over = unranked (ranked_by order floor records) in
           let kept' = Member-from_filter (λ (e : Entry). int_le low e.utility) entry (item_patterns records) (Member-from_contains entry (found low (item_patterns records)) c) in
           let of_set = Member-from_map (item_entry records) entry (occurring_sets records) kept'.0 in
           let set = of_set.0 in
@@ -338,7 +339,7 @@ module _ (floor : ℤ) (records : List (List (ℕ × ℤ))) (least : pos 1 ≤�
           let reaches : low ≤ℤ entry.utility = grind (arith, ints) in
           let sublist = Member-from_filter (λ s. nat_lt 0 (length s) && nat_lt 0 (support records s)) set (sublists (items_of records)) of_set.1 in
           let all = RanksHigh-ranked set (Contains-from_member set (sublists (items_of records)) sublist.0) (omega (arith, ints)) in
-          let same = KeepsSets-ranked floor records set o.some all in
+          let same = KeepsSets-ranked order floor records set o.some all in
           let o' : Occurs over set = record { some = o.some; ascending = o.ascending; held = subst (λ n. 0 < n) (sym same.1) o.held } in
           let entry' = same_entry set o.some all ∙ of_set.2 in
           let m = Member-map (item_entry over) set (occurring_sets over) (Member-from_occurs over set o') in

@@ -1,11 +1,16 @@
 -- The records of a database over ranks. An item whose transaction-weighted utility is below a floor is left out: no set that
--- holds it earns the floor. The other items are numbered from 0 by this utility ascending, then by item; records keep their
--- cells, by rank ascending, and a record without any is left out. After Two-Phase (Liu, Liao and Choudhary, 2005) and
--- HUI-Miner (Liu and Qu, 2012).
-use Rattle.std.specs.Prelude.{ℕ, ◌+◌, ◌^◌, ◌<◌, ◌≤◌, nat_lt, ℤ, pos, ◌≤ℤ◌, int_le, ◌≢◌, List, [], ◌∷◌, ◌++◌, map, length, slice_index_or, if◌then◌else◌}
+-- holds it earns the floor. The other items are numbered from 0 in an order, by this utility ascending, then by item, or first
+-- by the size of their mean value; records keep their cells, by rank ascending, and a record without any is left out. After
+-- Two-Phase (Liu, Liao and Choudhary, 2005) and HUI-Miner (Liu and Qu, 2012).
+use Rattle.std.specs.Prelude.{ℕ, ◌+◌, ◌^◌, ◌<◌, ◌≤◌, nat_lt, ℤ, pos, ◌≤ℤ◌, int_le, unsigned_abs, max, ◌/◌, ◌≢◌, List, [], ◌∷◌, ◌++◌, map, length, slice_index_or, if◌then◌else◌}
 use Rattle.std.specs.List.{All, AllAdjacentBelow, filter, sum_by}
 use Rattle.std.specs.declared.cmp.Ordering.{Ordering}
 use Rattle.std.specs.Ordering.{nat_cmp, int_cmp, on, then_cmp}
+use Rattle.std.specs.Int.{leading_zeros, w128}
+use Rattle.hu_totals.specs.declared.totals.ItemTotal.{ItemTotal}
+use Rattle.hu_totals.specs.declared.weights.RankOrder.{RankOrder}
+use Rattle.hu_totals.specs.declared.weights.RankOrder.TheVariants.{Gain, Value}
+use Rattle.hu_totals.specs.Totals.{total_of}
 use Rattle.hu_kind.specs.Record.{has, value_of, absolute_of}
 use Rattle.hu_kind.specs.Database.{twu, items_of}
 use Rattle.hu_kind.specs.Order.{ranking}
@@ -19,6 +24,24 @@ pub record Ranking : Type 0 where
 -- items by their transaction-weighted utility, then by number
 abbrev pub by_twu : List (List (ℕ × ℤ)) → ℕ → ℕ → Ordering
 by_twu records = then_cmp (on (λ item. twu records (item ∷ [])) int_cmp) nat_cmp
+
+-- what an item's values above 0 are in the mean, over the records that hold it
+abbrev pub mean_of : ItemTotal → ℕ
+mean_of total = unsigned_abs total.positive / max total.support 1
+
+-- how small that is under an order: its leading zeros as a number of 128 bits, or 0 where the order doesn't ask
+abbrev pub smallness_of : RankOrder → ItemTotal → ℕ
+smallness_of Gain total = 0
+smallness_of Value total = leading_zeros w128 (mean_of total)
+
+-- items in an order of ranks: by how small their mean values are, then by their transaction-weighted utility, then by number
+abbrev pub by_order : RankOrder → List (List (ℕ × ℤ)) → ℕ → ℕ → Ordering
+by_order order records = then_cmp (on (λ item. smallness_of order (total_of records item)) nat_cmp) (by_twu records)
+
+-- the items whose transaction-weighted utility reaches a floor, in an order of ranks
+abbrev pub ordered_items : RankOrder → ℤ → List (List (ℕ × ℤ)) → List ℕ
+ordered_items order floor records =
+    ranking (by_order order records) (filter (λ item. int_le floor (twu records (item ∷ []))) (items_of records))
 
 -- the items that have a rank, in the order of their ranks
 abbrev pub ranked_items : ℤ → List (List (ℕ × ℤ)) → List ℕ
@@ -36,6 +59,14 @@ over_ranks items records = filter (λ cells. nat_lt 0 (length cells)) (map (cell
 -- the records of a database over ranks
 abbrev pub ranked : ℤ → List (List (ℕ × ℤ)) → Ranking
 ranked floor records = record { floor = floor; items = ranked_items floor records; records = over_ranks (ranked_items floor records) records }
+
+-- the records of a database over ranks in an order
+abbrev pub ranked_by : RankOrder → ℤ → List (List (ℕ × ℤ)) → Ranking
+ranked_by order floor records = record {
+  floor = floor;
+  items = ordered_items order floor records;
+  records = over_ranks (ordered_items order floor records) records;
+}
 
 -- the item of a rank
 abbrev pub item_at : List ℕ → ℕ → ℕ

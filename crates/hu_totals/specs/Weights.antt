@@ -1,4 +1,4 @@
--- How ranks are found: items are weighed by their transaction-weighted utility, and cells take the ranks of their items.
+-- How ranks are found: items are weighed by what they are ordered by, and cells take the ranks of their items.
 use Rattle.std.specs.Prelude.{◌≡◌, ℕ, nat_eq, Bool, ℤ, pos, int_le, position, List, [], ◌∷◌, map, option_map, option_to_list, refl}
 use Rattle.std.specs.List.{filter, flat_map}
 use Rattle.std.specs.declared.cmp.Ordering.{Ordering}
@@ -7,24 +7,37 @@ use Rattle.hu_kind.specs.declared.item.Item.{Item}
 use Rattle.hu_kind.specs.Order.{ranking}
 use Rattle.hu_kind.specs.Worked.{base_a}
 use Rattle.hu_totals.specs.declared.totals.ItemTotal.{ItemTotal}
+use Rattle.hu_totals.specs.declared.weights.RankOrder.{RankOrder}
+use Rattle.hu_totals.specs.declared.weights.RankOrder.TheVariants.{Gain}
 use Rattle.hu_totals.specs.declared.weights.Weighed.{Weighed}
+use Rattle.hu_totals.specs.Ranked.{smallness_of}
 use Rattle.hu_totals.specs.Totals.{item_totals}
 
--- weights with their items: by weight, then by item
-abbrev pub weight_cmp : ℤ × ℕ → ℤ × ℕ → Ordering
-weight_cmp = then_cmp (on (λ w. w.0) int_cmp) (on (λ w. w.1) nat_cmp)
+-- an item with what it is ordered by: how small its mean value is, and its transaction-weighted utility
+pub record Weight : Type 0 where
+  pub small : ℕ
+  pub twu : ℤ
+  pub item : ℕ
 
--- the items whose weight reaches a floor, each after its weight
-abbrev pub weights : ℤ → List (ℕ × ItemTotal) → List (ℤ × ℕ)
-weights floor totals = map (λ e. (e.1.twu, e.0)) (filter (λ e. int_le floor e.1.twu) totals)
+-- weights by smallness, then by transaction-weighted utility, then by item
+abbrev pub weight_cmp : Weight → Weight → Ordering
+weight_cmp = then_cmp (on (λ w. w.small) nat_cmp) (then_cmp (on (λ w. w.twu) int_cmp) (on (λ w. w.item) nat_cmp))
 
--- these items by their weight
-abbrev pub by_weight : ℤ → List (ℕ × ItemTotal) → List ℕ
-by_weight floor totals = map (λ w. w.1) (ranking weight_cmp (weights floor totals))
+-- an item of totals with what an order asks of it
+abbrev pub weigh : RankOrder → ℕ × ItemTotal → Weight
+weigh order entry = record { small = smallness_of order entry.1; twu = entry.1.twu; item = entry.0 }
 
--- a weighed item as a pair
-abbrev pub weight_of : Weighed → ℤ × ℕ
-weight_of one = (one.twu, one.item.0)
+-- the items whose transaction-weighted utility reaches a floor, weighed
+abbrev pub weights : RankOrder → ℤ → List (ℕ × ItemTotal) → List Weight
+weights order floor totals = map (weigh order) (filter (λ e. int_le floor e.1.twu) totals)
+
+-- these items in the order
+abbrev pub by_weight : RankOrder → ℤ → List (ℕ × ItemTotal) → List ℕ
+by_weight order floor totals = map (λ w. w.item) (ranking weight_cmp (weights order floor totals))
+
+-- the weight of a weighed item
+abbrev pub weight_of : Weighed → Weight
+weight_of one = record { small = one.smallness; twu = one.twu; item = one.item.0 }
 
 -- a cell with the rank of its item, where that has one
 abbrev pub dense_of : List ℕ → ℕ × ℤ → List (ℕ × ℤ)
@@ -43,5 +56,5 @@ abbrev pub same_item : Item → Item → Bool
 same_item = on (λ item. item.0) nat_eq
 
 -- the items of base A that reach 31
-pub base_a_by_weight : by_weight (pos 31) (item_totals base_a) ≡ 7 ∷ 4 ∷ 2 ∷ 1 ∷ 5 ∷ 3 ∷ []
+pub base_a_by_weight : by_weight Gain (pos 31) (item_totals base_a) ≡ 7 ∷ 4 ∷ 2 ∷ 1 ∷ 5 ∷ 3 ∷ []
 base_a_by_weight = refl

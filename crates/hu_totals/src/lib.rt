@@ -14,3 +14,4 @@ mod weights;
 
 pub use ranked::{Dense, Ranked};
 pub use totals::{ItemTotal, Totals};
+pub use weights::RankOrder;

@@ -7,13 +7,13 @@ ghost use Rattle.hu_kind.specs.Record.{items_in, IsRecord};
 ghost use Rattle.hu_kind.specs.Order.{Ascend};
 ghost use Rattle.hu_base.specs.Base.{records_of};
 ghost use Rattle.hu_totals.specs.Totals.{item_totals};
-ghost use Rattle.hu_totals.specs.Ranked.{cells_from, over_ranks, ranked, IsRanking};
+ghost use Rattle.hu_totals.specs.Ranked.{cells_from, over_ranks, ranked, ranked_by, IsRanking};
 ghost use Rattle.hu_totals.specs.Weights.{dense_cells, dense_of, numbers_of};
 ghost use Rattle.hu_totals.specs.View.{dense_pair, pairs_in};
 ghost use Rattle.hu_totals.specs.Laws.{KeepsSets, RanksHigh, KeepsPatterns};
 
 use crate::totals::Totals;
-use crate::weights::items_by_weight;
+use crate::weights::{RankOrder, items_by_weight};
 use hu_base::Base;
 use hu_kind::{Cell, Item, NoMemory, Record};
 use indexmap::IndexSet;
@@ -30,8 +30,8 @@ pub struct Dense {
 }
 
 /// The records of a base over ranks: items whose transaction-weighted utility is below a floor are left out, the others
-/// are numbered from 0 by this utility ascending, then by item. It is seen as the floor, the item of each rank, and the
-/// records as lists of pairs (rank, value).
+/// are numbered from 0 in an order. It is seen as the floor, the item of each rank, and the records as lists of pairs
+/// (rank, value).
 #[derive(Drop)]
 pub struct Ranked {
     floor: i128,
@@ -52,9 +52,9 @@ impl Model for Ranked {
 }
 
 impl Ranked {
-    /// The records of a base over the ranks of the items that reach a floor. `totals` are those of the base. It takes one
-    /// sort of the items, then a look-up in a hash table for each cell, and a sort of each record's cells. After Two-Phase
-    /// (Liu, Liao and Choudhary, 2005) and HUI-Miner (Liu and Qu, 2012).
+    /// The records of a base over the ranks of the items that reach a floor, numbered by their transaction-weighted
+    /// utility ascending, then by item. `totals` are those of the base. Costs as [`Ranked::ordered`]. After Two-Phase (Liu,
+    /// Liao and Choudhary, 2005) and HUI-Miner (Liu and Qu, 2012).
     pub fn of(
         alloc: Global,
         base: &Base<Record>,
@@ -68,9 +68,29 @@ impl Ranked {
         ensures high { IfOk result (RanksHigh (records_of base.now)) }
         ensures patterns { IfOk result (KeepsPatterns (records_of base.now)) }
     {
+        Ranked::ordered(alloc, base, totals, floor, RankOrder::Gain)
+    }
+
+    /// The records of a base over the ranks of the items that reach a floor, numbered in an order. `totals` are those of
+    /// the base. It takes one sort of the items, then a look-up in a hash table for each cell, and a sort of each record's
+    /// cells.
+    pub fn ordered(
+        alloc: Global,
+        base: &Base<Record>,
+        totals: &Totals,
+        floor: i128,
+        order: RankOrder,
+    ) -> Result<Ranked, NoMemory>
+        requires totals { totals.now ≡ item_totals (records_of base.now) }
+        requires floor { pos 1 ≤ℤ floor }
+        ensures value { IfOk result (λ r. r ≡ ranked_by order floor (records_of base.now)) }
+        ensures sets { IfOk result (KeepsSets (records_of base.now)) }
+        ensures high { IfOk result (RanksHigh (records_of base.now)) }
+        ensures patterns { IfOk result (KeepsPatterns (records_of base.now)) }
+    {
         // This tells the proof that the records' values sum to at most 2^127 - 1.
         let _sum = base.sum();
-        let items = items_by_weight(alloc, totals, floor)?;
+        let items = items_by_weight(alloc, totals, floor, order)?;
         let records = ranked_records(alloc, &items, base.records())?;
         Ok(Ranked {
             floor,

@@ -11,10 +11,12 @@ use Rattle.hu_kind.specs.Database.{items_of, twu}
 use Rattle.hu_kind.proofs.lemmas.Members.{Contains-from_member, Member, Member-append_cases, Member-append_left, Member-append_right, Member-from_contains, Member-from_filter, Member-from_flat_map, Member-from_map, Member-map}
 use Rattle.hu_kind.proofs.lemmas.Occurring.{Ascend-ranking, Member-ranking, at_member, by_members}
 use Rattle.hu_collect.specs.Ranks.{CanOpen, IsGrown, IsRankSet, key_of}
-use Rattle.hu_totals.specs.Ranked.{Ranking, by_twu, ranked, ranked_items}
+use Rattle.hu_totals.specs.declared.weights.RankOrder.{RankOrder}
+use Rattle.hu_totals.specs.declared.weights.RankOrder.TheVariants.{Gain}
+use Rattle.hu_totals.specs.Ranked.{Ranking, by_order, ranked, ranked_by, ordered_items}
 use Rattle.hu_totals.proofs.lemmas.SortedLists.{Member-from_ranking, IsDistinct-from_once}
 use Rattle.hu_totals.proofs.lemmas.RankingRules.{All-from_each}
-use Rattle.hu_totals.proofs.lemmas.WeightLemmas.{Once-ranked_items}
+use Rattle.hu_totals.proofs.lemmas.WeightLemmas.{Once-ordered_items}
 use Rattle.std.proofs.lemmas.Map.Keys.{apart_from_distinct}
 use Rattle.hu_closed.specs.Keys.{closes_below, holds_key, is_among, is_closed_key, is_outside, is_set_key, stands_with, IsSet}
 use Rattle.hu_closed.specs.ClosedOnly.{IsRankingOf}
@@ -23,9 +25,9 @@ use Rattle.hu_closed.proofs.lemmas.Closedness.{closes, closes-held, is_closed_ke
 
 -- ---- ranked items occur, and items that occur are in their range
 
-pub ranked-occurs : (floor : ℤ) (records : List (List (ℕ × ℤ))) (item : ℕ) → Member item (ranked_items floor records) → Member item (items_of records)
-ranked-occurs floor records item m =
-    (Member-from_filter (λ i. int_le floor (twu records (i ∷ []))) item (items_of records) (Member-from_ranking (by_twu records) item (filter (λ i. int_le floor (twu records (i ∷ []))) (items_of records)) m)).0
+pub ranked-occurs : (order : RankOrder) (floor : ℤ) (records : List (List (ℕ × ℤ))) (item : ℕ) → Member item (ordered_items order floor records) → Member item (items_of records)
+ranked-occurs order floor records item m =
+    (Member-from_filter (λ i. int_le floor (twu records (i ∷ []))) item (items_of records) (Member-from_ranking (by_order order records) item (filter (λ i. int_le floor (twu records (i ∷ []))) (items_of records)) m)).0
 
 pub occurs-in_range : (records : List (List (ℕ × ℤ))) (item : ℕ) → AllByRecursion IsRecord records → Member item (items_of records) → item ≤ 2147483647
 occurs-in_range records item all m =
@@ -39,7 +41,11 @@ occurs-in_range records item all m =
 -- ---- sets and ranks that are made of one base
 
 pub IsRankingOf-made : (floor : ℤ) (records sets : List (List (ℕ × ℤ))) (ranking : Ranking) → sets ≡ records → ranking ≡ ranked floor records → IsRankingOf sets ranking
-IsRankingOf-made floor records sets ranking same value = (floor, value ∙ ap (ranked floor) (sym same))
+IsRankingOf-made floor records sets ranking same value = (Gain, floor, value ∙ ap (ranked floor) (sym same))
+
+pub IsRankingOf-ordered : (order : RankOrder) (floor : ℤ) (records sets : List (List (ℕ × ℤ))) (ranking : Ranking)
+    → sets ≡ records → ranking ≡ ranked_by order floor records → IsRankingOf sets ranking
+IsRankingOf-ordered order floor records sets ranking same value = (order, floor, value ∙ ap (ranked_by order floor) (sym same))
 
 -- ---- the items of ranks
 
@@ -64,10 +70,10 @@ member-some : {A : Type 0} (x : A) (xs : List A) → Member x xs → 0 < length 
 member-some x [] m = absurd m
 member-some x (y ∷ ys) m = omega arith
 
-pub IsSet-ranks : (floor : ℤ) (records : List (List (ℕ × ℤ))) (before more : List ℕ) (last : ℕ) → AllByRecursion IsRecord records → IsRankSet (ranked_items floor records) (before ++ last ∷ more)
-    → IsSet (items_at (ranked_items floor records) (before ++ last ∷ more))
-IsSet-ranks floor records before more last all is =
-    let table = ranked_items floor records in
+pub IsSet-ranks : (order : RankOrder) (floor : ℤ) (records : List (List (ℕ × ℤ))) (before more : List ℕ) (last : ℕ) → AllByRecursion IsRecord records → IsRankSet (ordered_items order floor records) (before ++ last ∷ more)
+    → IsSet (items_at (ordered_items order floor records) (before ++ last ∷ more))
+IsSet-ranks order floor records before more last all is =
+    let table = ordered_items order floor records in
     let ranks = before ++ last ∷ more in
     record {
       some = member-some (get_or table last 0) (items_at table ranks) (member-items_at table ranks last (Member-append_right last before (last ∷ more) (inl refl)));
@@ -75,16 +81,16 @@ IsSet-ranks floor records before more last all is =
       in_range = by_members (λ item. item ≤ 2147483647) (items_at table ranks) (λ item m.
           let from = items_at-member table ranks item m in
           let here = table-member table from.0 (in_table-member table ranks from.0 is from.1) in
-          occurs-in_range records item all (subst (λ i. Member i (items_of records)) from.2 (ranked-occurs floor records (get_or table from.0 0) here)));
+          occurs-in_range records item all (subst (λ i. Member i (items_of records)) from.2 (ranked-occurs order floor records (get_or table from.0 0) here)));
     }
 
 -- ---- what grows out of a key
 
-distinct : (floor : ℤ) (records : List (List (ℕ × ℤ))) (i j : ℕ) → i < length (ranked_items floor records) → j < length (ranked_items floor records)
-    → get_or (ranked_items floor records) i 0 ≡ get_or (ranked_items floor records) j 0 → i ≡ j
-distinct floor records i j in_i in_j same =
-    let table = ranked_items floor records in
-    let apart = IsDistinct-from_once table (Once-ranked_items records floor) in
+distinct : (order : RankOrder) (floor : ℤ) (records : List (List (ℕ × ℤ))) (i j : ℕ) → i < length (ordered_items order floor records) → j < length (ordered_items order floor records)
+    → get_or (ordered_items order floor records) i 0 ≡ get_or (ordered_items order floor records) j 0 → i ≡ j
+distinct order floor records i j in_i in_j same =
+    let table = ordered_items order floor records in
+    let apart = IsDistinct-from_once table (Once-ordered_items records order floor) in
     elim (cases_order i j) [
       | inl e ↦ e
       | inr (inl before) ↦ absurd (eqb-false (get_or table i 0) (get_or table j 0) (apart_from_distinct eqb table i j 0 apart before in_j) same)
@@ -120,15 +126,15 @@ member-key : (items : List ℕ) (c : ℕ) → Member c items → list_any (λ n.
 member-key items c m = any-from (λ n. int_eq n (pos c)) (pos c) (map pos items) (Member-map pos c items m) ((Decides-int_eq (pos c) (pos c)).1 refl)
 
 -- an item of a rank below `last` that is outside the key is outside what grows out of it
-outside-grown : (floor : ℤ) (records : List (List (ℕ × ℤ))) (before more : List ℕ) (last rank : ℕ) → IsRankSet (ranked_items floor records) (before ++ last ∷ more) → rank < last → rank < length (ranked_items floor records)
-    → is_outside (key_of (ranked_items floor records) (before ++ last ∷ [])) (get_or (ranked_items floor records) rank 0) ≡ true
-    → is_outside (key_of (ranked_items floor records) (before ++ last ∷ more)) (get_or (ranked_items floor records) rank 0) ≡ true
-outside-grown floor records before more last rank is low within out =
-    let table = ranked_items floor records in
+outside-grown : (order : RankOrder) (floor : ℤ) (records : List (List (ℕ × ℤ))) (before more : List ℕ) (last rank : ℕ) → IsRankSet (ordered_items order floor records) (before ++ last ∷ more) → rank < last → rank < length (ordered_items order floor records)
+    → is_outside (key_of (ordered_items order floor records) (before ++ last ∷ [])) (get_or (ordered_items order floor records) rank 0) ≡ true
+    → is_outside (key_of (ordered_items order floor records) (before ++ last ∷ more)) (get_or (ordered_items order floor records) rank 0) ≡ true
+outside-grown order floor records before more last rank is low within out =
+    let table = ordered_items order floor records in
     let c = get_or table rank 0 in
     not_from_false (list_any (λ n. int_eq n (pos c)) (key_of table (before ++ last ∷ more))) (false_from_ne_true (list_any (λ n. int_eq n (pos c)) (key_of table (before ++ last ∷ more))) (λ inside.
     let from = items_at-member table (before ++ last ∷ more) c (key-member (items_at table (before ++ last ∷ more)) c inside) in
-    let same : from.0 ≡ rank = distinct floor records from.0 rank (in_table-member table (before ++ last ∷ more) from.0 is from.1) within from.2 in
+    let same : from.0 ≡ rank = distinct order floor records from.0 rank (in_table-member table (before ++ last ∷ more) from.0 is from.1) within from.2 in
     elim (Member-append_cases from.0 before (last ∷ more) from.1) [
       | inl early ↦
           let here = member-items_at table (before ++ last ∷ []) from.0 (Member-append_left from.0 before (last ∷ []) early) in
@@ -159,43 +165,43 @@ take-member (x ∷ table) (suc last) c (inl e) = (0, omega arith, omega arith, e
 take-member (x ∷ table) (suc last) c (inr m) = let rest = take-member table last c m in (suc rest.0, omega (arith, rest.1), omega (arith, rest.2), rest.3)
 
 -- where an item of a rank below `last` closes the key, it closes all that grows out of it
-shuts-grown : (floor : ℤ) (records : List (List (ℕ × ℤ))) (before more : List ℕ) (last : ℕ) → AllByRecursion IsRecord records → IsRankSet (ranked_items floor records) (before ++ last ∷ more)
-    → closes_below records (ranked_items floor records) (key_of (ranked_items floor records) (before ++ last ∷ [])) last ≡ true → is_closed_key records (key_of (ranked_items floor records) (before ++ last ∷ more)) ≡ false
-shuts-grown floor records before more last all is shut =
-    let table = ranked_items floor records in
+shuts-grown : (order : RankOrder) (floor : ℤ) (records : List (List (ℕ × ℤ))) (before more : List ℕ) (last : ℕ) → AllByRecursion IsRecord records → IsRankSet (ordered_items order floor records) (before ++ last ∷ more)
+    → closes_below records (ordered_items order floor records) (key_of (ordered_items order floor records) (before ++ last ∷ [])) last ≡ true → is_closed_key records (key_of (ordered_items order floor records) (before ++ last ∷ more)) ≡ false
+shuts-grown order floor records before more last all is shut =
+    let table = ordered_items order floor records in
     let key = key_of table (before ++ last ∷ []) in
     let grown = key_of table (before ++ last ∷ more) in
     let found = any-member (closes records key) (take last table) shut in
     let both = and_parts (is_outside key found.0) (stands_with records key found.0) found.2 in
     let at = take-member table last found.0 found.1 in
-    let out = subst (λ c. is_outside grown c ≡ true) at.3 (outside-grown floor records before more last at.0 is at.1 at.2 (subst (λ c. is_outside key c ≡ true) (sym at.3) both.0)) in
+    let out = subst (λ c. is_outside grown c ≡ true) at.3 (outside-grown order floor records before more last at.0 is at.1 at.2 (subst (λ c. is_outside key c ≡ true) (sym at.3) both.0)) in
     let stands = all-from (λ r. not (holds_key grown r) || has found.0 r) records (λ r m. elim (cases_Bool (holds_key grown r)) [
       | inl holds ↦ or_right (not (holds_key grown r)) (has found.0 r) (closes-held records key found.0 r found.2 m (grown-holds table before more last r holds))
       | inr lacks ↦ or_left (not (holds_key grown r)) (has found.0 r) (not_from_false (holds_key grown r) lacks)
     ]) in
-    let occurring = ranked-occurs floor records found.0 (subst (λ c. Member c table) at.3 (table-member table at.0 at.2)) in
+    let occurring = ranked-occurs order floor records found.0 (subst (λ c. Member c table) at.3 (table-member table at.0 at.2)) in
     let any = any-from (closes records grown) found.0 (items_of records) occurring (and_from (is_outside grown found.0) (stands_with records grown found.0) out stands) in
-    is_closed_key-set records grown (set_key-items (items_at table (before ++ last ∷ more)) (IsSet-ranks floor records before more last all is))
+    is_closed_key-set records grown (set_key-items (items_at table (before ++ last ∷ more)) (IsSet-ranks order floor records before more last all is))
     ∙ not_from_true (list_any (closes records grown) (items_of records)) any
 
 pub shuts : (records : List (List (ℕ × ℤ))) (ranking : Ranking) (key : List ℤ) (last : ℕ) → AllByRecursion IsRecord records → IsRankingOf records ranking
     → closes_below records ranking.items key last ≡ true → (grown : List ℤ) → IsGrown (Some ranking.items) key last grown → is_closed_key records grown ≡ false
 shuts records ranking key last all base shut grown g =
-    let table = ranked_items base.0 records in
-    let same : ranking.items ≡ table = ap (λ (r : Ranking). r.items) base.1 in
+    let table = ordered_items base.0 base.1 records in
+    let same : ranking.items ≡ table = ap (λ (r : Ranking). r.items) base.2 in
     let is = subst (λ t. IsRankSet t (g.0 ++ last ∷ g.1)) same g.2 in
     let key_is : key ≡ key_of table (g.0 ++ last ∷ []) = g.3 ∙ ap (λ t. key_of t (g.0 ++ last ∷ [])) same in
     let grown_is : grown ≡ key_of table (g.0 ++ last ∷ g.1) = g.4 ∙ ap (λ t. key_of t (g.0 ++ last ∷ g.1)) same in
     ap (is_closed_key records) grown_is
-    ∙ shuts-grown base.0 records g.0 g.1 last all is (sym (λ j. closes_below records (same j) (key_is j) last) ∙ shut)
+    ∙ shuts-grown base.0 base.1 records g.0 g.1 last all is (sym (λ j. closes_below records (same j) (key_is j) last) ∙ shut)
 
 pub set_key-open : (records : List (List (ℕ × ℤ))) (ranking : Ranking) (key : List ℤ) (last : ℕ) → AllByRecursion IsRecord records → IsRankingOf records ranking → CanOpen (Some ranking.items) key last → is_set_key key ≡ true
 set_key-open records ranking key last all base open' =
-    let table = ranked_items base.0 records in
-    let same : ranking.items ≡ table = ap (λ (r : Ranking). r.items) base.1 in
+    let table = ordered_items base.0 base.1 records in
+    let same : ranking.items ≡ table = ap (λ (r : Ranking). r.items) base.2 in
     let is = subst (λ t. IsRankSet t (open'.0 ++ last ∷ [])) same open'.1 in
     ap is_set_key (open'.2 ∙ ap (λ t. key_of t (open'.0 ++ last ∷ [])) same)
-    ∙ set_key-items (items_at table (open'.0 ++ last ∷ [])) (IsSet-ranks base.0 records open'.0 [] last all is)
+    ∙ set_key-items (items_at table (open'.0 ++ last ∷ [])) (IsSet-ranks base.0 base.1 records open'.0 [] last all is)
 
 pub last-within : (table : List ℕ) (key : List ℤ) (last : ℕ) → CanOpen (Some table) key last → last < length table
 last-within table key last open' = in_table-member table (open'.0 ++ last ∷ []) last open'.1 (Member-append_right last open'.0 (last ∷ []) (inl refl))

@@ -17,11 +17,12 @@ use Rattle.hu_kind.specs.declared.item.Item.{Item}
 use Rattle.hu_totals.specs.declared.ranked.Dense.{Dense}
 use Rattle.hu_totals.specs.View.{pairs_in, ranking_of}
 use Rattle.hu_totals.specs.Weights.{numbers_of}
-use Rattle.hu_totals.specs.Ranked.{IsRanking, by_twu, ranked, ranked_items, cells_from, over_ranks}
+use Rattle.hu_totals.specs.declared.weights.RankOrder.{RankOrder}
+use Rattle.hu_totals.specs.Ranked.{IsRanking, by_order, ranked_by, ordered_items, cells_from, over_ranks}
 use Rattle.hu_totals.proofs.lemmas.RecordCells.{Ascend-record}
 use Rattle.hu_totals.proofs.lemmas.SortedLists.{Once, IsDistinct-from_once, Member-from_ranking}
 use Rattle.hu_totals.proofs.lemmas.DenseLemmas.{ranks_from, cells_from-within}
-use Rattle.hu_totals.proofs.lemmas.WeightLemmas.{Once-ranked_items}
+use Rattle.hu_totals.proofs.lemmas.WeightLemmas.{Once-ordered_items}
 
 -- what holds of each element by recursion holds at each place
 pub All-from_each : {A : Type 0} (P : A → Type 0) (xs : List A) → AllByRecursion P xs → All P xs
@@ -73,9 +74,9 @@ over_ranks-within items (r ∷ rs) o all = by (nat_lt 0 (length (cells_from 0 it
     by false ih one = omega (arith, sum_by-cons absolute_of r rs)
 
 -- an item that has a rank is in its range
-in_range : (floor : ℤ) (records : List (List (ℕ × ℤ))) (item : ℕ) → AllByRecursion IsRecord records → Member item (ranked_items floor records) → item ≤ 2147483647
-in_range floor records item all m =
-    let kept = Member-from_ranking (by_twu records) item (filter (λ i. int_le floor (twu records (i ∷ []))) (items_of records)) m in
+in_range : (order : RankOrder) (floor : ℤ) (records : List (List (ℕ × ℤ))) (item : ℕ) → AllByRecursion IsRecord records → Member item (ordered_items order floor records) → item ≤ 2147483647
+in_range order floor records item all m =
+    let kept = Member-from_ranking (by_order order records) item (filter (λ i. int_le floor (twu records (i ∷ []))) (items_of records)) m in
     let occurs = Member-from_ranking nat_cmp item (flat_map items_in records) (Member-from_filter (λ i. int_le floor (twu records (i ∷ []))) item (items_of records) kept).0 in
     let found = Member-from_flat_map items_in item records occurs in
     let cell = Member-from_map (λ (c : ℕ × ℤ). c.0) item found.0 found.2 in
@@ -92,15 +93,15 @@ member-list_any item (x ∷ xs) any = elim (or_cases (eqb item x) (list_any (eqb
 ]
 
 -- the records of a database over ranks are ranked records
-pub IsRanking-ranked : (floor : ℤ) (records : List (List (ℕ × ℤ))) → pos 1 ≤ℤ floor → AllByRecursion IsRecord records → sum_by absolute_of records < 2 ^ 127 → IsRanking (ranked floor records)
-IsRanking-ranked floor records least all fits =
-    let items = ranked_items floor records in
-    let once = Once-ranked_items records floor in
+pub IsRanking-ranked : (order : RankOrder) (floor : ℤ) (records : List (List (ℕ × ℤ))) → pos 1 ≤ℤ floor → AllByRecursion IsRecord records → sum_by absolute_of records < 2 ^ 127 → IsRanking (ranked_by order floor records)
+IsRanking-ranked order floor records least all fits =
+    let items = ordered_items order floor records in
+    let once = Once-ordered_items records order floor in
     let apart = IsDistinct-from_once items once in
     record {
       floor = least;
       distinct = λ i j before within. eqb-false _ _ (apart_from_distinct eqb items i j 0 apart before within);
-      few = length-le_from_distinct_below items 2147483648 apart (λ q any. let low = in_range floor records q all (member-list_any q items any) in omega arith);
+      few = length-le_from_distinct_below items 2147483648 apart (λ q any. let low = in_range order floor records q all (member-list_any q items any) in omega arith);
       some = All-from_each (λ cells. 0 < length cells) (over_ranks items records) (over_ranks-each (λ cells. 0 < length cells) items records (λ cells some. some));
       ascending = All-from_each (λ cells. AllAdjacentBelow (λ a b. a.0 < b.0) cells (length cells)) (over_ranks items records)
           (over_ranks-each (λ cells. AllAdjacentBelow (λ a b. a.0 < b.0) cells (length cells)) items records (λ cells some. AllAdjacentBelow-ascend (cells_from 0 items cells) (Ascend-cells_from 0 items cells)));
@@ -115,8 +116,8 @@ IsRanking-ranked floor records least all fits =
     below (c ∷ cs) n each = let high = each.0.1 in (omega arith, below cs n each.1)
 
 -- the fields of ranked records are those of the database over ranks
-pub ranking-is : (floor floor' : ℤ) (keys : List Item) (dense : List (Vec Dense Global)) (records : List (List (ℕ × ℤ))) → floor' ≡ floor → numbers_of keys ≡ ranked_items floor records
-    → map pairs_in dense ≡ over_ranks (numbers_of keys) records → ranking_of floor' keys dense ≡ ranked floor records
-ranking-is floor floor' keys dense records f items is =
+pub ranking-is : (order : RankOrder) (floor floor' : ℤ) (keys : List Item) (dense : List (Vec Dense Global)) (records : List (List (ℕ × ℤ))) → floor' ≡ floor → numbers_of keys ≡ ordered_items order floor records
+    → map pairs_in dense ≡ over_ranks (numbers_of keys) records → ranking_of floor' keys dense ≡ ranked_by order floor records
+ranking-is order floor floor' keys dense records f items is =
     let over = is ∙ ap (λ ns. over_ranks ns records) items in
     λ j. record { floor = f j; items = items j; records = over j }

@@ -13,11 +13,11 @@ loop-index-preserved c =
     let within : i < length totals = omega (arith, c.len-index-end.ensures.value) in
     elim c.match-weighed_at.branch [
       | in-Some+in_ok-push w ↦
-          weights-step _ totals i (map weight_of before) _ (weight_of w.in-Some.one ∷ []) within c.loop-index.invariant
+          weights-step c.args.order _ totals i (map weight_of before) _ (weight_of w.in-Some.one ∷ []) within c.loop-index.invariant
           (ap (λ v. map weight_of v.items) w.weighed-is ∙ ap (map weight_of) w.in_ok-push.ensures.items ∙ map-append weight_of before (w.in-Some.one ∷ []))
           w.in-Some.ensures
       | in_default w ↦
-          weights-step _ totals i (map weight_of before) _ [] within c.loop-index.invariant
+          weights-step c.args.order _ totals i (map weight_of before) _ [] within c.loop-index.invariant
           (ap (λ v. map weight_of v.items) w.weighed-is ∙ sym (append-nil (map weight_of before)))
           w.in_default.ensures
     ]
