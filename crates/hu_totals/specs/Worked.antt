@@ -3,7 +3,8 @@ use Rattle.std.specs.Prelude.{◌≡◌, ℕ, pos, [], ◌∷◌, refl}
 use Rattle.hu_kind.specs.Worked.{base_a}
 use Rattle.hu_totals.specs.declared.totals.ItemTotal.{ItemTotal}
 use Rattle.hu_totals.specs.Totals.{item_totals}
-use Rattle.hu_totals.specs.Ranked.{ranked_items}
+use Rattle.hu_totals.specs.declared.weights.RankOrder.TheVariants.{Gain, Value}
+use Rattle.hu_totals.specs.Ranked.{ordered_items, ranked_items}
 
 -- an item with its utility, its positive values, its support and its transaction-weighted utility
 abbrev pub total_row : ℕ → ℕ → ℕ → ℕ → ℕ → ℕ × ItemTotal
@@ -28,3 +29,12 @@ ranks_at_30 = refl
 -- with the floor 31 item 6 has none
 pub ranks_at_31 : ranked_items (pos 31) base_a ≡ 7 ∷ 4 ∷ 2 ∷ 1 ∷ 5 ∷ 3 ∷ []
 ranks_at_31 = refl
+
+-- by the size of their mean values the items 6, 4, 2 and 1 stand first, of 4 to 7, then 7, 5 and 3, of 2 and 3
+pub by_value_at_30 : ordered_items Value (pos 30) base_a ≡ 6 ∷ 4 ∷ 2 ∷ 1 ∷ 7 ∷ 5 ∷ 3 ∷ []
+unfolding lib.Count.count_leading_zeros
+by_value_at_30 = refl
+
+-- the order by gain is that of ranks without more said
+pub by_gain_at_31 : ordered_items Gain (pos 31) base_a ≡ ranked_items (pos 31) base_a
+by_gain_at_31 = refl

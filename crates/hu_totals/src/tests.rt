@@ -1,6 +1,6 @@
 //! The totals and the ranks of small bases, written out.
 
-use crate::{ItemTotal, Ranked, Totals};
+use crate::{ItemTotal, RankOrder, Ranked, Totals};
 use hu_base::Base;
 use hu_kind::{Cell, Item, NoMemory, Record};
 use std::alloc::Global;
@@ -126,6 +126,18 @@ fn ranks_of_base_a(rt: HostRuntime) -> Result<(), Fail> {
         "7 4 2 1 5 3 \n1:6 2:10 3:5 4:3 5:1 \n1:6 2:8 4:3 5:3 \n1:2 3:5 5:1 \n0:5 3:10 4:6 5:6 \n0:2 2:4 4:3 5:2 \n"
     );
     assert_eq!(rt; at_31.rank_of(Item(6)), None);
+    Ok(())
+}
+
+#[test]
+fn ranks_by_value_of_base_a(rt: HostRuntime) -> Result<(), Fail> {
+    let base = base_of(&rt, rt.alloc(), &BASE_A)?;
+    let totals = Totals::of(rt.alloc(), &base)?;
+    let ranked = Ranked::ordered(rt.alloc(), &base, &totals, 31, RankOrder::Value)?;
+    assert_eq!(rt;
+        told_ranked(rt.alloc(), &ranked)?.as_str(),
+        "4 2 1 7 5 3 \n0:6 1:10 2:5 4:3 5:1 \n0:6 1:8 4:3 5:3 \n0:2 2:5 5:1 \n2:10 3:5 4:6 5:6 \n1:4 3:2 4:3 5:2 \n"
+    );
     Ok(())
 }
 
