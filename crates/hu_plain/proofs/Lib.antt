@@ -1,5 +1,7 @@
 pub mod Held
+pub mod Cut
 pub mod Growth
+pub mod SoFar
 pub mod Patterns
 pub mod CellLemmas
 pub mod RowLemmas

@@ -2,45 +2,32 @@
 use Rattle.std.proofs.Common.{◌≡◌, ℕ, ◌<◌, Bool, true, false, cond, eqb, ℤ, pos, ◌+ℤ◌, Option, None, Some, option_map, List, [], ◌∷◌, ◌++◌, refl, sym, ap, ◌∙◌, subst, inl, inr, arith}
 use Rattle.std.specs.List.{AllByRecursion}
 use Rattle.std.proofs.lemmas.Int.{ints}
-use Rattle.std.proofs.lemmas.Bool.{eq-eqb, ne_eqb, cases_order}
-use Rattle.hu_kind.specs.Record.{has, holds, values_of, items_in}
+use Rattle.hu_kind.specs.Record.{holds, values_of, items_in}
 use Rattle.hu_kind.specs.Sequence.{better, best_utility}
 use Rattle.hu_kind.specs.Order.{Ascend}
-use Rattle.hu_kind.proofs.lemmas.Occurring.{above_all}
-use Rattle.hu_plain.specs.Row.{grown_row, grown_rows}
+use Rattle.hu_plain.specs.Row.{RowOf, grown_row, grown_rows, IsRising}
 use Rattle.hu_plain.specs.Place.{Places, after, best_from, best_of, best_sum, fresh, grown_best, into, itemsets_of, IsAscending}
 use Rattle.hu_plain.proofs.Better.{better-none, better-assoc, plus, plus-none, plus-better, better-plus}
-use Rattle.hu_plain.proofs.Growth.{holds-skip, values_of-skip, has-before}
+use Rattle.hu_plain.proofs.Cut.{AllAbove, Cut, IsTail, cut}
 
 -- what a set earns in a whole row, with a utility after it
 abbrev pub row_best : List ℕ → Option ℤ → ℤ × List (ℕ × ℤ) → Option ℤ
 row_best items later row = cond (holds items row.1) (option_map (λ u. (row.0 +ℤ values_of items row.1) +ℤ u) later) None
 
-row_best-here : (sum v w : ℤ) (later : Option ℤ) (b : Bool)
-    → better (cond b (option_map (λ u. ((sum +ℤ v) +ℤ w) +ℤ u) later) None) None ≡ cond b (option_map (λ u. (sum +ℤ (v +ℤ w)) +ℤ u) later) None
-row_best-here sum v w later false = refl
-row_best-here sum v w None true = refl
-row_best-here sum v w (Some u) true = ap (λ n. Some n) (omega (arith, ints))
-
-best_from-grown_row : (item : ℕ) (items : List ℕ) (later : Option ℤ) (sum : ℤ) (cells : List (ℕ × ℤ)) → Ascend (items_in cells) → AllByRecursion (λ other. item < other) items
-    → best_from items later (grown_row item sum cells) ≡ row_best (item ∷ items) later (sum, cells)
-best_from-grown_row item items later sum [] up above = refl
-best_from-grown_row item items later sum (cell ∷ cells) up above = elim (cases_order item cell.0) [
-  | inl e ↦
-      let yes : eqb item cell.0 ≡ true = eq-eqb item cell.0 e in
-      let after : AllByRecursion (λ other. cell.0 < other) items = subst (λ x. AllByRecursion (λ other. x < other) items) e above in
-      simp (yes, holds-skip cell cells items after, values_of-skip cell cells items after) (row_best-here sum cell.1 (values_of items cells) later (holds items cells))
-  | inr (inl before) ↦
-      let no : eqb item cell.0 ≡ false = ne_eqb item cell.0 (λ e. absurd (omega arith)) in
-      let out : has item cells ≡ false = has-before item cells (above_all item cell.0 (items_in cells) before up.0) in
-      let ih = best_from-grown_row item items later sum cells up.1 above in
-      simp (no, out) (ih ∙ simp out)
-  | inr (inr past) ↦
-      let no : eqb item cell.0 ≡ false = ne_eqb item cell.0 (λ e. absurd (omega arith)) in
-      let after : AllByRecursion (λ other. cell.0 < other) items = above_all cell.0 item items past above in
-      let ih = best_from-grown_row item items later sum cells up.1 above in
-      simp (no, holds-skip cell cells items after, values_of-skip cell cells items after) ih
+best_from-grown_row : (item : ℕ) (items : List ℕ) (later : Option ℤ) (row : RowOf) → IsRising row → AllAbove item items
+    → best_from items later (grown_row item row.0 row.1) ≡ row_best (item ∷ items) later row
+best_from-grown_row item items later row up above = elim (cut item row.0 row.1) [
+  | inr none ↦ simp (none.0, none.1)
+  | inl c ↦
+      let tail = c.tail up in
+      simp (c.is, c.here, c.earns, tail.held items above, tail.earn items above) (apart c.value (values_of items c.rest) (holds items c.rest) later)
 ]
+  where
+    apart : (v w : ℤ) (b : Bool) (u : Option ℤ) → better (cond b (option_map (λ x. ((row.0 +ℤ v) +ℤ w) +ℤ x) u) None) None
+        ≡ cond b (option_map (λ x. (row.0 +ℤ (v +ℤ w)) +ℤ x) u) None
+    apart v w false u = refl
+    apart v w true None = refl
+    apart v w true (Some x) = ap (λ n. Some n) (omega (arith, ints))
 
 best_from-append : (items : List ℕ) (later : Option ℤ) (xs ys : List (ℤ × List (ℕ × ℤ))) → best_from items later (xs ++ ys) ≡ better (best_from items later xs) (best_from items later ys)
 best_from-append items later [] ys = refl
@@ -53,7 +40,7 @@ pub best_from-grown_rows : (item : ℕ) (items : List ℕ) (later : Option ℤ) 
 best_from-grown_rows item items later [] up above = refl
 best_from-grown_rows item items later (row ∷ rows) up above =
     best_from-append items later (grown_row item row.0 row.1) (grown_rows item rows)
-    ∙ ap (λ a. better a (best_from items later (grown_rows item rows))) (best_from-grown_row item items later row.0 row.1 up.0 above)
+    ∙ ap (λ a. better a (best_from items later (grown_rows item rows))) (best_from-grown_row item items later row up.0 above)
     ∙ ap (λ b. better (row_best (item ∷ items) later row) b) (best_from-grown_rows item items later rows up.1 above)
 
 -- a step leaves the itemsets

@@ -20,9 +20,9 @@ use Rattle.hu_plain.specs.View.{numbers_of}
 use Rattle.hu_plain.specs.Growth.{closed, grown_utility}
 use Rattle.hu_plain.specs.Place.{Places, after, all_stepped, begun, best_of, best_sum, first_places, fresh, grown_best, into, itemsets_of, occurs_at, reach_of, stepped, ArePlaces, IsAscending, IsBegun}
 use Rattle.hu_plain.specs.PlaceView.{all_places, following, joining, pushed, rows_in, step_after, step_into, place_of, places_of, AreSteps}
-use Rattle.hu_plain.proofs.Growth.{Ascend-grown_rows}
+use Rattle.hu_plain.proofs.Growth.{rising-grown_rows}
 use Rattle.hu_plain.proofs.Reach.{ahead, best-within, next-within, reaches-stepped}
-use Rattle.hu_plain.proofs.RowLemmas.{Ascend-from}
+use Rattle.hu_kind.proofs.lemmas.Ascending.{Ascend-adjacent}
 use Rattle.hu_plain.proofs.SearchLemmas.{popped}
 use Rattle.hu_plain.proofs.PlaceGrowth.{grown_best-alone}
 use Rattle.hu_plain.proofs.Steps.{ascending-fresh, begun-stepped, each-begun, following-taken, joining-taken, taken-following, taken-joining}
@@ -86,12 +86,12 @@ sum-within rows i d within = rw (← utility-more rows i d within) (utility-with
 -- a step leads from places to places
 ascending-into : (item : ℕ) (places : Places) → AllByRecursion IsAscending places → AllByRecursion IsAscending (into item places)
 ascending-into item [] up = tt
-ascending-into item (place ∷ places) up = ((Ascend-grown_rows item place.0 up.0.0, up.0.1), ascending-into item places up.1)
+ascending-into item (place ∷ places) up = ((rising-grown_rows item place.0 up.0.0, up.0.1), ascending-into item places up.1)
 
 ascending-after : (item : ℕ) (best : Option ℤ) (places : Places) → AllByRecursion IsAscending places → AllByRecursion IsAscending (after item best places)
 ascending-after item best [] up = tt
 ascending-after item best (place ∷ places) up =
-    ((Ascend-grown_rows item (fresh best place.1) (ascending-fresh best place.1 up.0.1), up.0.1), ascending-after item (better best (best_sum place.0)) places up.1)
+    ((rising-grown_rows item (fresh best place.1) (ascending-fresh best place.1 up.0.1), up.0.1), ascending-after item (better best (best_sum place.0)) places up.1)
 
 ascending-stepped : (step : Step) (places : Places) → AllByRecursion IsAscending places → AllByRecursion IsAscending (stepped step places)
 ascending-stepped (Into item) places up = each-begun IsAscending (into item.0 places) (ascending-into item.0 places up)
@@ -191,16 +191,12 @@ pub records-ascending : (records : List (List (List (ℕ × ℤ)))) → AllByRec
 records-ascending [] up = tt
 records-ascending (r ∷ records) up = (later-ascending r up.0.1, records-ascending records up.1)
 
-Ascend-itemset : (cells : List (ℕ × ℤ)) → IsItemset cells → Ascend (items_in cells)
-Ascend-itemset [] is = tt
-Ascend-itemset (first ∷ cells) is = Ascend-from first cells is.ascending
-
 -- one more place whose items ascend, and in which the prefix doesn't end
 pub ascending_place : (places : List Place) (place : Place) (cells : List (ℕ × ℤ)) → AllByRecursion IsAscending (places_of places) → IsItemset cells → pairs_of place.cells.now ≡ cells → place.end ≡ None
     → AllByRecursion IsAscending (places_of (places ++ place ∷ []))
 ascending_place [] place cells all is same none =
     let rows : rows_in place.end ≡ [] = ap (λ e. rows_in e) none in
-    ((subst (λ rs. AllByRecursion (λ row. Ascend (items_in row.1)) rs) (sym rows) tt, subst (λ cs. Ascend (items_in cs)) (sym same) (Ascend-itemset cells is)), tt)
+    ((subst (λ rs. AllByRecursion (λ row. Ascend (items_in row.1)) rs) (sym rows) tt, subst (λ cs. Ascend (items_in cs)) (sym same) (Ascend-adjacent cells is.ascending)), tt)
 ascending_place (s ∷ places) place cells all is same none = (all.0, ascending_place places place cells all.1 is same none)
 
 -- what `pop` leaves of an ended key
@@ -210,14 +206,14 @@ popped_closed (Some m) old new [] e empty last kept = absurd (omega (arith, ap l
 popped_closed r old new (n ∷ ns) e empty last kept = popped r old new (n ∷ ns) (negsuc 0) e empty last
 
 -- the steps of all items that can be taken
-item-of_number : (n : ℕ) (items : List Item) → Contains (numbers_of items) n → Member (record { 0 = n }) items
-item-of_number n items c =
+item-at_number : (n : ℕ) (items : List Item) → Contains (numbers_of items) n → Member (record { 0 = n }) items
+item-at_number n items c =
     let item : ℕ → Item = λ k. record { 0 = k } in
     let found = Member-from_map (λ (i : Item). i.0) n items (Member-from_contains n (numbers_of items) c) in
     subst (λ i. Member i items) (ap item found.2) found.1
 
-number-of_item : (item : Item) (items : List Item) → Member item items → Contains (numbers_of items) item.0
-number-of_item item items m = Contains-from_member item.0 (numbers_of items) (Member-map (λ (i : Item). i.0) item items m)
+number-at_item : (item : Item) (items : List Item) → Member item items → Contains (numbers_of items) item.0
+number-at_item item items m = Contains-from_member item.0 (numbers_of items) (Member-map (λ (i : Item). i.0) item items m)
 
 pub AreSteps-from : (rows : List Places) (join follow : List Item) (steps : List Step) → ArePlaces rows → SameMembers (flat_map joining rows) (numbers_of join) → SameMembers (flat_map following rows) (numbers_of follow)
     → steps ≡ map step_into join ++ map step_after follow → AreSteps rows steps
@@ -230,16 +226,16 @@ AreSteps-from rows join follow steps are joins follows is step = (
     by_part (inl m) =
         let from = Member-from_map step_into step join m in
         subst (λ s. 0 < length (all_stepped s rows)) from.2
-        (taken-joining [] rows are.ascending from.0 (Member-from_contains from.0.0 (flat_map joining rows) ((joins from.0.0).1 (number-of_item from.0 join from.1))))
+        (taken-joining [] rows are.ascending from.0 (Member-from_contains from.0.0 (flat_map joining rows) ((joins from.0.0).1 (number-at_item from.0 join from.1))))
     by_part (inr m) =
         let from = Member-from_map step_after step follow m in
         subst (λ s. 0 < length (all_stepped s rows)) from.2
-        (taken-following [] rows are.ascending are.begin from.0 (Member-from_contains from.0.0 (flat_map following rows) ((follows from.0.0).1 (number-of_item from.0 follow from.1))))
+        (taken-following [] rows are.ascending are.begin from.0 (Member-from_contains from.0.0 (flat_map following rows) ((follows from.0.0).1 (number-at_item from.0 follow from.1))))
 
     taken : (s : Step) → 0 < length (all_stepped s rows) → Member s (map step_into join ++ map step_after follow)
     taken (Into item) some =
         let n = (joins item.0).0 (Contains-from_member item.0 (flat_map joining rows) (joining-taken [] rows are.ascending item some)) in
-        Member-append_left (step_into item) (map step_into join) (map step_after follow) (Member-map step_into item join (item-of_number item.0 join n))
+        Member-append_left (step_into item) (map step_into join) (map step_after follow) (Member-map step_into item join (item-at_number item.0 join n))
     taken (After item) some =
         let n = (follows item.0).0 (Contains-from_member item.0 (flat_map following rows) (following-taken [] rows are.ascending item some)) in
-        Member-append_right (step_after item) (map step_into join) (map step_after follow) (Member-map step_after item follow (item-of_number item.0 follow n))
+        Member-append_right (step_after item) (map step_into join) (map step_after follow) (Member-map step_after item follow (item-at_number item.0 follow n))
