@@ -1,41 +1,46 @@
 -- The sequences that occur in records are those that grow the empty prefix.
-use Rattle.std.proofs.Common.{◌≡◌, ℕ, ◌<◌, ◌+◌, Bool, true, false, cond, nat_lt, ℤ, pos, ◌+ℤ◌, Option, None, Some, is_some, unwrap_or, option_map, List, [], ◌∷◌, map, length, filter, refl, sym, ap, ◌∙◌, subst, inl, inr, arith}
+use Rattle.std.proofs.Common.{◌≡◌, ℕ, ◌<◌, ◌+◌, Bool, true, false, cond, eqb, nat_lt, ℤ, pos, ◌+ℤ◌, Option, None, Some, is_some, unwrap_or, option_map, List, [], ◌∷◌, map, length, filter, refl, sym, ap, ◌∙◌, subst, inl, inr, arith, Contains}
 use Rattle.std.specs.List.{AllByRecursion}
 use Rattle.std.proofs.lemmas.Int.{ints}
-use Rattle.std.proofs.lemmas.Bool.{lt-ltb, ltb-true}
+use Rattle.std.proofs.lemmas.Bool.{lt-ltb, ltb-true, eq-eqb, or_left, or_right, and_from}
 use Rattle.std.proofs.lemmas.List.Sums.{sum_by-cons}
 use Rattle.hu_kind.specs.declared.entry.Entry.{Entry}
-use Rattle.hu_kind.specs.Record.{holds, values_of, items_in}
+use Rattle.hu_kind.specs.Record.{has, holds, values_of, items_in}
 use Rattle.hu_kind.specs.Itemsets.{sublists}
 use Rattle.hu_kind.specs.Sequence.{better, best_utility, led_by, subsequences, sequence_entry, sequence_patterns, sequence_support, sequence_utility}
 use Rattle.hu_kind.specs.Order.{Ascend}
-use Rattle.hu_kind.proofs.lemmas.Members.{Member, Member-flat_map, Member-from_flat_map, Member-map, Member-from_map, Member-filter, Member-from_filter}
-use Rattle.hu_kind.proofs.lemmas.Occurring.{Member-sublists, at_member, counted, count-member, holds-members}
-use Rattle.hu_plain.specs.Growth.{grown_support, grown_utility, growth_entry, Grows}
+use Rattle.hu_kind.proofs.lemmas.Members.{Member, Member-from_contains, Contains-from_member, Member-flat_map, Member-from_flat_map, Member-map, Member-from_map, Member-filter, Member-from_filter}
+use Rattle.hu_kind.proofs.lemmas.Occurring.{Member-sublists, Ascend-sublist, each-sublist, at_member, by_members, counted, count-member, holds-members}
+use Rattle.hu_plain.specs.Growth.{grown_support, grown_utility, growth_entry, IsSet, Grows}
 use Rattle.hu_plain.specs.Place.{best_from, first_places, grown_best, itemsets_of}
 use Rattle.hu_plain.proofs.Better.{some_cases, some_left, some_right, some_map}
-use Rattle.hu_plain.proofs.Held.{members-sublist, Ascend-sublist, holds-all}
-
--- an itemset of a pattern: some items, ascending
-abbrev pub IsSome_ascending : List ℕ → Type 0
-IsSome_ascending s = (0 < length s) × Ascend s
 
 -- the itemsets of a record ascend
-abbrev pub AreAscending : List (List (ℕ × ℤ)) → Type 0
-AreAscending elements = AllByRecursion (λ cells. Ascend (items_in cells)) elements
+abbrev pub AreRising : List (List (ℕ × ℤ)) → Type 0
+AreRising elements = AllByRecursion (λ cells. Ascend (items_in cells)) elements
 
-led-ascending : (s : List ℕ) (pattern : List (List ℕ)) → Ascend s → AllByRecursion IsSome_ascending pattern → AllByRecursion IsSome_ascending (led_by s pattern)
+-- cells hold the items that stand among them
+has-from_member : (item : ℕ) (cells : List (ℕ × ℤ)) → Member item (items_in cells) → has item cells ≡ true
+has-from_member item [] m = absurd m
+has-from_member item (cell ∷ cells) (inl e) = or_left (eqb item cell.0) (has item cells) (eq-eqb item cell.0 (sym e))
+has-from_member item (cell ∷ cells) (inr m) = or_right (eqb item cell.0) (has item cells) (has-from_member item cells m)
+
+holds-all : (items : List ℕ) (cells : List (ℕ × ℤ)) → AllByRecursion (λ item. Member item (items_in cells)) items → holds items cells ≡ true
+holds-all [] cells all = refl
+holds-all (item ∷ items) cells all = and_from (has item cells) (holds items cells) (has-from_member item cells all.0) (holds-all items cells all.1)
+
+led-ascending : (s : List ℕ) (pattern : List (List ℕ)) → Ascend s → AllByRecursion IsSet pattern → AllByRecursion IsSet (led_by s pattern)
 led-ascending [] pattern up all = all
 led-ascending (i ∷ is) pattern up all = ((omega arith, up), all)
 
 -- each subsequence has ascending itemsets
-sub-ascending : (elements : List (List (ℕ × ℤ))) (pattern : List (List ℕ)) → AreAscending elements → Member pattern (subsequences elements) → AllByRecursion IsSome_ascending pattern
-sub-ascending [] pattern up (inl e) = subst (λ p. AllByRecursion IsSome_ascending p) e tt
+sub-ascending : (elements : List (List (ℕ × ℤ))) (pattern : List (List ℕ)) → AreRising elements → Member pattern (subsequences elements) → AllByRecursion IsSet pattern
+sub-ascending [] pattern up (inl e) = subst (λ p. AllByRecursion IsSet p) e tt
 sub-ascending [] pattern up (inr m) = absurd m
 sub-ascending (e ∷ es) pattern up m =
     let by_set = Member-from_flat_map (λ s. map (led_by s) (subsequences es)) pattern (sublists (items_in e)) m in
     let rest = Member-from_map (led_by by_set.0) pattern (subsequences es) by_set.2 in
-    subst (λ p. AllByRecursion IsSome_ascending p) rest.2
+    subst (λ p. AllByRecursion IsSet p) rest.2
     (led-ascending by_set.0 rest.0 (Ascend-sublist (items_in e) by_set.0 up.0 by_set.1) (sub-ascending es rest.0 up.1 rest.1))
 
 -- each subsequence occurs
@@ -57,7 +62,7 @@ sub-occurs (e ∷ es) pattern m =
     let by_set = Member-from_flat_map (λ s. map (led_by s) (subsequences es)) pattern (sublists (items_in e)) m in
     let rest = Member-from_map (led_by by_set.0) pattern (subsequences es) by_set.2 in
     subst (λ p. is_some (best_utility p (e ∷ es)) ≡ true) rest.2
-    (led-occurs by_set.0 rest.0 e es (holds-all by_set.0 e (members-sublist (items_in e) by_set.0 by_set.1)) (sub-occurs es rest.0 rest.1))
+    (led-occurs by_set.0 rest.0 e es (holds-all by_set.0 e (each-sublist (λ y. Member y (items_in e)) (items_in e) by_set.0 (by_members (λ y. Member y (items_in e)) (items_in e) (λ y m. m)) by_set.1)) (sub-occurs es rest.0 rest.1))
 
 -- and what occurs with ascending itemsets is a subsequence
 Member-sublists-none : (xs : List ℕ) → Ascend xs → Member [] (sublists xs)
@@ -71,7 +76,7 @@ led-some : (s : List ℕ) (pattern : List (List ℕ)) → 0 < length s → led_b
 led-some [] pattern some = absurd (omega arith)
 led-some (i ∷ is) pattern some = refl
 
-occurs-sub : (elements : List (List (ℕ × ℤ))) (pattern : List (List ℕ)) → AreAscending elements → AllByRecursion IsSome_ascending pattern → is_some (best_utility pattern elements) ≡ true → Member pattern (subsequences elements)
+occurs-sub : (elements : List (List (ℕ × ℤ))) (pattern : List (List ℕ)) → AreRising elements → AllByRecursion IsSet pattern → is_some (best_utility pattern elements) ≡ true → Member pattern (subsequences elements)
 occurs-sub [] [] up all some = inl refl
 occurs-sub [] (p ∷ ps) up all some = cc
 occurs-sub (e ∷ es) [] up all some =
@@ -140,9 +145,10 @@ entry-first : (records : List (List (List (ℕ × ℤ)))) (pattern : List (List 
 entry-first records pattern = let u = utility-first records pattern in let s = support-first records pattern in cc
 
 -- the patterns of records are the entries that grow the empty prefix
-module _ (records : List (List (List (ℕ × ℤ)))) (up : AllByRecursion AreAscending records) where
-  pub grows-pattern : (entry : Entry) → Member entry (sequence_patterns records) → Grows [] (map first_places records) entry
-  grows-pattern entry m =
+module _ (records : List (List (List (ℕ × ℤ)))) (up : AllByRecursion AreRising records) where
+  pub grows-pattern : (entry : Entry) → Contains (sequence_patterns records) entry → Grows [] (map first_places records) entry
+  grows-pattern entry c =
+      let m = Member-from_contains entry (sequence_patterns records) c in
       let in_record = Member-from_flat_map (λ r. map (sequence_entry records) (filter (λ p. nat_lt 0 (length p)) (subsequences r))) entry records m in
       let r = in_record.0 in
       let from = Member-from_map (sequence_entry records) entry (filter (λ p. nat_lt 0 (length p)) (subsequences r)) in_record.2 in
@@ -155,22 +161,25 @@ module _ (records : List (List (List (ℕ × ℤ)))) (up : AllByRecursion AreAsc
         rest = pattern;
         some = omega (arith, some);
         ascending = tt;
-        itemsets = sub-ascending r pattern (at_member AreAscending r records up in_record.1) kept.0;
+        itemsets = sub-ascending r pattern (at_member AreRising r records up in_record.1) kept.0;
         occurs = subst (λ n. 0 < n) (sym (support-first records pattern)) count;
-        is = sym from.2 ∙ sym (entry-first records pattern);
+        is = entry-first records pattern ∙ from.2;
       }
 
-  pub pattern-grows : (entry : Entry) → Grows [] (map first_places records) entry → Member entry (sequence_patterns records)
+  pub pattern-grows : (entry : Entry) → Grows [] (map first_places records) entry → Contains (sequence_patterns records) entry
   pattern-grows entry g = by_items g.items g.rest g.some g.itemsets g.occurs g.is
     where
-      by_items : (is : List ℕ) (pattern : List (List ℕ)) → 0 < length is + length pattern → AllByRecursion IsSome_ascending pattern → 0 < grown_support (map first_places records) is pattern
-          → entry ≡ growth_entry [] (map first_places records) is pattern → Member entry (sequence_patterns records)
+      by_items : (is : List ℕ) (pattern : List (List ℕ)) → 0 < length is + length pattern → AllByRecursion IsSet pattern
+          → 0 < grown_support (map first_places records) is pattern → growth_entry [] (map first_places records) is pattern ≡ entry
+          → Contains (sequence_patterns records) entry
       by_items (i ∷ is) pattern some all occurs e = absurd (omega (arith, support-first_none i is pattern records))
       by_items [] pattern some all occurs e =
           let count : 0 < sequence_support records pattern = subst (λ n. 0 < n) (support-first records pattern) occurs in
           let found = counted (λ s. is_some (best_utility pattern s)) records count in
-          let sub = occurs-sub found.0 pattern (at_member AreAscending found.0 records up found.1) all found.2 in
+          let sub = occurs-sub found.0 pattern (at_member AreRising found.0 records up found.1) all found.2 in
           let kept = Member-filter (λ p. nat_lt 0 (length p)) pattern (subsequences found.0) sub (lt-ltb 0 (length pattern) (omega arith)) in
           let m = Member-map (sequence_entry records) pattern (filter (λ p. nat_lt 0 (length p)) (subsequences found.0)) kept in
-          let m' = Member-flat_map (λ r. map (sequence_entry records) (filter (λ p. nat_lt 0 (length p)) (subsequences r))) found.0 (sequence_entry records pattern) records found.1 m in
-          subst (λ x. Member x (sequence_patterns records)) (sym (entry-first records pattern) ∙ sym e) m'
+          let m' = Member-flat_map (λ r. map (sequence_entry records) (filter (λ p. nat_lt 0 (length p)) (subsequences r)))
+          found.0 (sequence_entry records pattern) records found.1 m in
+          subst (Contains (sequence_patterns records)) (sym (entry-first records pattern) ∙ e)
+          (Contains-from_member (sequence_entry records pattern) (sequence_patterns records) m')

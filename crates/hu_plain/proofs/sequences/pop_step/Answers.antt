@@ -2,7 +2,7 @@ use Rattle.std.proofs.Common.{◌∙◌, ap, pos}
 use Rattle.hu_plain.specs.Growth.{closed, stepped_key}
 use Rattle.hu_plain.proofs.SearchLemmas.{popped}
 use Rattle.hu_plain.proofs.PlaceLemmas.{popped_closed}
-use Rattle.hu_plain.proofs.sequences.leave.Goals as goal
+use Rattle.hu_plain.proofs.sequences.pop_step.Goals as goal
 
 pub returns-in-After : goal.returns-in-After
 returns-in-After c = λ before e.
