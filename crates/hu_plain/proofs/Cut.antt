@@ -6,36 +6,36 @@ use Rattle.std.proofs.lemmas.List.Sums.{sum_by-cons}
 use Rattle.hu_kind.specs.Record.{has, holds, value_of, values_of, items_in, absolute_of}
 use Rattle.hu_kind.specs.Order.{Ascend}
 use Rattle.hu_kind.proofs.lemmas.Occurring.{at_member, above_all, has-member}
-use Rattle.hu_plain.specs.Row.{RowOf, grown_row}
+use Rattle.hu_plain.specs.Row.{Cells, RowOf, grown_row}
 
 -- all items of a list come after one
 abbrev pub AllAbove : ℕ → List ℕ → Type 0
 AllAbove item items = AllByRecursion (λ other. item < other) items
 
 -- a cell before all items of a set changes nothing
-holds-skip : (cell : ℕ × ℤ) (cells : List (ℕ × ℤ)) (items : List ℕ) → AllAbove cell.0 items → holds items (cell ∷ cells) ≡ holds items cells
+holds-skip : (cell : ℕ × ℤ) (cells : Cells) (items : List ℕ) → AllAbove cell.0 items → holds items (cell ∷ cells) ≡ holds items cells
 holds-skip cell cells [] above = refl
 holds-skip cell cells (item ∷ items) above =
     let no : eqb item cell.0 ≡ false = ne_eqb item cell.0 (λ e. absurd (omega arith)) in
     simp (no, holds-skip cell cells items above.1)
 
-values_of-skip : (cell : ℕ × ℤ) (cells : List (ℕ × ℤ)) (items : List ℕ) → AllAbove cell.0 items → values_of items (cell ∷ cells) ≡ values_of items cells
+values_of-skip : (cell : ℕ × ℤ) (cells : Cells) (items : List ℕ) → AllAbove cell.0 items → values_of items (cell ∷ cells) ≡ values_of items cells
 values_of-skip cell cells [] above = refl
 values_of-skip cell cells (item ∷ items) above =
     let no : eqb item cell.0 ≡ false = ne_eqb item cell.0 (λ e. absurd (omega arith)) in
     simp (no, values_of-skip cell cells items above.1)
 
 -- cells after an item, of cells that ascend: later items stand in both alike
-pub record IsTail (item : ℕ) (cells rest : List (ℕ × ℤ)) : Type 0 where
+pub record IsTail (item : ℕ) (cells rest : Cells) : Type 0 where
   pub ascending : Ascend (items_in rest)
   pub above : AllAbove item (items_in rest)
   pub held : (items : List ℕ) → AllAbove item items → holds items cells ≡ holds items rest
   pub earn : (items : List ℕ) → AllAbove item items → values_of items cells ≡ values_of items rest
 
 -- the row that an item makes
-pub record Cut (item : ℕ) (sum : ℤ) (cells : List (ℕ × ℤ)) : Type 0 where
+pub record Cut (item : ℕ) (sum : ℤ) (cells : Cells) : Type 0 where
   pub value : ℤ
-  pub rest : List (ℕ × ℤ)
+  pub rest : Cells
   pub is : grown_row item sum cells ≡ (sum +ℤ value, rest) ∷ []
   pub weight : unsigned_abs value + absolute_of rest ≤ absolute_of cells
   pub fewer : length rest < length cells
@@ -43,7 +43,7 @@ pub record Cut (item : ℕ) (sum : ℤ) (cells : List (ℕ × ℤ)) : Type 0 whe
   pub earns : value_of item cells ≡ value
   pub tail : Ascend (items_in cells) → IsTail item cells rest
 
-pub cut : (item : ℕ) (sum : ℤ) (cells : List (ℕ × ℤ)) → Cut item sum cells ⊎ ((grown_row item sum cells ≡ []) × (has item cells ≡ false))
+pub cut : (item : ℕ) (sum : ℤ) (cells : Cells) → Cut item sum cells ⊎ ((grown_row item sum cells ≡ []) × (has item cells ≡ false))
 cut item sum [] = inr (refl, refl)
 cut item sum (cell ∷ cells) = elim (cases_eq item cell.0) [
   | inl e ↦

@@ -16,7 +16,7 @@ use Rattle.hu_kind.proofs.lemmas.Members.{Member, Member-map, Member-from_map, M
 use Rattle.hu_collect.specs.Laws.{SameMembers}
 use Rattle.hu_plain.specs.declared.grown.Grown.{Grown}
 use Rattle.hu_plain.specs.declared.row.Row.{Row}
-use Rattle.hu_plain.specs.Row.{RowOf, grown_row, grown_rows, IsRising}
+use Rattle.hu_plain.specs.Row.{Cells, RowOf, grown_row, grown_rows, IsRising}
 use Rattle.hu_plain.specs.View.{row_of, rows_of, numbers_of}
 use Rattle.hu_plain.specs.Grown.{grown_cells, grown_from, all_grown, item_at, made_of, pair_with, AreGrown, AreItems}
 use Rattle.hu_plain.proofs.Cut.{AllAbove}
@@ -28,7 +28,7 @@ abbrev pub rows_by : ℕ → List (ℕ × RowOf) → List RowOf
 rows_by item pairs = map (λ pair. pair.1) (filter (λ pair. eqb item pair.0) pairs)
 
 -- an item that stands before all cells makes no row of them
-grown_cells-none : (item : ℕ) (sum : ℤ) (cells : List (ℕ × ℤ)) → AllAbove item (items_in cells) → rows_by item (grown_cells sum cells) ≡ []
+grown_cells-none : (item : ℕ) (sum : ℤ) (cells : Cells) → AllAbove item (items_in cells) → rows_by item (grown_cells sum cells) ≡ []
 grown_cells-none item sum [] above = refl
 grown_cells-none item sum (cell ∷ cells) above =
     let first = above.0 in
@@ -36,7 +36,7 @@ grown_cells-none item sum (cell ∷ cells) above =
     rw no (grown_cells-none item sum cells above.1)
 
 -- what an item makes of a row
-grown_cells-with : (item : ℕ) (sum : ℤ) (cells : List (ℕ × ℤ)) → Ascend (items_in cells) → rows_by item (grown_cells sum cells) ≡ grown_row item sum cells
+grown_cells-with : (item : ℕ) (sum : ℤ) (cells : Cells) → Ascend (items_in cells) → rows_by item (grown_cells sum cells) ≡ grown_row item sum cells
 grown_cells-with item sum [] up = refl
 grown_cells-with item sum (cell ∷ cells) up = by (eqb item cell.0) refl (grown_cells-with item sum cells up.1)
   where
@@ -85,7 +85,8 @@ pub found-grown : (rows : List RowOf) (all seen : List Grown) (grown found : Lis
 found-grown rows all seen grown found item are same made is = ap rows_of is ∙ made ∙ ap (made_of item) same ∙ are.each item
 
 -- one more grown row: what is done and what is left stays the same together
-pub pushed : (before after : List Grown) (one : Grown) (left next whole : List (ℕ × RowOf)) → after ≡ before ++ one ∷ [] → pair_with one ∷ next ≡ left
+pub pushed : (before after : List Grown) (one : Grown) (left next whole : List (ℕ × RowOf)) → after ≡ before ++ one ∷ []
+    → pair_with one ∷ next ≡ left
     → map pair_with before ++ left ≡ whole → map pair_with after ++ next ≡ whole
 pushed before after one left next whole is step kept =
     ap (λ l. map pair_with l ++ next) is
@@ -108,13 +109,14 @@ at_place row got rest i d within value left =
 pub items-grown : (rows : List RowOf) (grown : List Grown) (items : List Item) → AreGrown rows grown → SameMembers (map item_at grown) (numbers_of items)
     → AreItems rows items
 items-grown rows grown items are same item = (
-  λ c. subst (λ rs. 0 < length rs) (are.each item.0) (some (Member-from_contains item.0 (map item_at grown) ((same item.0).1 (number-of_item item items c)))),
-  λ h. item-of_number item items ((same item.0).0 (Contains-from_member item.0 (map item_at grown) (found (subst (λ rs. 0 < length rs) (sym (are.each item.0)) h)))),
+  λ c.
+      let m = Member-from_contains item.0 (map item_at grown) ((same item.0).1 (number-of_item item items c)) in
+      subst (λ rs. 0 < length rs) (are.each item.0) (some m),
+  λ h.
+      let m = found (subst (λ rs. 0 < length rs) (sym (are.each item.0)) h) in
+      item-of_number item items ((same item.0).0 (Contains-from_member item.0 (map item_at grown) m)),
 )
   where
-    at : Grown → Bool
-    at one = eqb item.0 one.item.0
-
     long : (xs : List Grown) (one : Grown) → Member one xs → 0 < length (map (λ (x : Grown). row_of x.row) xs)
     long [] one m = absurd m
     long (x ∷ xs) one m = omega arith

@@ -10,7 +10,7 @@ use Rattle.hu_kind.specs.Itemsets.{occurring_sets, item_entry, item_patterns}
 use Rattle.hu_kind.proofs.lemmas.Each.{each-weaker}
 use Rattle.hu_kind.proofs.lemmas.Members.{Member, Member-map, Member-from_map, Member-from_contains, Contains-from_member}
 use Rattle.hu_kind.proofs.lemmas.Occurring.{Occurs, Occurs-from_member, Member-from_occurs, counted, holds-members, at_member}
-use Rattle.hu_plain.specs.Row.{RowOf, earned, tails, grown_entry, grown_patterns, grown_rows, key_with, IsGrowth, Grows, IsRising}
+use Rattle.hu_plain.specs.Row.{Cells, RowOf, earned, tails, grown_entry, grown_patterns, grown_rows, key_with, IsGrowth, Grows, IsRising}
 use Rattle.hu_plain.specs.View.{first_row}
 use Rattle.hu_plain.specs.Grown.{AreItems}
 use Rattle.hu_plain.proofs.Cut.{AllAbove}
@@ -104,8 +104,9 @@ module _ (prefix : List ℤ) (rows : List RowOf) (up : AllByRecursion IsRising r
           let up' = o.ascending in
           let held = subst (λ n. 0 < n) (sym (support-grown_rows item items rows up up'.0)) o.held in
           let occurs : Occurs (tails (grown_rows item rows)) items = record { some = omega arith; ascending = up'.1; held = held } in
-          first (record { 0 = item }) (grown-some item items held)
-          (inr (by-grows (key_with prefix item) (grown_rows item rows) entry (record { items = items; occurs = occurs; is = entry-grown item items up'.0 ∙ is })))
+          let by : GrowsBy (key_with prefix item) (grown_rows item rows) entry =
+          record { items = items; occurs = occurs; is = entry-grown item items up'.0 ∙ is } in
+          first (record { 0 = item }) (grown-some item items held) (inr (by-grows (key_with prefix item) (grown_rows item rows) entry by))
 
   pub begins-whole : (items : List Item) → AreItems rows items → AreWhole (BeginsWith prefix rows) (Grows prefix rows) items
   begins-whole items are = record {
@@ -114,7 +115,7 @@ module _ (prefix : List ℤ) (rows : List RowOf) (up : AllByRecursion IsRising r
   }
 
 -- the patterns of records are those that grow the empty prefix
-earned-none : (records : List (List (ℕ × ℤ))) (items : List ℕ) → earned (map first_row records) items ≡ utility records items
+earned-none : (records : List Cells) (items : List ℕ) → earned (map first_row records) items ≡ utility records items
 earned-none [] items = refl
 earned-none (r ∷ records) items =
     let first = same (holds items r) (values_of items r) in
@@ -125,7 +126,7 @@ earned-none (r ∷ records) items =
     same true v = omega (arith, ints)
     same false v = refl
 
-tails-none : (records : List (List (ℕ × ℤ))) → tails (map first_row records) ≡ records
+tails-none : (records : List Cells) → tails (map first_row records) ≡ records
 tails-none [] = refl
 tails-none (r ∷ records) = ap (λ rs. r ∷ rs) (tails-none records)
 
@@ -133,7 +134,7 @@ map-same : {A B : Type 0} (f g : A → B) (xs : List A) → ((x : A) → f x ≡
 map-same f g [] e = refl
 map-same f g (x ∷ xs) e = let head = e x in let rest = map-same f g xs e in cc
 
-pub item_patterns-grown : (records : List (List (ℕ × ℤ))) → grown_patterns [] (map first_row records) ≡ item_patterns records
+pub item_patterns-grown : (records : List Cells) → grown_patterns [] (map first_row records) ≡ item_patterns records
 item_patterns-grown records =
     rw (tails-none records) (map-same (grown_entry [] (map first_row records)) (item_entry records) (occurring_sets records) each)
   where

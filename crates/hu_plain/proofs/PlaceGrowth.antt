@@ -5,7 +5,7 @@ use Rattle.std.proofs.lemmas.Int.{ints}
 use Rattle.hu_kind.specs.Record.{holds, values_of, items_in}
 use Rattle.hu_kind.specs.Sequence.{better, best_utility}
 use Rattle.hu_kind.specs.Order.{Ascend}
-use Rattle.hu_plain.specs.Row.{RowOf, grown_row, grown_rows, IsRising}
+use Rattle.hu_plain.specs.Row.{Cells, RowOf, grown_row, grown_rows, IsRising}
 use Rattle.hu_plain.specs.Place.{Places, after, best_from, best_of, best_sum, fresh, grown_best, into, itemsets_of, IsAscending, AreAscending}
 use Rattle.hu_plain.proofs.Better.{some_cases, better-none, better-assoc, plus, plus-none, plus-better, better-plus}
 use Rattle.hu_plain.proofs.Cut.{AllAbove, Cut, IsTail, cut}
@@ -29,7 +29,8 @@ best_from-grown_row item items later row up above = elim (cut item row.0 row.1) 
     apart v w true None = refl
     apart v w true (Some x) = ap (λ n. Some n) (omega (arith, ints))
 
-best_from-append : (items : List ℕ) (later : Option ℤ) (xs ys : List RowOf) → best_from items later (xs ++ ys) ≡ better (best_from items later xs) (best_from items later ys)
+best_from-append : (items : List ℕ) (later : Option ℤ) (xs ys : List RowOf)
+    → best_from items later (xs ++ ys) ≡ better (best_from items later xs) (best_from items later ys)
 best_from-append items later [] ys = refl
 best_from-append items later (x ∷ xs) ys =
     ap (λ b. better (row_best items later x) b) (best_from-append items later xs ys)
@@ -89,15 +90,18 @@ best_from-none later (row ∷ rows) =
     alone (Some x) = ap (λ n. Some n) (omega (arith, ints))
 
 -- an item of a whole itemset after a sum
-best_from-fresh : (item : ℕ) (items : List ℕ) (rest : List (List ℕ)) (best : Option ℤ) (cells : List (ℕ × ℤ)) (es : List (List (ℕ × ℤ))) → Ascend (items_in cells) → AllAbove item items
-    → best_from items (best_utility rest es) (grown_rows item (fresh best cells)) ≡ plus best (cond (holds (item ∷ items) cells) (option_map (λ u. values_of (item ∷ items) cells +ℤ u) (best_utility rest es)) None)
+best_from-fresh : (item : ℕ) (items : List ℕ) (rest : List (List ℕ)) (best : Option ℤ) (cells : Cells) (es : List Cells) → Ascend (items_in cells)
+    → AllAbove item items
+    → best_from items (best_utility rest es) (grown_rows item (fresh best cells))
+    ≡ plus best (cond (holds (item ∷ items) cells) (option_map (λ u. values_of (item ∷ items) cells +ℤ u) (best_utility rest es)) None)
 best_from-fresh item items rest None cells es up above = refl
 best_from-fresh item items rest (Some sum) cells es up above =
     best_from-grown_rows item items (best_utility rest es) ((sum, cells) ∷ []) (up, tt) above
     ∙ better-none (row_best (item ∷ items) (best_utility rest es) (sum, cells))
     ∙ apart (holds (item ∷ items) cells) (values_of (item ∷ items) cells) (best_utility rest es)
   where
-    apart : (b : Bool) (v : ℤ) (u : Option ℤ) → cond b (option_map (λ x. (sum +ℤ v) +ℤ x) u) None ≡ option_map (λ x. sum +ℤ x) (cond b (option_map (λ x. v +ℤ x) u) None)
+    apart : (b : Bool) (v : ℤ) (u : Option ℤ)
+        → cond b (option_map (λ x. (sum +ℤ v) +ℤ x) u) None ≡ option_map (λ x. sum +ℤ x) (cond b (option_map (λ x. v +ℤ x) u) None)
     apart false v u = refl
     apart true v None = refl
     apart true v (Some x) = ap (λ n. Some n) (omega (arith, ints))
@@ -110,8 +114,10 @@ after-parts a x y b g =
     ∙ sym (better-assoc (plus a x) (plus a y) (better (plus b y) g))
     ∙ ap (λ z. better z (better (plus b y) g)) (sym (better-plus a x y))
 
-pub grown_best-after : (item : ℕ) (items : List ℕ) (rest : List (List ℕ)) (best : Option ℤ) (places : Places) → AreAscending places → AllAbove item items
-    → grown_best items rest (after item best places) ≡ better (plus best (best_utility ((item ∷ items) ∷ rest) (itemsets_of places))) (grown_best [] ((item ∷ items) ∷ rest) places)
+pub grown_best-after : (item : ℕ) (items : List ℕ) (rest : List (List ℕ)) (best : Option ℤ) (places : Places) → AreAscending places
+    → AllAbove item items
+    → grown_best items rest (after item best places)
+    ≡ better (plus best (best_utility ((item ∷ items) ∷ rest) (itemsets_of places))) (grown_best [] ((item ∷ items) ∷ rest) places)
 grown_best-after item items rest best [] up above = sym (better-none (plus best None) ∙ plus-none best)
 grown_best-after item items rest best (place ∷ places) up above =
     let es = itemsets_of places in
@@ -119,8 +125,9 @@ grown_best-after item items rest best (place ∷ places) up above =
     let here = cond (holds (item ∷ items) place.1) (option_map (λ u. values_of (item ∷ items) place.1 +ℤ u) (best_utility rest es)) None in
     let later = best_utility ((item ∷ items) ∷ rest) es in
     let more = grown_best [] ((item ∷ items) ∷ rest) places in
-    ap (λ ds. better (best_from items (best_utility rest ds) (grown_rows item (fresh best place.1))) (grown_best items rest (after item next places))) (itemsets-after item next places)
-    ∙ ap (λ a. better a (grown_best items rest (after item next places))) (best_from-fresh item items rest best place.1 es up.0.1 above)
+    let grown = grown_best items rest (after item next places) in
+    ap (λ ds. better (best_from items (best_utility rest ds) (grown_rows item (fresh best place.1))) grown) (itemsets-after item next places)
+    ∙ ap (λ a. better a grown) (best_from-fresh item items rest best place.1 es up.0.1 above)
     ∙ ap (λ b. better (plus best here) b) (grown_best-after item items rest next places up.1 above)
     ∙ after-parts best here later (best_sum place.0) more
     ∙ ap (λ b. better (plus best (better here later)) (better b more)) (sym (best_from-none later place.0))

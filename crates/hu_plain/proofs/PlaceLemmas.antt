@@ -1,9 +1,9 @@
 -- Places, by their indices.
-use Rattle.std.proofs.Common.{◌≡◌, ℕ, zero, suc, ◌<◌, ◌≤◌, ◌+◌, ◌^◌, true, false, eqb, ℤ, pos, negsuc, ◌+ℤ◌, unsigned_abs, Option, None, Some, unwrap_or, IsNone, IfSome, IfNone, ◌↔◌, List, [], ◌∷◌, ◌++◌, map, length, get_or, take, drop, max, refl, sym, ap, ◌∙◌, subst, arith, sum_by, flat_map, Contains, append_assoc, length-append, drop-cons, add-one}
+use Rattle.std.proofs.Common.{◌≡◌, ℕ, zero, suc, ◌<◌, ◌≤◌, ◌+◌, ◌^◌, true, false, eqb, ℤ, pos, negsuc, ◌+ℤ◌, unsigned_abs, Option, None, Some, unwrap_or, IsNone, IfSome, IfNone, ◌↔◌, List, [], ◌∷◌, ◌++◌, map, length, get_or, take, drop, max, refl, sym, ap, ◌∙◌, subst, inl, inr, arith, sum_by, flat_map, Contains, append_assoc, length-append, drop-cons, add-one}
 use Rattle.std.specs.Global.{Vec}
 use Rattle.std.specs.List.{AllByRecursion}
 use Rattle.std.proofs.lemmas.Int.{ints}
-use Rattle.std.proofs.lemmas.Bool.{eqb-true, eqb-false}
+use Rattle.std.proofs.lemmas.Bool.{eqb-true, eqb-false, cases_lt}
 use Rattle.std.proofs.lemmas.List.{length-map}
 use Rattle.std.proofs.lemmas.List.Elements.{Contains-append_left, Contains-append_right}
 use Rattle.std.proofs.lemmas.List.Sums.{sum_by-cons}
@@ -19,12 +19,12 @@ use Rattle.hu_collect.specs.Laws.{SameMembers}
 use Rattle.hu_plain.specs.declared.places.Step.{Step}
 use Rattle.hu_plain.specs.declared.places.Step.TheVariants.{Into, After}
 use Rattle.hu_plain.specs.declared.places.Place.{Place}
-use Rattle.hu_plain.specs.Row.{RowOf, grown_rows, weight_of, IsRising, AreRows}
+use Rattle.hu_plain.specs.Row.{Cells, RowOf, grown_rows, weight_of, IsRising, AreRows}
 use Rattle.hu_plain.specs.View.{numbers_of}
 use Rattle.hu_plain.specs.Growth.{closed, grown_utility, prefix_entry, Grows}
 use Rattle.hu_plain.specs.Place.{PlaceOf, Places, after, all_stepped, begun, best_of, best_sum, first_places, fresh, grown_best, itemsets_of, reach_of, ArePlaces, IsAscending, AreAscending, IsBegun}
 use Rattle.hu_plain.specs.PlaceView.{all_places, following, joining, pushed, rows_in, step_after, step_into, place_of, places_of, HasSteps}
-use Rattle.hu_plain.proofs.Reach.{ahead, ahead-upto, best-within, next-within, reaches-stepped}
+use Rattle.hu_plain.proofs.Reach.{ahead, ahead-upto, reach_with, best-within, next-within, reaches-stepped}
 use Rattle.hu_plain.proofs.RowLemmas.{item-of_number}
 use Rattle.hu_plain.proofs.SearchLemmas.{entry_with, popped}
 use Rattle.hu_plain.proofs.PlaceGrowth.{grown_best-alone}
@@ -32,7 +32,8 @@ use Rattle.hu_plain.proofs.Steps.{rising-fresh, ascending-stepped, begun-stepped
 use Rattle.hu_plain.proofs.Subsequences.{AreRising, grows-pattern, pattern-grows}
 
 -- what holds of each element as it is seen holds of the one at an index
-pub each-at : {A B : Type 0} (f : A → B) (P : B → Type 0) (xs : List A) (i : ℕ) (d : A) → AllByRecursion P (map f xs) → i < length xs → P (f (get_or xs i d))
+pub each-at : {A B : Type 0} (f : A → B) (P : B → Type 0) (xs : List A) (i : ℕ) (d : A) → AllByRecursion P (map f xs) → i < length xs
+    → P (f (get_or xs i d))
 each-at f P [] i d all within = absurd (omega arith)
 each-at f P (x ∷ xs) zero d all within = all.0
 each-at f P (x ∷ xs) (suc i) d all within = each-at f P xs i d all.1 (omega arith)
@@ -43,11 +44,12 @@ weights-within n [] = omega arith
 weights-within n (row ∷ rows) = omega (
   arith,
   sum_by-cons weight_of row rows,
-  sum_by-cons (λ (r : ℤ × List (ℕ × ℤ)). (unsigned_abs r.0 + absolute_of r.1) + n) row rows,
+  sum_by-cons (λ (r : ℤ × Cells). (unsigned_abs r.0 + absolute_of r.1) + n) row rows,
   weights-within n rows,
 )
 
-rows-within : (places : List Place) (i : ℕ) (d : Place) → i < length places → sum_by weight_of (rows_in (get_or places i d).end) ≤ reach_of (places_of places)
+rows-within : (places : List Place) (i : ℕ) (d : Place) → i < length places
+    → sum_by weight_of (rows_in (get_or places i d).end) ≤ reach_of (places_of places)
 rows-within [] i d within = absurd (omega arith)
 rows-within (place ∷ places) zero d within = let w = weights-within (sum_by absolute_of (itemsets_of (places_of places))) (rows_in place.end) in omega arith
 rows-within (place ∷ places) (suc i) d within = let ih = rows-within places i d (omega arith) in omega arith
@@ -59,17 +61,20 @@ AreRows-at places i d up fits within = record {
   sum_fits = omega (arith, rows-within places i d within, fits);
 }
 
-pub places-within : (rows : List (Vec Place)) (i : ℕ) (d : Vec Place) → i < length rows → reach_of (places_of (get_or rows i d).items) ≤ sum_by reach_of (all_places rows)
+pub places-within : (rows : List (Vec Place)) (i : ℕ) (d : Vec Place) → i < length rows
+    → reach_of (places_of (get_or rows i d).items) ≤ sum_by reach_of (all_places rows)
 places-within [] i d within = absurd (omega arith)
 places-within (row ∷ rows) zero d within = omega (arith, sum_by-cons reach_of (places_of row.items) (all_places rows))
-places-within (row ∷ rows) (suc i) d within = omega (arith, sum_by-cons reach_of (places_of row.items) (all_places rows), places-within rows i d (omega arith))
+places-within (row ∷ rows) (suc i) d within =
+    omega (arith, sum_by-cons reach_of (places_of row.items) (all_places rows), places-within rows i d (omega arith))
 
 -- one more record, and what the prefix earns in those so far
 utility-alone : (places : Places) → unwrap_or (grown_best [] [] places) (pos 0) ≡ unwrap_or (best_of places) (pos 0)
 utility-alone places = ap (λ b. unwrap_or b (pos 0)) (grown_best-alone places)
 
 pub utility-more : (rows : List (Vec Place)) (i : ℕ) (d : Vec Place) → i < length rows
-    → grown_utility (all_places (take (suc i) rows)) [] [] ≡ grown_utility (all_places (take i rows)) [] [] +ℤ unwrap_or (best_of (places_of (get_or rows i d).items)) (pos 0)
+    → grown_utility (all_places (take (suc i) rows)) [] []
+    ≡ grown_utility (all_places (take i rows)) [] [] +ℤ unwrap_or (best_of (places_of (get_or rows i d).items)) (pos 0)
 utility-more [] i d within = absurd (omega arith)
 utility-more (row ∷ rows) zero d within = let alone = utility-alone (places_of row.items) in omega (arith, ints)
 utility-more (row ∷ rows) (suc i) d within = let ih = utility-more rows i d (omega arith) in omega (arith, ints)
@@ -85,7 +90,8 @@ utility-within (row ∷ rows) (suc i) =
     omega (arith, ints, sum_by-cons reach_of (places_of row.items) (all_places rows))
 
 pub sum-within : (rows : List (Vec Place)) (i : ℕ) (d : Vec Place) → i < length rows
-    → unsigned_abs (grown_utility (all_places (take i rows)) [] [] +ℤ unwrap_or (best_of (places_of (get_or rows i d).items)) (pos 0)) ≤ sum_by reach_of (all_places rows)
+    → unsigned_abs (grown_utility (all_places (take i rows)) [] [] +ℤ unwrap_or (best_of (places_of (get_or rows i d).items)) (pos 0))
+    ≤ sum_by reach_of (all_places rows)
 sum-within rows i d within = rw (← utility-more rows i d within) (utility-within rows (suc i))
 
 -- a step leads from places to places
@@ -107,12 +113,14 @@ joined-pushed [] (row ∷ rows, cells) places = refl
 joined-pushed (first ∷ taken) place places = append_assoc (first ∷ taken) (place ∷ []) places
 
 -- one more place is taken
-places-drop : (places : List Place) (k : ℕ) (d : Place) → k < length places → places_of (drop k places) ≡ place_of (get_or places k d) ∷ places_of (drop (suc k) places)
+places-drop : (places : List Place) (k : ℕ) (d : Place) → k < length places
+    → places_of (drop k places) ≡ place_of (get_or places k d) ∷ places_of (drop (suc k) places)
 places-drop places k d within = ap places_of (drop-cons places k d within)
 
 -- the row of a whole itemset after the best sum before it
-pub AreRows-fresh : (places : List Place) (k : ℕ) (d : Place) (best : Option ℤ) → AreAscending (places_of places) → reach_of (places_of places) < 2 ^ 127 → k < length places
-    → max (ahead unsigned_abs best (sum_by absolute_of (itemsets_of (places_of (drop k places))))) (reach_of (places_of (drop k places))) ≤ reach_of (places_of places)
+pub AreRows-fresh : (places : List Place) (k : ℕ) (d : Place) (best : Option ℤ) → AreAscending (places_of places)
+    → reach_of (places_of places) < 2 ^ 127 → k < length places
+    → reach_with best (places_of (drop k places)) ≤ reach_of (places_of places)
     → AreRows (fresh best (pairs_of (get_or places k d).cells.now))
 AreRows-fresh places k d best up fits within ahead_fits =
     let cells = pairs_of (get_or places k d).cells.now in
@@ -125,12 +133,14 @@ AreRows-fresh places k d best up fits within ahead_fits =
       sum_fits = omega (arith, weight best cells, more, first, ahead_fits, fits);
     }
   where
-    weight : (b : Option ℤ) (cells : List (ℕ × ℤ)) → sum_by weight_of (fresh b cells) ≤ ahead unsigned_abs b (absolute_of cells)
+    weight : (b : Option ℤ) (cells : Cells) → sum_by weight_of (fresh b cells) ≤ ahead unsigned_abs b (absolute_of cells)
     weight None cells = omega arith
     weight (Some x) cells = omega arith
 
-pub joined-next : (places : List Place) (k item : ℕ) (d : Place) (best next : Option ℤ) (taken grown whole : Places) → k < length places → joined taken (after item best (places_of (drop k places))) ≡ whole
-    → grown ≡ pushed taken (grown_rows item (fresh best (pairs_of (get_or places k d).cells.now)), pairs_of (get_or places k d).cells.now) → next ≡ better best (best_sum (rows_in (get_or places k d).end))
+pub joined-next : (places : List Place) (k item : ℕ) (d : Place) (best next : Option ℤ) (taken grown whole : Places) → k < length places
+    → joined taken (after item best (places_of (drop k places))) ≡ whole
+    → grown ≡ pushed taken (grown_rows item (fresh best (pairs_of (get_or places k d).cells.now)), pairs_of (get_or places k d).cells.now)
+    → next ≡ better best (best_sum (rows_in (get_or places k d).end))
     → joined grown (after item next (places_of (drop (k + 1) places))) ≡ whole
 joined-next places k item d best next taken grown whole within so_far more e =
     let cells = pairs_of (get_or places k d).cells.now in
@@ -143,30 +153,30 @@ joined-next places k item d best next taken grown whole within so_far more e =
     ∙ so_far)
 
 pub within-next : (places : List Place) (k : ℕ) (d : Place) (best next : Option ℤ) (bound : ℕ) → k < length places
-    → max (ahead unsigned_abs best (sum_by absolute_of (itemsets_of (places_of (drop k places))))) (reach_of (places_of (drop k places))) ≤ bound → next ≡ better best (best_sum (rows_in (get_or places k d).end))
-    → max (ahead unsigned_abs next (sum_by absolute_of (itemsets_of (places_of (drop (k + 1) places))))) (reach_of (places_of (drop (k + 1) places))) ≤ bound
+    → reach_with best (places_of (drop k places)) ≤ bound → next ≡ better best (best_sum (rows_in (get_or places k d).end))
+    → reach_with next (places_of (drop (k + 1) places)) ≤ bound
 within-next places k d best next bound within so_far e =
-    let P : Places → Type 0 = λ ss. max (ahead unsigned_abs best (sum_by absolute_of (itemsets_of ss))) (reach_of ss) ≤ bound in
+    let P : Places → Type 0 = λ ss. reach_with best ss ≤ bound in
     let here = subst P (places-drop places k d within) so_far in
     let step = next-within best (place_of (get_or places k d)) (places_of (drop (suc k) places)) in
     rw (add-one, e) (omega arith)
 
 -- the places of the empty prefix
-reach-later : (elements : List (List (ℕ × ℤ))) → reach_of (map (λ cells. ([], cells)) elements) ≡ 0
+reach-later : (elements : List Cells) → reach_of (map (λ cells. ([], cells)) elements) ≡ 0
 reach-later [] = refl
 reach-later (e ∷ es) = let ih = reach-later es in omega arith
 
-itemsets-later : (elements : List (List (ℕ × ℤ))) → itemsets_of (map (λ cells. ([], cells)) elements) ≡ elements
+itemsets-later : (elements : List Cells) → itemsets_of (map (λ cells. ([], cells)) elements) ≡ elements
 itemsets-later [] = refl
 itemsets-later (e ∷ es) = ap (λ ds. e ∷ ds) (itemsets-later es)
 
-reach-first : (elements : List (List (ℕ × ℤ))) → reach_of (first_places elements) ≤ sum_by absolute_of elements
+reach-first : (elements : List Cells) → reach_of (first_places elements) ≤ sum_by absolute_of elements
 reach-first elements =
     let later = reach-later elements in
     let same = ap (λ es. sum_by absolute_of es) (itemsets-later elements) in
     omega arith
 
-reaches-first : (records : List (List (List (ℕ × ℤ)))) → sum_by reach_of (map first_places records) ≤ sum_by (sum_by absolute_of) records
+reaches-first : (records : List (List Cells)) → sum_by reach_of (map first_places records) ≤ sum_by (sum_by absolute_of) records
 reaches-first [] = omega arith
 reaches-first (r ∷ records) = omega (
   arith,
@@ -176,11 +186,11 @@ reaches-first (r ∷ records) = omega (
   reaches-first records,
 )
 
-begun-first : (records : List (List (List (ℕ × ℤ)))) → AllByRecursion IsBegun (map first_places records)
+begun-first : (records : List (List Cells)) → AllByRecursion IsBegun (map first_places records)
 begun-first [] = tt
 begun-first (r ∷ records) = (tt, begun-first records)
 
-pub ArePlaces-first : (rows : List (Vec Place)) (records : List (List (List (ℕ × ℤ)))) → all_places rows ≡ map first_places records
+pub ArePlaces-first : (rows : List (Vec Place)) (records : List (List Cells)) → all_places rows ≡ map first_places records
     → AllByRecursion AreAscending (all_places rows) → sum_by (sum_by absolute_of) records < 2 ^ 127 → ArePlaces (all_places rows)
 ArePlaces-first rows records is up fits = record {
   begin = subst (λ rs. AllByRecursion IsBegun rs) (sym is) (begun-first records);
@@ -188,16 +198,17 @@ ArePlaces-first rows records is up fits = record {
   sum_fits = omega (arith, ap (sum_by reach_of) is, reaches-first records, fits);
 }
 
-later-rising : (elements : List (List (ℕ × ℤ))) → AreAscending (map (λ cells. ([], cells)) elements) → AreRising elements
+later-rising : (elements : List Cells) → AreAscending (map (λ cells. ([], cells)) elements) → AreRising elements
 later-rising [] up = tt
 later-rising (e ∷ es) up = (up.0.1, later-rising es up.1)
 
-pub records-rising : (records : List (List (List (ℕ × ℤ)))) → AllByRecursion AreAscending (map first_places records) → AllByRecursion AreRising records
+pub records-rising : (records : List (List Cells)) → AllByRecursion AreAscending (map first_places records) → AllByRecursion AreRising records
 records-rising [] up = tt
 records-rising (r ∷ records) up = (later-rising r up.0.1, records-rising records up.1)
 
 -- one more place whose items ascend, and in which the prefix doesn't end
-pub ascending_place : (places : List Place) (place : Place) (cells : List (ℕ × ℤ)) → AreAscending (places_of places) → IsItemset cells → pairs_of place.cells.now ≡ cells → place.end ≡ None
+pub ascending_place : (places : List Place) (place : Place) (cells : Cells) → AreAscending (places_of places) → IsItemset cells
+    → pairs_of place.cells.now ≡ cells → place.end ≡ None
     → AreAscending (places_of (places ++ place ∷ []))
 ascending_place [] place cells all is same none =
     let rows : rows_in place.end ≡ [] = ap (λ e. rows_in e) none in
@@ -205,7 +216,9 @@ ascending_place [] place cells all is same none =
 ascending_place (s ∷ places) place cells all is same none = (all.0, ascending_place places place cells all.1 is same none)
 
 -- what `pop` leaves of an ended key
-pub popped_closed : (r : Option ℤ) (old new before : List ℤ) → old ≡ closed before → IsNone r ↔ (old ≡ []) → IfSome r (λ m. old ≡ new ++ m ∷ []) → IfNone r (new ≡ old) → new ≡ before
+pub popped_closed : (r : Option ℤ) (old new before : List ℤ) → old ≡ closed before → IsNone r ↔ (old ≡ [])
+    → IfSome r (λ m. old ≡ new ++ m ∷ [])
+    → IfNone r (new ≡ old) → new ≡ before
 popped_closed None old new [] e empty last kept = kept ∙ e
 popped_closed (Some m) old new [] e empty last kept = absurd (omega (arith, ap length (sym last ∙ e), length-append new (m ∷ [])))
 popped_closed r old new (n ∷ ns) e empty last kept = popped r old new (n ∷ ns) (negsuc 0) e empty last
@@ -230,21 +243,28 @@ HasSteps-from rows join follow steps up joins follows is step some = subst (λ s
         Contains-append_right (map step_into join) (map step_after follow) (step_after item) (among step_after item follow n)
 
 -- whether a step is taken in some record
-pub none-stepped : (grown : List (Vec Place)) (n : ℕ) (rows : List Places) → all_places grown ≡ rows → n ≡ length grown → eqb n 0 ≡ true → length rows ≡ 0
-none-stepped [] n rows is len none = sym (ap length is)
-none-stepped (places ∷ grown) n rows is len none = absurd (omega (arith, eqb-true n 0 none))
+length-places : (grown : Vec (Vec Place)) (rows : List Places) → all_places grown.items ≡ rows → length rows ≡ grown.len
+length-places grown rows is =
+    let same = sym (ap length is) ∙ length-map grown.items (λ (places : Vec Place). places_of places.items) in
+    omega (arith, same, grown.ok)
 
-pub some-stepped : (grown : List (Vec Place)) (n : ℕ) (rows : List Places) → all_places grown ≡ rows → n ≡ length grown → eqb n 0 ≡ false → 0 < length rows
-some-stepped [] n rows is len some = absurd (eqb-false n 0 some len)
-some-stepped (places ∷ grown) n rows is len some = omega (arith, ap length is)
+pub none-stepped : (grown : Vec (Vec Place)) (rows : List Places) → all_places grown.items ≡ rows → eqb grown.len 0 ≡ true → length rows ≡ 0
+none-stepped grown rows is none = length-places grown rows is ∙ eqb-true grown.len 0 none
+
+pub some-stepped : (grown : Vec (Vec Place)) (rows : List Places) → all_places grown.items ≡ rows → eqb grown.len 0 ≡ false → 0 < length rows
+some-stepped grown rows is some = elim (cases_lt 0 (length rows)) [
+  | inl more ↦ more
+  | inr none ↦ absurd (eqb-false grown.len 0 some (omega (arith, none, length-places grown rows is)))
+]
 
 -- the entry of the prefix itself
-pub own_entry : (prefix key : List ℤ) (rows : List (Vec Place)) (utility : ℤ) → key ≡ closed prefix → utility ≡ grown_utility (all_places rows) [] []
+pub own_entry : (prefix key : List ℤ) (rows : List (Vec Place)) (utility : ℤ) → key ≡ closed prefix
+    → utility ≡ grown_utility (all_places rows) [] []
     → entry_with key utility (length rows) ≡ prefix_entry prefix (all_places rows)
 own_entry prefix key rows utility k u = let count = length-map rows (λ (places : Vec Place). places_of places.items) in cc
 
 -- the sequences that grow the empty prefix in all records are those of the records
-pub patterns-first : (prefix : List ℤ) (rows : List Places) (records : List (List (List (ℕ × ℤ)))) → prefix ≡ [] → rows ≡ map first_places records
+pub patterns-first : (prefix : List ℤ) (rows : List Places) (records : List (List Cells)) → prefix ≡ [] → rows ≡ map first_places records
     → AllByRecursion AreAscending rows → (entry : Entry) → Grows prefix rows entry ↔ Contains (sequence_patterns records) entry
 patterns-first prefix rows records none first up entry =
     let rising = records-rising records (subst (AllByRecursion AreAscending) first up) in (

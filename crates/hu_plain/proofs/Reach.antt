@@ -6,7 +6,7 @@ use Rattle.std.proofs.lemmas.Int.{ints, clamps}
 use Rattle.std.proofs.lemmas.List.Sums.{sum_by-cons, sum_by-append}
 use Rattle.hu_kind.specs.Record.{absolute_of}
 use Rattle.hu_kind.specs.Sequence.{better}
-use Rattle.hu_plain.specs.Row.{RowOf, grown_row, grown_rows}
+use Rattle.hu_plain.specs.Row.{Cells, RowOf, grown_row, grown_rows}
 use Rattle.hu_plain.specs.declared.places.Step.{Step}
 use Rattle.hu_plain.specs.declared.places.Step.TheVariants.{Into, After}
 use Rattle.hu_plain.specs.Place.{PlaceOf, Places, after, all_stepped, begun, best_of, best_sum, fresh, into, itemsets_of, occurs_at, reach, reach_of, stepped, IsBegun}
@@ -24,8 +24,8 @@ ahead-upto h None n m upto = omega arith
 ahead-upto h (Some x) n m upto = omega arith
 
 -- a step costs k at least, and a greater sum counts no more than one of the two
-module _ (h : ℤ → ℕ) (g : List (ℕ × ℤ) → ℕ) (k : ℕ)
-    (costs : (item : ℕ) (sum : ℤ) (cells : List (ℕ × ℤ)) (c : Cut item sum cells) → (h (sum +ℤ c.value) + g c.rest) + k ≤ h sum + g cells)
+module _ (h : ℤ → ℕ) (g : Cells → ℕ) (k : ℕ)
+    (costs : (item : ℕ) (sum : ℤ) (cells : Cells) (c : Cut item sum cells) → (h (sum +ℤ c.value) + g c.rest) + k ≤ h sum + g cells)
     (bounded : (x y : ℤ) → h (int_max x y) ≤ max (h x) (h y)) where
   -- what rows of one itemset count for, with what comes after it
   abbrev counted_rows : ℕ → List RowOf → ℕ
@@ -69,7 +69,7 @@ module _ (h : ℤ → ℕ) (g : List (ℕ × ℤ) → ℕ) (k : ℕ)
       let ih = sums-ahead n rows in
       omega arith
 
-  rows-fresh : (n item : ℕ) (best : Option ℤ) (cells : List (ℕ × ℤ)) → counted_rows n (grown_rows item (fresh best cells)) ≤ ahead h best (g cells + n) - k
+  rows-fresh : (n item : ℕ) (best : Option ℤ) (cells : Cells) → counted_rows n (grown_rows item (fresh best cells)) ≤ ahead h best (g cells + n) - k
   rows-fresh n item None cells = omega arith
   rows-fresh n item (Some x) cells = let one = rows-grown n item ((x, cells) ∷ []) in omega arith
 
@@ -119,7 +119,7 @@ module _ (h : ℤ → ℕ) (g : List (ℕ × ℤ) → ℕ) (k : ℕ)
   reach-stepped (After item) places = omega (arith, reach-begun (after item.0 None places), reach-after item.0 None places)
 
 -- by absolute values a step costs nothing at least
-weights-costs : (item : ℕ) (sum : ℤ) (cells : List (ℕ × ℤ)) (c : Cut item sum cells)
+weights-costs : (item : ℕ) (sum : ℤ) (cells : Cells) (c : Cut item sum cells)
     → (unsigned_abs (sum +ℤ c.value) + absolute_of c.rest) + 0 ≤ unsigned_abs sum + absolute_of cells
 weights-costs item sum cells c = let weight = c.weight in omega (arith, ints)
 
@@ -133,9 +133,12 @@ best-within places = within (best_of places) (best-reach unsigned_abs absolute_o
     within None h = omega arith
     within (Some x) h = omega arith
 
+-- what places reach, and a sum with all that is ahead of it
+abbrev pub reach_with : Option ℤ → Places → ℕ
+reach_with best places = max (ahead unsigned_abs best (sum_by absolute_of (itemsets_of places))) (reach_of places)
+
 pub next-within : (best : Option ℤ) (place : PlaceOf) (places : Places)
-    → max (ahead unsigned_abs (better best (best_sum place.0)) (sum_by absolute_of (itemsets_of places))) (reach_of places)
-    ≤ max (ahead unsigned_abs best (sum_by absolute_of (itemsets_of (place ∷ places)))) (reach_of (place ∷ places))
+    → reach_with (better best (best_sum place.0)) places ≤ reach_with best (place ∷ places)
 next-within = next-ahead unsigned_abs absolute_of 0 weights-costs weights-bounded
 
 -- how much is left to be searched: by cells, where a step costs one

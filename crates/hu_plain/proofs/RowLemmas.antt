@@ -18,7 +18,7 @@ use Rattle.hu_kind.proofs.lemmas.Ascending.{Ascend-adjacent}
 use Rattle.hu_kind.proofs.lemmas.Members.{Member, Member-map, Member-from_map, Contains-from_member, Member-from_contains}
 use Rattle.hu_collect.specs.Laws.{SameMembers}
 use Rattle.hu_plain.specs.declared.row.Row.{Row}
-use Rattle.hu_plain.specs.Row.{RowOf, earned, weight_of, AreRows, IsRising}
+use Rattle.hu_plain.specs.Row.{Cells, RowOf, earned, weight_of, AreRows, IsRising}
 use Rattle.hu_plain.specs.View.{row_of, rows_of, first_row, numbers_of}
 
 -- a row's weight is within the sum
@@ -53,7 +53,8 @@ sum-within rows i d within = rw (← earned-more rows i d within) (earned-within
 exact_item : (x y : Item) → on (λ (item : Item). item.0) nat_eq x y ≡ true → x ≡ y
 exact_item x y h = let item : ℕ → Item = λ n. record { 0 = n } in ap item (eqb-true x.0 y.0 h)
 
-pub SameMembers-dedup : (items kept : List Item) → IsFiltered (DiffersFromLast (on (λ (item : Item). item.0) nat_eq)) [] items kept → SameMembers items kept
+pub SameMembers-dedup : (items kept : List Item) → IsFiltered (DiffersFromLast (on (λ (item : Item). item.0) nat_eq)) [] items kept
+    → SameMembers items kept
 SameMembers-dedup items kept filtered item =
     let same = on (λ (item : Item). item.0) nat_eq in
     let is = dedup_is same items kept filtered in (
@@ -99,13 +100,13 @@ number-of_item item items c =
     Contains-from_member item.0 (numbers_of items) (Member-map number item items (Member-from_contains item items c))
 
 -- one more row whose cells ascend
-pub rising_push : (rows : List Row) (row : Row) (cells : List (ℕ × ℤ)) → AllByRecursion IsRising (rows_of rows) → IsRecord cells
+pub rising_push : (rows : List Row) (row : Row) (cells : Cells) → AllByRecursion IsRising (rows_of rows) → IsRecord cells
     → pairs_of row.tail.now ≡ cells → AllByRecursion IsRising (rows_of (rows ++ row ∷ []))
 rising_push [] row cells all is same = (subst (λ cs. Ascend (items_in cs)) (sym same) (Ascend-adjacent cells is.itemset.ascending), tt)
 rising_push (r ∷ rows) row cells all is same = (all.0, rising_push rows row cells all.1 is same)
 
 -- the rows of the empty prefix weigh as much as the records
-weights-first : (records : List (List (ℕ × ℤ))) → sum_by weight_of (map first_row records) ≡ sum_by absolute_of records
+weights-first : (records : List Cells) → sum_by weight_of (map first_row records) ≡ sum_by absolute_of records
 weights-first [] = refl
 weights-first (r ∷ records) = omega (
   arith,
@@ -114,7 +115,7 @@ weights-first (r ∷ records) = omega (
   weights-first records,
 )
 
-pub AreRows-first : (rows : List Row) (records : List (List (ℕ × ℤ))) → rows_of rows ≡ map first_row records
+pub AreRows-first : (rows : List Row) (records : List Cells) → rows_of rows ≡ map first_row records
     → AllByRecursion IsRising (rows_of rows) → sum_by absolute_of records < 2 ^ 127 → AreRows (rows_of rows)
 AreRows-first rows records is up fits = record {
   ascending = up;

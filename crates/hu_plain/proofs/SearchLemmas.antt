@@ -1,13 +1,11 @@
 -- What a search makes of a prefix.
-use Rattle.std.proofs.Common.{◌≡◌, ◌+◌, ℕ, ◌<◌, ℤ, Result, Ok, Err, OnErr, Option, None, Some, IsNone, IfSome, length-append, List, [], ◌∷◌, ◌++◌, length, refl, sym, ap, ◌∙◌, arith, ◌↔◌, append-nil}
-use Rattle.std.proofs.lemmas.List.{same_from_push}
+use Rattle.std.proofs.Common.{◌≡◌, ◌+◌, ℕ, ◌<◌, ℤ, Option, None, Some, IsNone, IfSome, length-append, List, [], ◌∷◌, ◌++◌, length, refl, sym, ap, ◌∙◌, arith, ◌↔◌, append-nil}
+use Rattle.std.proofs.lemmas.List.{length-map, same_from_push}
 use Rattle.hu_kind.specs.declared.entry.Entry.{Entry}
 use Rattle.hu_plain.specs.declared.row.Row.{Row}
 use Rattle.hu_plain.specs.Row.{earned, grown_entry}
-use Rattle.hu_plain.specs.View.{rows_of}
+use Rattle.hu_plain.specs.View.{row_of, rows_of}
 use Rattle.hu_plain.proofs.Growth.{support-none}
-use Rattle.std.proofs.lemmas.List.{length-map}
-use Rattle.hu_plain.specs.View.{row_of}
 
 -- an entry with these fields
 abbrev pub entry_with : List ℤ → ℤ → ℕ → Entry
@@ -21,12 +19,8 @@ own_entry prefix key rows utility k u =
     let count = support-none (rows_of rows) ∙ length-map rows row_of in
     cc
 
--- a claim of failure holds where its fact does
-pub on_err : {T E : Type 0} (r : Result T E) (P : Type 0) → P → OnErr r P
-on_err (Ok x) P p = tt
-on_err (Err e) P p = p
-
 -- what `pop` leaves of a list with one more number
-pub popped : (r : Option ℤ) (old new p : List ℤ) (n : ℤ) → old ≡ p ++ n ∷ [] → IsNone r ↔ (old ≡ []) → IfSome r (λ m. old ≡ new ++ m ∷ []) → new ≡ p
+pub popped : (r : Option ℤ) (old new p : List ℤ) (n : ℤ) → old ≡ p ++ n ∷ [] → IsNone r ↔ (old ≡ [])
+    → IfSome r (λ m. old ≡ new ++ m ∷ []) → new ≡ p
 popped None old new p n e empty last = absurd (omega (arith, ap length (sym e ∙ empty.0 refl), length-append p (n ∷ [])))
 popped (Some m) old new p n e empty last = (same_from_push new p m n (sym last ∙ e)).0

@@ -3,8 +3,20 @@ use Rattle.std.proofs.Common.{◌≡◌, ℕ, ◌<◌, ◌≤◌, ◌+◌, List,
 use Rattle.std.proofs.lemmas.List.{take_all, take_more, take-append-drop}
 use Rattle.std.proofs.lemmas.List.Elements.{Contains-get_or, Contains-append_left, Contains-push, Contains-push_cases}
 use Rattle.hu_kind.specs.declared.entry.Entry.{Entry}
-use Rattle.hu_collect.specs.State.{State, IsInOrder, Reached, ReachedSome}
-use Rattle.hu_collect.proofs.lemmas.Searching.{empty-contains, reached-in_order, reached-none, reached-then, reached-as, some-reached, some-then}
+use Rattle.hu_collect.specs.State.{State, offered, IsInOrder, Reached, ReachedSome}
+use Rattle.hu_collect.proofs.lemmas.Searching.{empty-contains, reached-in_order, reached-none, reached-one, reached-both, reached-then, reached-as, some-reached, some-then}
+
+-- an entry was offered, and then all that have a property
+pub own-ordered : (old mid : State) (own : Entry) → mid ≡ offered old (own ∷ []) → IsInOrder mid
+own-ordered old mid own is = reached-in_order (reached-one old own mid is)
+
+module _ {P : Entry → Type 0} {old mid new : State} (own : Entry) where
+  pub own-then : IsInOrder old → mid ≡ offered old (own ∷ []) → Reached mid P new → Reached old (λ e. (own ≡ e) ⊎ P e) new
+  own-then ordered is found = reached-both {P = λ e. own ≡ e} {Q = P} ordered (reached-one old own mid is) found
+
+  pub own-some : mid ≡ offered old (own ∷ []) → ReachedSome mid P new → ReachedSome old (λ e. (own ≡ e) ⊎ P e) new
+  own-some is found =
+      some-then {P = λ e. own ≡ e} {Q = P} {R = λ e. (own ≡ e) ⊎ P e} (λ e p. inl p) (λ e q. inr q) (reached-one old own mid is) found
 
 -- an entry is of one of these parts, where E tells an entry of a part
 pub record OfOne {S : Type 0} (E : S → Entry → Type 0) (parts : List S) (entry : Entry) : Type 0 where
@@ -34,7 +46,9 @@ module _ {S : Type 0} {E : S → Entry → Type 0} {P : Entry → Type 0} {parts
 
   module _ {old now : State} {i : ℕ} (so_far : IsSoFar E P old now parts i) where
     sound-front : (entry : Entry) → OfOne E (take i parts) entry → P entry
-    sound-front entry of = let whole = so_far.whole in whole.sound entry (record { part = of.part; among = front i parts of.part of.among; is = of.is })
+    sound-front entry of =
+        let whole = so_far.whole in
+        whole.sound entry (record { part = of.part; among = front i parts of.part of.among; is = of.is })
 
     pub so_far-ordered : IsInOrder now
     so_far-ordered = reached-in_order so_far.reached

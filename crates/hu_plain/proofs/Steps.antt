@@ -13,7 +13,7 @@ use Rattle.hu_kind.proofs.lemmas.Members.{Member, Member-append_left, Member-app
 use Rattle.hu_kind.proofs.lemmas.Occurring.{at_member, by_members, counted, holds-members}
 use Rattle.hu_plain.specs.declared.places.Step.{Step}
 use Rattle.hu_plain.specs.declared.places.Step.TheVariants.{Into, After}
-use Rattle.hu_plain.specs.Row.{RowOf, IsRising}
+use Rattle.hu_plain.specs.Row.{Cells, RowOf, IsRising}
 use Rattle.hu_plain.specs.Growth.{closed, grown_support, grown_utility, growth_entry, prefix_entry, stepped_key, IsSet, Grows, IsGrowth}
 use Rattle.hu_plain.specs.Place.{PlaceOf, Places, after, all_stepped, begun, best_from, best_of, best_sum, fresh, grown_best, into, itemsets_of, occurs_at, stepped, IsAscending, AreAscending, IsBegun}
 use Rattle.hu_plain.specs.PlaceView.{following, joining, HasSteps}
@@ -53,12 +53,14 @@ grown_best-stepped (After item) items rest places up above =
 
 -- over all records: one without places holds no growth
 utility-cons : (items : List ℕ) (rest : List (List ℕ)) (places : Places) (rows : List Places)
-    → grown_utility (cond (occurs_at places) (places ∷ rows) rows) items rest ≡ unwrap_or (grown_best items rest places) (pos 0) +ℤ grown_utility rows items rest
+    → grown_utility (cond (occurs_at places) (places ∷ rows) rows) items rest
+    ≡ unwrap_or (grown_best items rest places) (pos 0) +ℤ grown_utility rows items rest
 utility-cons items rest [] rows = omega (arith, ints)
 utility-cons items rest (place ∷ places) rows = refl
 
 support-cons : (items : List ℕ) (rest : List (List ℕ)) (places : Places) (rows : List Places)
-    → grown_support (cond (occurs_at places) (places ∷ rows) rows) items rest ≡ cond (is_some (grown_best items rest places)) 1 0 + grown_support rows items rest
+    → grown_support (cond (occurs_at places) (places ∷ rows) rows) items rest
+    ≡ cond (is_some (grown_best items rest places)) 1 0 + grown_support rows items rest
 support-cons items rest [] rows = omega arith
 support-cons items rest (place ∷ places) rows = sum_by-cons (λ s. cond (is_some (grown_best items rest s)) 1 0) (place ∷ places) rows
 
@@ -99,7 +101,8 @@ key-stepped prefix (After item) items rest =
 -- the entry of a growth is that of what is left of it after the step
 entry-stepped : (prefix : List ℤ) (step : Step) (items : List ℕ) (rest : List (List ℕ)) (rows : List Places) → AllByRecursion AreAscending rows
     → AllAbove (item_of_step step) items
-    → growth_entry (stepped_key prefix step) (all_stepped step rows) items rest ≡ growth_entry prefix rows (items_before step items) (rest_before step items rest)
+    → growth_entry (stepped_key prefix step) (all_stepped step rows) items rest
+    ≡ growth_entry prefix rows (items_before step items) (rest_before step items rest)
 entry-stepped prefix step items rest rows up above =
     let k = key-stepped prefix step items rest in
     let u = utility-stepped step items rest above rows up in
@@ -109,7 +112,8 @@ entry-stepped prefix step items rest rows up above =
 -- ---- what places are after a step
 
 -- what holds of the places of each record after a step
-pub each-stepped : (P Q : Places → Type 0) (step : Step) (rows : List Places) → ((places : Places) → P places → occurs_at (stepped step places) ≡ true → Q (stepped step places))
+pub each-stepped : (P Q : Places → Type 0) (step : Step) (rows : List Places)
+    → ((places : Places) → P places → occurs_at (stepped step places) ≡ true → Q (stepped step places))
     → AllByRecursion P rows → AllByRecursion Q (all_stepped step rows)
 each-stepped P Q step rows one all = by_members Q (all_stepped step rows) (λ places m.
     let kept = Member-from_filter occurs_at places (map (stepped step) rows) m in
@@ -138,7 +142,7 @@ each-begun P [] all = tt
 each-begun P (([], cells) ∷ places) all = each-begun P places all.1
 each-begun P ((row ∷ rows, cells) ∷ places) all = all
 
-pub rising-fresh : (best : Option ℤ) (cells : List (ℕ × ℤ)) → Ascend (items_in cells) → AllByRecursion IsRising (fresh best cells)
+pub rising-fresh : (best : Option ℤ) (cells : Cells) → Ascend (items_in cells) → AllByRecursion IsRising (fresh best cells)
 rising-fresh None cells up = tt
 rising-fresh (Some x) cells up = (up, tt)
 
@@ -159,7 +163,8 @@ cut-stepped (After item) places up = each-begun (IsCutAt item.0) (after item.0 N
 
 all-cut : (step : Step) (rows : List Places) → AllByRecursion AreAscending rows
     → AllByRecursion (λ places. AllByRecursion (IsCutAt (item_of_step step)) places) (all_stepped step rows)
-all-cut step rows up = each-stepped AreAscending (λ places. AllByRecursion (IsCutAt (item_of_step step)) places) step rows (λ places all some. cut-stepped step places all) up
+all-cut step rows up =
+    each-stepped AreAscending (λ places. AllByRecursion (IsCutAt (item_of_step step)) places) step rows (λ places all some. cut-stepped step places all) up
 
 pub ascending-stepped : (step : Step) (rows : List Places) → AllByRecursion AreAscending rows → AllByRecursion AreAscending (all_stepped step rows)
 ascending-stepped step rows up =
@@ -216,7 +221,7 @@ held_at items rest (place ∷ places) some =
     ]
 
 -- the items of a new itemset stand after the first place
-occurring-member : (item : ℕ) (items : List ℕ) (rest : List (List ℕ)) (elements : List (List (ℕ × ℤ)))
+occurring-member : (item : ℕ) (items : List ℕ) (rest : List (List ℕ)) (elements : List Cells)
     → is_some (best_utility ((item ∷ items) ∷ rest) elements) ≡ true → Member item (flat_map items_in elements)
 occurring-member item items rest [] some = cc
 occurring-member item items rest (e ∷ es) some =
@@ -237,7 +242,8 @@ later-some : (later : Option ℤ) (rows : List RowOf) → is_some (best_from [] 
 later-some later [] some = cc
 later-some later (row ∷ rows) some = elim (here_or_later [] later row rows some) [ inl here ↦ here.1 | inr there ↦ later-some later rows there ]
 
-following-some : (item : ℕ) (items : List ℕ) (rest : List (List ℕ)) (places : Places) → is_some (grown_best [] ((item ∷ items) ∷ rest) places) ≡ true
+following-some : (item : ℕ) (items : List ℕ) (rest : List (List ℕ)) (places : Places)
+    → is_some (grown_best [] ((item ∷ items) ∷ rest) places) ≡ true
     → Member item (following places)
 following-some item items rest [] some = cc
 following-some item items rest (place ∷ places) some =
@@ -285,7 +291,8 @@ some-before (After item) items rest = omega arith
 module _ (prefix : List ℤ) (rows : List Places) (up : AllByRecursion AreAscending rows) where
   -- what grows the prefix after a step grows it
   grows-before : (step : Step) (items : List ℕ) (rest : List (List ℕ)) (entry : Entry) → Ascend items → AllByRecursion IsSet rest
-      → 0 < grown_support (all_stepped step rows) items rest → growth_entry (stepped_key prefix step) (all_stepped step rows) items rest ≡ entry → Grows prefix rows entry
+      → 0 < grown_support (all_stepped step rows) items rest → growth_entry (stepped_key prefix step) (all_stepped step rows) items rest ≡ entry
+      → Grows prefix rows entry
   grows-before step items rest entry ascending itemsets occurs is =
       let above = above-occurs step items rest rows up occurs in
       record {
@@ -306,7 +313,8 @@ module _ (prefix : List ℤ) (rows : List Places) (up : AllByRecursion AreAscend
   begins-grows step entry (some, inr g) = grows-before step g.items g.rest entry g.ascending g.itemsets g.occurs g.is
 
   -- what grows the prefix begins with a step
-  begins-by : (step : Step) (items : List ℕ) (rest : List (List ℕ)) (entry : Entry) → AllAbove (item_of_step step) items → Ascend items → AllByRecursion IsSet rest
+  begins-by : (step : Step) (items : List ℕ) (rest : List (List ℕ)) (entry : Entry) → AllAbove (item_of_step step) items → Ascend items
+      → AllByRecursion IsSet rest
       → 0 < grown_support rows (items_before step items) (rest_before step items rest)
       → growth_entry prefix rows (items_before step items) (rest_before step items rest) ≡ entry → BeginsWith prefix rows step entry
   begins-by step items rest entry above ascending itemsets occurs is =
@@ -318,7 +326,8 @@ module _ (prefix : List ℤ) (rows : List Places) (up : AllByRecursion AreAscend
       long (r ∷ rs) some = omega arith
 
       by_rest : (is : List ℕ) (ss : List (List ℕ)) → Ascend is → AllByRecursion IsSet ss → 0 < grown_support (all_stepped step rows) is ss
-          → growth_entry (stepped_key prefix step) (all_stepped step rows) is ss ≡ entry → IsGrowth (stepped_key prefix step) (all_stepped step rows) entry
+          → growth_entry (stepped_key prefix step) (all_stepped step rows) is ss ≡ entry
+          → IsGrowth (stepped_key prefix step) (all_stepped step rows) entry
       by_rest [] [] a b some e = inl (sym (entry-alone (stepped_key prefix step) (all_stepped step rows) (begun-stepped step rows up)) ∙ e)
       by_rest (i ∷ is) ss a b some e = inr (record { items = i ∷ is; rest = ss; some = omega arith; ascending = a; itemsets = b; occurs = some; is = e })
       by_rest [] (s ∷ ss) a b some e = inr (record { items = []; rest = s ∷ ss; some = omega arith; ascending = a; itemsets = b; occurs = some; is = e })

@@ -6,11 +6,11 @@ use Rattle.hu_kind.specs.declared.item.Item.{Item}
 use Rattle.hu_kind.specs.Cell.{pairs_of}
 use Rattle.hu_plain.specs.declared.grown.Grown.{Grown}
 use Rattle.hu_plain.specs.declared.row.Row.{Row}
-use Rattle.hu_plain.specs.Row.{RowOf, grown_rows}
+use Rattle.hu_plain.specs.Row.{Cells, RowOf, grown_rows}
 use Rattle.hu_plain.specs.View.{row_of}
 
 -- what each item of a row's cells makes of the row
-abbrev pub grown_cells : ℤ → List (ℕ × ℤ) → List (ℕ × RowOf)
+abbrev pub grown_cells : ℤ → Cells → List (ℕ × RowOf)
 grown_cells sum [] = []
 grown_cells sum (cell ∷ cells) = (cell.0, (sum +ℤ cell.1, cells)) ∷ grown_cells sum cells
 

@@ -60,5 +60,6 @@ abbrev pub IsGrowth : List ℤ → List Places → Entry → Type 0
 IsGrowth prefix rows entry = (prefix_entry prefix rows ≡ entry) ⊎ Grows prefix rows entry
 
 -- `1 -1` grows by `2 -1` in the record `1[2] -1 1[5] -1 2[3] -1`
-pub grown_by_2 : growth_entry (pos 1 ∷ []) (after 1 None (first_places later_is_greatest) ∷ []) [] ((2 ∷ []) ∷ []) ≡ sequence_entry_of ((1 ∷ []) ∷ (2 ∷ []) ∷ []) 8 1
+pub grown_by_2 : growth_entry (pos 1 ∷ []) (after 1 None (first_places later_is_greatest) ∷ []) [] ((2 ∷ []) ∷ [])
+    ≡ sequence_entry_of ((1 ∷ []) ∷ (2 ∷ []) ∷ []) 8 1
 grown_by_2 = refl

@@ -10,17 +10,17 @@ use Rattle.hu_kind.specs.Sequence.{better, best_utility}
 use Rattle.hu_kind.specs.Order.{Ascend}
 use Rattle.hu_plain.specs.declared.places.Step.{Step}
 use Rattle.hu_plain.specs.declared.places.Step.TheVariants.{Into, After}
-use Rattle.hu_plain.specs.Row.{RowOf, grown_rows, IsRising}
+use Rattle.hu_plain.specs.Row.{Cells, RowOf, grown_rows, IsRising}
 
 -- a place as a pair, and the places of a record
 abbrev pub PlaceOf : Type 0
-PlaceOf = List RowOf × List (ℕ × ℤ)
+PlaceOf = List RowOf × Cells
 
 abbrev pub Places : Type 0
 Places = List PlaceOf
 
 -- the itemsets of places
-abbrev pub itemsets_of : Places → List (List (ℕ × ℤ))
+abbrev pub itemsets_of : Places → List Cells
 itemsets_of places = map (λ place. place.1) places
 
 -- the best that further items earn from rows of one itemset, where a given utility comes after it
@@ -48,7 +48,7 @@ best_of [] = None
 best_of (place ∷ places) = better (best_sum place.0) (best_of places)
 
 -- the row of a whole itemset after a sum, if there is one
-abbrev pub fresh : Option ℤ → List (ℕ × ℤ) → List RowOf
+abbrev pub fresh : Option ℤ → Cells → List RowOf
 fresh best cells = option_to_list (option_map (λ sum. (sum, cells)) best)
 
 -- the places of the prefix with an item in its last itemset
@@ -81,11 +81,11 @@ abbrev pub all_stepped : Step → List Places → List Places
 all_stepped step rows = filter occurs_at (map (stepped step) rows)
 
 -- the places of a record for the empty prefix
-abbrev pub first_places : List (List (ℕ × ℤ)) → Places
+abbrev pub first_places : List Cells → Places
 first_places elements = ((pos 0, []) ∷ [], []) ∷ map (λ cells. ([], cells)) elements
 
 -- the most that the sums and the cells after them come to at one place, by what a sum and an itemset count for
-abbrev pub reach : (ℤ → ℕ) → (List (ℕ × ℤ) → ℕ) → Places → ℕ
+abbrev pub reach : (ℤ → ℕ) → (Cells → ℕ) → Places → ℕ
 reach h g [] = 0
 reach h g (place ∷ places) = max
     (sum_by (λ row. (h row.0 + g row.1) + sum_by g (itemsets_of places)) place.0)

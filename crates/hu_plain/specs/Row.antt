@@ -9,9 +9,12 @@ use Rattle.hu_kind.specs.Itemsets.{occurring_sets}
 use Rattle.hu_kind.specs.Order.{Ascend}
 use Rattle.hu_kind.specs.Worked.{base_a, entry_of}
 
--- a row as a pair
+-- cells as pairs, and a row as a pair
+abbrev pub Cells : Type 0
+Cells = List (ℕ × ℤ)
+
 abbrev pub RowOf : Type 0
-RowOf = ℤ × List (ℕ × ℤ)
+RowOf = ℤ × Cells
 
 -- what a prefix and a set of later items earn in a row: 0 where its cells don't hold the set
 abbrev pub earned_in : List ℕ → RowOf → ℤ
@@ -23,7 +26,7 @@ earned [] items = pos 0
 earned (row ∷ rows) items = earned_in items row +ℤ earned rows items
 
 -- the cells after the prefix, row by row
-abbrev pub tails : List RowOf → List (List (ℕ × ℤ))
+abbrev pub tails : List RowOf → List Cells
 tails rows = map (λ row. row.1) rows
 
 -- the entry of a prefix with a set of later items
@@ -51,7 +54,7 @@ abbrev pub key_with : List ℤ → ℕ → List ℤ
 key_with prefix item = prefix ++ pos item ∷ []
 
 -- the row of a prefix with one more item, where the cells hold it
-abbrev pub grown_row : ℕ → ℤ → List (ℕ × ℤ) → List RowOf
+abbrev pub grown_row : ℕ → ℤ → Cells → List RowOf
 grown_row item sum [] = []
 grown_row item sum (cell ∷ cells) = if item == cell.0 then (sum +ℤ cell.1, cells) ∷ [] else grown_row item sum cells
 

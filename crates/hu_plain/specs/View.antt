@@ -3,7 +3,7 @@ use Rattle.std.specs.Prelude.{ℕ, ℤ, pos, List, map}
 use Rattle.hu_kind.specs.declared.item.Item.{Item}
 use Rattle.hu_kind.specs.Cell.{pairs_of}
 use Rattle.hu_plain.specs.declared.row.Row.{Row}
-use Rattle.hu_plain.specs.Row.{RowOf}
+use Rattle.hu_plain.specs.Row.{Cells, RowOf}
 
 -- a row as a pair
 abbrev pub row_of : Row → RowOf
@@ -14,7 +14,7 @@ abbrev pub rows_of : List Row → List RowOf
 rows_of rows = map row_of rows
 
 -- the row of the empty prefix in a record
-abbrev pub first_row : List (ℕ × ℤ) → RowOf
+abbrev pub first_row : Cells → RowOf
 first_row cells = (pos 0, cells)
 
 -- the numbers of items

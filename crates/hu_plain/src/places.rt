@@ -218,9 +218,15 @@ pub(crate) fn steps_of(alloc: Global, rows: &[Vec<Place<'_>>]) -> Result<Vec<Ste
     requires { ArePlaces (all_places rows.now) }
     ensures { IfOk result (λ steps. HasSteps (all_places rows.now) steps.items) }
 {
+    let mut joining = Vec::new(alloc);
+    let mut following = Vec::new(alloc);
+    for places in rows {
+        push_joining(&mut joining, places)?;
+        push_following(&mut following, places)?;
+    }
     let mut steps = Vec::new(alloc);
-    push_into(&mut steps, &joining_items(alloc, rows)?)?;
-    push_after(&mut steps, &following_items(alloc, rows)?)?;
+    push_into(&mut steps, &distinct(joining))?;
+    push_after(&mut steps, &distinct(following))?;
     Ok(steps)
 }
 
@@ -242,28 +248,6 @@ fn push_after(steps: &mut Vec<Step>, items: &[Item]) -> Result<(), NoMemory>
         steps.push(Step::After(*item))?;
     }
     Ok(())
-}
-
-/// The items that can join the last itemset in some record, each once.
-fn joining_items(alloc: Global, rows: &[Vec<Place<'_>>]) -> Result<Vec<Item>, NoMemory>
-    ensures { IfOk result (λ items. SameMembers (flat_map joining (all_places rows.now)) (numbers_of items.items)) }
-{
-    let mut items = Vec::new(alloc);
-    for places in rows {
-        push_joining(&mut items, places)?;
-    }
-    Ok(distinct(items))
-}
-
-/// The items that can begin a new itemset in some record, each once.
-fn following_items(alloc: Global, rows: &[Vec<Place<'_>>]) -> Result<Vec<Item>, NoMemory>
-    ensures { IfOk result (λ items. SameMembers (flat_map following (all_places rows.now)) (numbers_of items.items)) }
-{
-    let mut items = Vec::new(alloc);
-    for places in rows {
-        push_following(&mut items, places)?;
-    }
-    Ok(distinct(items))
 }
 
 /// Appends the items that can join the last itemset in a record.

@@ -19,5 +19,6 @@ returns c =
     let stable = c.in_ok-sort_by_key.ensures.stable item_at (always_returns_same _ _ _ (λ a r f' called. search rules)) in
     record {
       rising = IsNonDecreasingBy-from_sort_by_key item_at _ c.in_ok-sort_by_key.ensures.sorted (λ a r f' called. search rules);
-      each = each-sorted (rows_of rows) c.loop-row.grown.items c.sort_by_key.new.self.items c.requires.ascending (c.loop-row.invariant ∙ ap (λ rs. all_grown (rows_of rs)) all) stable;
+      each = each-sorted (rows_of rows) c.loop-row.grown.items c.sort_by_key.new.self.items c.requires.ascending
+          (c.loop-row.invariant ∙ ap (λ rs. all_grown (rows_of rs)) all) stable;
     }

@@ -1,16 +1,16 @@
-use Rattle.std.proofs.Common.{rules, ◌≡◌, ◌∙◌, ◌+◌, ◌*◌, ◌<◌, [], ◌∷◌, get_or, length, refl, sym, subst, inl, inr, arith}
+use Rattle.std.proofs.Common.{rules, ◌≡◌, ◌∙◌, ◌+◌, ◌*◌, ◌<◌, [], ◌∷◌, get_or, length, refl, sym, ap, subst, arith}
 use Rattle.std.proofs.lemmas.List.Elements.{Contains-get_or}
 use Rattle.hu_kind.specs.declared.entry.Entry.{Entry}
 use Rattle.hu_kind.specs.declared.item.Item.{Item}
 use Rattle.hu_collect.specs.State.{IsInOrder, Reached, ReachedSome}
-use Rattle.hu_collect.proofs.lemmas.Searching.{reached-one, reached-both, reached-in_order, some-then, stopped}
+use Rattle.hu_collect.proofs.lemmas.Searching.{stopped}
 use Rattle.hu_plain.specs.Row.{grown_entry, grown_rows, key_with, AreRows, Grows, IsGrowth}
 use Rattle.hu_plain.specs.View.{rows_of}
 use Rattle.hu_plain.specs.Grown.{AreGrown, AreItems}
 use Rattle.hu_plain.proofs.Growth.{cells_in, cells_in-grown_rows, AreRows-grown_rows}
 use Rattle.hu_plain.proofs.GrownLemmas.{items-grown, found-grown}
 use Rattle.hu_plain.proofs.Patterns.{begins-whole}
-use Rattle.hu_plain.proofs.SoFar.{so_far-none, so_far-ordered, so_far-stopped, so_far-all, so_far-next, so_far-some}
+use Rattle.hu_plain.proofs.SoFar.{own-ordered, own-then, own-some, so_far-none, so_far-ordered, so_far-stopped, so_far-all, so_far-next, so_far-some}
 use Rattle.hu_plain.proofs.items.+search.Goals as goal
 
 no_item : Item
@@ -22,7 +22,7 @@ pub enter-search-requires : goal.enter-search-requires
 enter-search-requires g t c κs within =
     let old = g.C.Collect.state c.args.collect.now in
     let mid = g.C.Collect.state c.offer.new.collect in
-    let ordered : IsInOrder mid = reached-in_order (reached-one old (grown_entry c.push.new.self (rows_of c.args.rows.now) []) mid c.in_ok-offer.ensures) in
+    let ordered : IsInOrder mid = own-ordered old mid (grown_entry c.push.new.self (rows_of c.args.rows.now) []) c.in_ok-offer.ensures in
     let cells = cells_in (rows_of c.args.rows.now) in
     let smaller : 2 * cells < 2 * cells + 1 = omega arith in
     search rules
@@ -30,39 +30,39 @@ enter-search-requires g t c κs within =
 pub enter-returns-in_err-search-clause-searches : goal.enter-returns-in_err-search-clause-searches
 enter-returns-in_err-search-clause-searches g t c =
     let old = g.C.Collect.state c.args.collect.now in
-    let mid = g.C.Collect.state c.offer.new.collect in
     let new = g.C.Collect.state c.search.new.collect in
     let rows = rows_of c.args.rows.now in
-    let own = grown_entry c.push.new.self rows [] in
-    let pushed : c.push.new.self ≡ key_with c.args.prefix.now c.args.item.0 = search rules in
+    let key = c.push.new.self in
+    let pushed : key ≡ key_with c.args.prefix.now c.args.item.0 = search rules in
     stopped {P = IsGrowth (key_with c.args.prefix.now c.args.item.0) rows} c.from_residual-in_err-search.result c.from_residual-in_err-search.ensures.0
-    (subst (λ key. ReachedSome old (IsGrowth key rows) new) pushed
-    (some-then {P = λ e. own ≡ e} {Q = Grows c.push.new.self rows} {R = IsGrowth c.push.new.self rows} (λ e p. inl p) (λ e q. inr q)
-    (reached-one old own mid c.in_ok-offer.ensures) c.in_err-search.ensures.searches))
+    (subst (λ p. ReachedSome old (IsGrowth p rows) new) pushed
+    (own-some {P = Grows key rows} (grown_entry key rows []) c.in_ok-offer.ensures c.in_err-search.ensures.searches))
 
 pub enter-returns-clause-searches : goal.enter-returns-clause-searches
 enter-returns-clause-searches g t c =
     let old = g.C.Collect.state c.args.collect.now in
-    let mid = g.C.Collect.state c.offer.new.collect in
     let new = g.C.Collect.state c.search.new.collect in
     let rows = rows_of c.args.rows.now in
-    let own = grown_entry c.push.new.self rows [] in
-    let pushed : c.push.new.self ≡ key_with c.args.prefix.now c.args.item.0 = search rules in
-    subst (λ key. Reached old (IsGrowth key rows) new) pushed
-    (reached-both {P = λ e. own ≡ e} {Q = Grows c.push.new.self rows} c.requires.in_order
-    (reached-one old own mid c.in_ok-offer.ensures) c.in_ok-search.ensures.searches)
+    let key = c.push.new.self in
+    let pushed : key ≡ key_with c.args.prefix.now c.args.item.0 = search rules in
+    subst (λ p. Reached old (IsGrowth p rows) new) pushed
+    (own-then {P = Grows key rows} (grown_entry key rows []) c.requires.in_order c.in_ok-offer.ensures c.in_ok-search.ensures.searches)
 
 -- ---- search
 
 pub search-items-init : goal.search-items-init
 search-items-init g t c =
     let rows = rows_of c.args.rows.now in
-    let all = c.in_ok-all.ensures in
     let items = c.deref-item-items.result.now in
-    let are : AreItems rows items =
-    subst (AreItems rows) (sym c.deref-item-items.ensures.value)
-    (items-grown rows c.deref.result.now c.in_ok-items.items.items (subst (AreGrown rows) (sym c.deref.ensures.value) c.in_ok-all.ensures) c.in_ok-items.ensures) in
-    record { prefix = refl; are = are; so_far = so_far-none (g.C.Collect.state c.args.collect.now) c.requires.in_order (begins-whole c.args.prefix.now rows c.requires.rows.ascending items are) }
+    let grown : AreGrown rows c.deref.result.now = subst (AreGrown rows) (sym c.deref.ensures.value) c.in_ok-all.ensures in
+    let are : AreItems rows items = subst (AreItems rows) (sym c.deref-item-items.ensures.value)
+    (items-grown rows c.deref.result.now c.in_ok-items.items.items grown c.in_ok-items.ensures) in
+    record {
+      prefix = refl;
+      are = are;
+      so_far = so_far-none (g.C.Collect.state c.args.collect.now) c.requires.in_order
+          (begins-whole c.args.prefix.now rows c.requires.rows.ascending items are);
+    }
 
 pub search-returns-in_err-grown-clause-searches : goal.search-returns-in_err-grown-clause-searches
 search-returns-in_err-grown-clause-searches g t c =
@@ -83,7 +83,7 @@ search-enter-requires g t c κs within =
     let ordered : IsInOrder (g.C.Collect.state c.items.collect) = so_far-ordered c.items.invariant.so_far in
     let some : 0 < length (grown_rows item.0 rows) = (c.items.invariant.are item).0 (Contains-get_or items c.items.item-index no_item c.items-test.true) in
     let fewer = cells_in-grown_rows item.0 rows in
-    let smaller : 2 * cells_in (rows_of found) + 1 < 2 * cells_in rows = subst (λ rs. 2 * cells_in rs + 1 < 2 * cells_in rows) (sym is) (omega (arith, some, fewer)) in
+    let smaller : 2 * cells_in (rows_of found) + 1 < 2 * cells_in rows = omega (arith, some, fewer, ap cells_in is) in
     search rules
 
 pub search-returns-in_err-enter-clause-searches : goal.search-returns-in_err-enter-clause-searches

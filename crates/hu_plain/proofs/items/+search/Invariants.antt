@@ -18,5 +18,6 @@ abbrev pub invariant-search-items : goal.invariant-search-items
 invariant-search-items g l = record {
   prefix : l.prefix ≡ l.fn.prefix;
   are : AreItems (rows_of l.rows) l.item-items;
-  so_far : IsSoFar (BeginsWith l.fn.prefix (rows_of l.rows)) (Grows l.fn.prefix (rows_of l.rows)) (g.C.Collect.state l.fn.collect) (g.C.Collect.state l.collect) l.item-items l.item-index;
+  so_far : IsSoFar (BeginsWith l.fn.prefix (rows_of l.rows)) (Grows l.fn.prefix (rows_of l.rows))
+      (g.C.Collect.state l.fn.collect) (g.C.Collect.state l.collect) l.item-items l.item-index;
 }

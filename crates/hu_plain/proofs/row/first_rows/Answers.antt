@@ -17,4 +17,5 @@ loop-record-preserved c = record {
 pub returns-clause-rules : goal.returns-clause-rules
 returns-clause-rules c =
     let all = take_all c.loop-record.record-index c.args.records.now c.loop-record-test.false in
-    AreRows-first c.loop-record.rows.items c.args.records.now (c.loop-record.invariant.so_far ∙ ap (λ rs. map first_row rs) all) c.loop-record.invariant.rising c.requires
+    AreRows-first c.loop-record.rows.items c.args.records.now (c.loop-record.invariant.so_far ∙ ap (λ rs. map first_row rs) all)
+    c.loop-record.invariant.rising c.requires

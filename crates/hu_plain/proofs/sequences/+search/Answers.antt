@@ -1,8 +1,8 @@
-use Rattle.std.proofs.Common.{rules, ◌≡◌, ◌∙◌, ◌+◌, ◌*◌, ◌<◌, List, [], ◌∷◌, get_or, length, refl, sym, ap, subst, inl, inr, arith}
+use Rattle.std.proofs.Common.{rules, ◌≡◌, ◌∙◌, ◌+◌, ◌*◌, ◌<◌, List, [], ◌∷◌, get_or, length, refl, sym, ap, subst, arith}
 use Rattle.std.specs.Global.{Vec}
 use Rattle.hu_kind.specs.declared.entry.Entry.{Entry}
 use Rattle.hu_collect.specs.State.{IsInOrder, Reached, ReachedSome}
-use Rattle.hu_collect.proofs.lemmas.Searching.{reached-one, reached-both, reached-in_order, reached-none, reached-as, some-as, some-then, stopped}
+use Rattle.hu_collect.proofs.lemmas.Searching.{reached-none, reached-as, some-as, stopped}
 use Rattle.hu_plain.specs.declared.places.Place.{Place}
 use Rattle.hu_plain.specs.declared.places.Step.{Step}
 use Rattle.hu_plain.specs.declared.places.Step.TheVariants.{Into}
@@ -11,7 +11,7 @@ use Rattle.hu_plain.specs.Place.{all_stepped, ArePlaces}
 use Rattle.hu_plain.specs.PlaceView.{all_places, HasSteps}
 use Rattle.hu_plain.proofs.PlaceLemmas.{none-stepped, some-stepped}
 use Rattle.hu_plain.proofs.Reach.{left_in, left_in-stepped}
-use Rattle.hu_plain.proofs.SoFar.{so_far-none, so_far-ordered, so_far-stopped, so_far-all, so_far-next, so_far-some}
+use Rattle.hu_plain.proofs.SoFar.{own-ordered, own-then, own-some, so_far-none, so_far-ordered, so_far-stopped, so_far-all, so_far-next, so_far-some}
 use Rattle.hu_plain.proofs.Steps.{BeginsWith, begins-whole}
 use Rattle.hu_plain.proofs.sequences.+search.Goals as goal
 
@@ -24,7 +24,7 @@ pub enter-search-requires : goal.enter-search-requires
 enter-search-requires g t c κs within =
     let old = g.C.Collect.state c.args.collect.now in
     let mid = g.C.Collect.state c.offer.new.collect in
-    let ordered : IsInOrder mid = reached-in_order (reached-one old (prefix_entry c.push_step.new.prefix (all_places c.args.rows.now)) mid c.in_ok-offer.ensures) in
+    let ordered : IsInOrder mid = own-ordered old mid (prefix_entry c.push_step.new.prefix (all_places c.args.rows.now)) c.in_ok-offer.ensures in
     let left = left_in (all_places c.args.rows.now) in
     let smaller : 2 * left < 2 * left + 1 = omega arith in
     search rules
@@ -32,27 +32,21 @@ enter-search-requires g t c κs within =
 pub enter-returns-in_err-search-clause-searches : goal.enter-returns-in_err-search-clause-searches
 enter-returns-in_err-search-clause-searches g t c =
     let old = g.C.Collect.state c.args.collect.now in
-    let mid = g.C.Collect.state c.offer.new.collect in
     let new = g.C.Collect.state c.search.new.collect in
     let rows = all_places c.args.rows.now in
     let key = c.push_step.new.prefix in
-    let own = prefix_entry key rows in
     stopped {P = IsGrowth (stepped_key c.args.prefix.now c.args.step) rows} c.from_residual-in_err-search.result c.from_residual-in_err-search.ensures.0
     (subst (λ p. ReachedSome old (IsGrowth p rows) new) c.in_ok-push_step.ensures
-    (some-then {P = λ e. own ≡ e} {Q = Grows key rows} {R = IsGrowth key rows} (λ e p. inl p) (λ e q. inr q)
-    (reached-one old own mid c.in_ok-offer.ensures) c.in_err-search.ensures.searches))
+    (own-some {P = Grows key rows} (prefix_entry key rows) c.in_ok-offer.ensures c.in_err-search.ensures.searches))
 
 pub enter-returns-clause-searches : goal.enter-returns-clause-searches
 enter-returns-clause-searches g t c =
     let old = g.C.Collect.state c.args.collect.now in
-    let mid = g.C.Collect.state c.offer.new.collect in
     let new = g.C.Collect.state c.search.new.collect in
     let rows = all_places c.args.rows.now in
     let key = c.push_step.new.prefix in
-    let own = prefix_entry key rows in
     subst (λ p. Reached old (IsGrowth p rows) new) c.in_ok-push_step.ensures
-    (reached-both {P = λ e. own ≡ e} {Q = Grows key rows} c.requires.in_order
-    (reached-one old own mid c.in_ok-offer.ensures) c.in_ok-search.ensures.searches)
+    (own-then {P = Grows key rows} (prefix_entry key rows) c.requires.in_order c.in_ok-offer.ensures c.in_ok-search.ensures.searches)
 
 -- ---- search
 
@@ -63,7 +57,8 @@ search-steps-init g t c =
     let has : HasSteps rows steps = subst (HasSteps rows) (sym c.deref-step-items.ensures.value) c.in_ok-steps.ensures in
     record {
       prefix = refl;
-      so_far = so_far-none (g.C.Collect.state c.args.collect.now) c.requires.in_order (begins-whole c.args.prefix.now rows c.requires.rows.ascending steps has);
+      so_far = so_far-none (g.C.Collect.state c.args.collect.now) c.requires.in_order
+          (begins-whole c.args.prefix.now rows c.requires.rows.ascending steps has);
     }
 
 pub search-returns-in_err-grown-clause-searches : goal.search-returns-in_err-grown-clause-searches
@@ -81,7 +76,7 @@ search-steps-preserved-then-is_empty g t c =
     let now = g.C.Collect.state c.steps.collect in
     let step = get_or c.deref-step-items.result.now c.steps.step-index no_step in
     let none : length (all_stepped step rows) ≡ 0 =
-    none-stepped c.in_ok-grown.grown.items c.in_ok-grown.grown.len (all_stepped step rows) c.in_ok-grown.ensures.value (omega (arith, c.in_ok-grown.grown.ok)) (sym c.is_empty.ensures ∙ c.if-is_empty.true) in
+    none-stepped c.in_ok-grown.grown (all_stepped step rows) c.in_ok-grown.ensures.value (sym c.is_empty.ensures ∙ c.if-is_empty.true) in
     record {
       prefix = c.steps.invariant.prefix;
       so_far = so_far-next c.steps.invariant.so_far no_step c.steps-test.true c.requires.in_order
@@ -97,11 +92,11 @@ search-enter-requires g t c κs within =
     let found = all_places c.deref.result.now in
     let is : found ≡ all_stepped step rows = ap all_places c.deref.ensures.value ∙ c.in_ok-grown.ensures.value in
     let some : 0 < length (all_stepped step rows) =
-    some-stepped c.in_ok-grown.grown.items c.in_ok-grown.grown.len (all_stepped step rows) c.in_ok-grown.ensures.value (omega (arith, c.in_ok-grown.grown.ok)) (sym c.is_empty.ensures ∙ c.if-is_empty.false) in
+    some-stepped c.in_ok-grown.grown (all_stepped step rows) c.in_ok-grown.ensures.value (sym c.is_empty.ensures ∙ c.if-is_empty.false) in
     let are : ArePlaces found = subst (λ (xs : List (Vec Place)). ArePlaces (all_places xs)) (sym c.deref.ensures.value) c.in_ok-grown.ensures.rules in
     let ordered : IsInOrder (g.C.Collect.state c.steps.collect) = so_far-ordered c.steps.invariant.so_far in
     let fewer = left_in-stepped step rows in
-    let smaller : 2 * left_in found + 1 < 2 * left_in rows = subst (λ rs. 2 * left_in rs + 1 < 2 * left_in rows) (sym is) (omega (arith, some, fewer)) in
+    let smaller : 2 * left_in found + 1 < 2 * left_in rows = omega (arith, some, fewer, ap left_in is) in
     search rules
 
 pub search-returns-in_err-enter-clause-searches : goal.search-returns-in_err-enter-clause-searches
@@ -115,7 +110,7 @@ search-returns-in_err-enter-clause-searches g t c =
     let found = all_places c.deref.result.now in
     let is : found ≡ all_stepped step rows = ap all_places c.deref.ensures.value ∙ c.in_ok-grown.ensures.value in
     let some : 0 < length (all_stepped step rows) =
-    some-stepped c.in_ok-grown.grown.items c.in_ok-grown.grown.len (all_stepped step rows) c.in_ok-grown.ensures.value (omega (arith, c.in_ok-grown.grown.ok)) (sym c.is_empty.ensures ∙ c.if-is_empty.false) in
+    some-stepped c.in_ok-grown.grown (all_stepped step rows) c.in_ok-grown.ensures.value (sym c.is_empty.ensures ∙ c.if-is_empty.false) in
     let same = c.steps.invariant.prefix in
     stopped {P = Grows prefix rows} c.from_residual-in_err-enter.result c.from_residual-in_err-enter.ensures.0
     (so_far-some c.steps.invariant.so_far no_step c.steps-test.true
@@ -134,12 +129,13 @@ search-steps-preserved g t c =
     let found = all_places c.deref.result.now in
     let is : found ≡ all_stepped step rows = ap all_places c.deref.ensures.value ∙ c.in_ok-grown.ensures.value in
     let some : 0 < length (all_stepped step rows) =
-    some-stepped c.in_ok-grown.grown.items c.in_ok-grown.grown.len (all_stepped step rows) c.in_ok-grown.ensures.value (omega (arith, c.in_ok-grown.grown.ok)) (sym c.is_empty.ensures ∙ c.if-is_empty.false) in
+    some-stepped c.in_ok-grown.grown (all_stepped step rows) c.in_ok-grown.ensures.value (sym c.is_empty.ensures ∙ c.if-is_empty.false) in
     let same = c.steps.invariant.prefix in
     record {
       prefix = c.in_ok-enter.ensures.prefix ∙ same;
       so_far = so_far-next c.steps.invariant.so_far no_step c.steps-test.true c.requires.in_order
-          (reached-as {P = IsGrowth (stepped_key prefix step) (all_stepped step rows)} {R = BeginsWith prefix rows step} (λ e p. (some, p)) (λ e r pass high. r.1)
+          (reached-as {P = IsGrowth (stepped_key prefix step) (all_stepped step rows)} {R = BeginsWith prefix rows step}
+          (λ e p. (some, p)) (λ e r pass high. r.1)
           (subst (λ rs. Reached now (IsGrowth (stepped_key prefix step) rs) new) is
           (subst (λ p. Reached now (IsGrowth (stepped_key p step) found) new) same c.in_ok-enter.ensures.searches)));
     }

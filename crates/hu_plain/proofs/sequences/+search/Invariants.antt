@@ -16,5 +16,6 @@ decreases-enter g l = 2 * left_in (all_places l.rows.now) + 1
 abbrev pub invariant-search-steps : goal.invariant-search-steps
 invariant-search-steps g l = record {
   prefix : l.prefix ≡ l.fn.prefix;
-  so_far : IsSoFar (BeginsWith l.fn.prefix (all_places l.rows)) (Grows l.fn.prefix (all_places l.rows)) (g.C.Collect.state l.fn.collect) (g.C.Collect.state l.collect) l.step-items l.step-index;
+  so_far : IsSoFar (BeginsWith l.fn.prefix (all_places l.rows)) (Grows l.fn.prefix (all_places l.rows))
+      (g.C.Collect.state l.fn.collect) (g.C.Collect.state l.collect) l.step-items l.step-index;
 }
