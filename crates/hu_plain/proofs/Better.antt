@@ -4,15 +4,6 @@ use Rattle.std.specs.Int.{int_max}
 use Rattle.std.proofs.lemmas.Int.{ints, clamps}
 use Rattle.hu_kind.specs.Sequence.{better}
 
-int_max-assoc : (x y z : ℤ) → int_max (int_max x y) z ≡ int_max x (int_max y z)
-int_max-assoc x y z = omega (arith, ints, clamps)
-
-plus-int_max : (x y z : ℤ) → int_max x y +ℤ z ≡ int_max (x +ℤ z) (y +ℤ z)
-plus-int_max x y z = omega (arith, ints, clamps)
-
-int_max-plus : (x y z : ℤ) → x +ℤ int_max y z ≡ int_max (x +ℤ y) (x +ℤ z)
-int_max-plus x y z = omega (arith, ints, clamps)
-
 pub better-none : (a : Option ℤ) → better a None ≡ a
 better-none None = refl
 better-none (Some x) = refl
@@ -21,7 +12,7 @@ pub better-assoc : (a b c : Option ℤ) → better (better a b) c ≡ better a (
 better-assoc None b c = refl
 better-assoc (Some x) None c = refl
 better-assoc (Some x) (Some y) None = refl
-better-assoc (Some x) (Some y) (Some z) = ap (λ n. Some n) (int_max-assoc x y z)
+better-assoc (Some x) (Some y) (Some z) = ap (λ n. Some n) (omega (arith, ints, clamps))
 
 -- a utility after a sum
 abbrev pub plus : Option ℤ → Option ℤ → Option ℤ
@@ -40,13 +31,13 @@ plus-better (Some x) None u = better-none-of (plus (Some x) u)
     better-none-of None = refl
     better-none-of (Some y) = refl
 plus-better (Some x) (Some y) None = refl
-plus-better (Some x) (Some y) (Some z) = ap (λ n. Some n) (plus-int_max x y z)
+plus-better (Some x) (Some y) (Some z) = ap (λ n. Some n) (omega (arith, ints, clamps))
 
 pub better-plus : (a u v : Option ℤ) → plus a (better u v) ≡ better (plus a u) (plus a v)
 better-plus None u v = refl
 better-plus (Some x) None v = refl
 better-plus (Some x) (Some y) None = refl
-better-plus (Some x) (Some y) (Some z) = ap (λ n. Some n) (int_max-plus x y z)
+better-plus (Some x) (Some y) (Some z) = ap (λ n. Some n) (omega (arith, ints, clamps))
 
 -- where one of two utilities is some, the greater is, and no other way
 pub some_left : (a b : Option ℤ) → is_some a ≡ true → is_some (better a b) ≡ true

@@ -9,15 +9,17 @@ use Rattle.hu_kind.specs.declared.item.Cell.{Cell}
 use Rattle.hu_kind.specs.Cell.{pairs_of, pair_of}
 use Rattle.hu_kind.specs.Record.{items_in, absolute_of}
 use Rattle.hu_kind.specs.Order.{Ascend}
-use Rattle.hu_plain.specs.Row.{grown_row}
+use Rattle.hu_plain.specs.Row.{Cells, grown_row}
 
-above-at : (x : ℕ) (cells : List Cell) (k : ℕ) (d : Cell) → AllByRecursion (λ y. x < y) (items_in (pairs_of cells)) → k < length cells → x < (get_or cells k d).item.0
+above-at : (x : ℕ) (cells : List Cell) (k : ℕ) (d : Cell) → AllByRecursion (λ y. x < y) (items_in (pairs_of cells)) → k < length cells
+    → x < (get_or cells k d).item.0
 above-at x [] k d above within = absurd (omega arith)
 above-at x (cell ∷ cells) zero d above within = above.0
 above-at x (cell ∷ cells) (suc k) d above within = above-at x cells k d above.1 (omega arith)
 
 -- the items ascend strictly from place to place
-pub rises : (cells : List Cell) (i j : ℕ) (d : Cell) → Ascend (items_in (pairs_of cells)) → i < j → j < length cells → (get_or cells i d).item.0 < (get_or cells j d).item.0
+pub rises : (cells : List Cell) (i j : ℕ) (d : Cell) → Ascend (items_in (pairs_of cells)) → i < j → j < length cells
+    → (get_or cells i d).item.0 < (get_or cells j d).item.0
 rises [] i j d up before within = absurd (omega arith)
 rises (cell ∷ cells) i zero d up before within = absurd (omega arith)
 rises (cell ∷ cells) zero (suc j) d up before within = above-at cell.item.0 cells j d up.0 (omega arith)
@@ -31,7 +33,8 @@ IsNonDecreasingBy-ascend cells up i j d upto within = elim (cases_lt i j) [
 ]
 
 -- the row grown by the item at a place
-pub grown_row-at : (item : ℕ) (sum : ℤ) (cells : List Cell) (k : ℕ) (d : Cell) → Ascend (items_in (pairs_of cells)) → k < length cells → (get_or cells k d).item.0 ≡ item
+pub grown_row-at : (item : ℕ) (sum : ℤ) (cells : List Cell) (k : ℕ) (d : Cell) → Ascend (items_in (pairs_of cells)) → k < length cells
+    → (get_or cells k d).item.0 ≡ item
     → grown_row item sum (pairs_of cells) ≡ (sum +ℤ (get_or cells k d).value, pairs_of (drop (suc k) cells)) ∷ []
 grown_row-at item sum [] k d up within here = absurd (omega arith)
 grown_row-at item sum (cell ∷ cells) zero d up within here =
@@ -43,7 +46,8 @@ grown_row-at item sum (cell ∷ cells) (suc k) d up within here =
     rw no (grown_row-at item sum cells k d up.1 (omega arith) here)
 
 -- no row where no cell has the item
-pub grown_row-none : (item : ℕ) (sum : ℤ) (cells : List Cell) → ((k : ℕ) (d : Cell) → k < length cells → (get_or cells k d).item.0 ≡ item → ⊥) → grown_row item sum (pairs_of cells) ≡ []
+pub grown_row-none : (item : ℕ) (sum : ℤ) (cells : List Cell) → ((k : ℕ) (d : Cell) → k < length cells → (get_or cells k d).item.0 ≡ item → ⊥)
+    → grown_row item sum (pairs_of cells) ≡ []
 grown_row-none item sum [] absent = refl
 grown_row-none item sum (cell ∷ cells) absent =
     let no : eqb item cell.item.0 ≡ false = ne_eqb item cell.item.0 (λ e. absent 0 cell (omega arith) (sym e)) in
@@ -67,13 +71,17 @@ grown_row-past item sum cells place up split other = grown_row-none item sum cel
     ]
 
 -- a cell's value is within the sum
-pub absolute_of-at : (cells : List Cell) (k : ℕ) (d : Cell) → k < length cells → unsigned_abs (get_or cells k d).value + absolute_of (pairs_of (drop (suc k) cells)) ≤ absolute_of (pairs_of cells)
+pub absolute_of-at : (cells : List Cell) (k : ℕ) (d : Cell) → k < length cells
+    → unsigned_abs (get_or cells k d).value + absolute_of (pairs_of (drop (suc k) cells)) ≤ absolute_of (pairs_of cells)
 absolute_of-at [] k d within = absurd (omega arith)
 absolute_of-at (cell ∷ cells) zero d within = omega (arith, sum_by-cons (λ (c : ℕ × ℤ). unsigned_abs c.1) (pair_of cell) (pairs_of cells))
-absolute_of-at (cell ∷ cells) (suc k) d within = omega (arith, sum_by-cons (λ (c : ℕ × ℤ). unsigned_abs c.1) (pair_of cell) (pairs_of cells), absolute_of-at cells k d (omega arith))
+absolute_of-at (cell ∷ cells) (suc k) d within =
+    let whole = sum_by-cons (λ (c : ℕ × ℤ). unsigned_abs c.1) (pair_of cell) (pairs_of cells) in
+    omega (arith, whole, absolute_of-at cells k d (omega arith))
 
 -- two rows that are one
-pub same_row : (earned earned' : ℤ) (cells cells' : List Cell) (rows : List (ℤ × List (ℕ × ℤ))) → earned ≡ earned' → cells ≡ cells' → rows ≡ (earned', pairs_of cells') ∷ [] → ◌≡◌ {A = List (ℤ × List (ℕ × ℤ))} ((earned, pairs_of cells) ∷ []) rows
+pub same_row : (earned earned' : ℤ) (cells cells' : List Cell) (rows : List (ℤ × Cells)) → earned ≡ earned' → cells ≡ cells'
+    → rows ≡ (earned', pairs_of cells') ∷ [] → ◌≡◌ {A = List (ℤ × Cells)} ((earned, pairs_of cells) ∷ []) rows
 same_row earned earned' cells cells' rows e t r = cc
 
 -- what is left of cells from a place on is all of them from there on

@@ -1,5 +1,6 @@
-pub mod Held
+pub mod Cut
 pub mod Growth
+pub mod SoFar
 pub mod Patterns
 pub mod CellLemmas
 pub mod RowLemmas
@@ -10,7 +11,5 @@ pub mod Better
 pub mod PlaceGrowth
 pub mod Reach
 pub mod Steps
-pub mod Turns
 pub mod Subsequences
 pub mod PlaceLemmas
-pub mod StepSearch

@@ -21,10 +21,12 @@ module _ {X : Type 0} (key : X → ℕ) where
     | inr more ↦ more
   ]
 
-  rest_below : (x : X) (xs : List X) (n a : ℕ) → IsPartitionPoint (λ (x : X). key x < n) (λ (x : X). n ≤ key x) (x ∷ xs) (suc a) → IsPartitionPoint (λ (x : X). key x < n) (λ (x : X). n ≤ key x) xs a
+  rest_below : (x : X) (xs : List X) (n a : ℕ) → IsPartitionPoint (λ (x : X). key x < n) (λ (x : X). n ≤ key x) (x ∷ xs) (suc a)
+      → IsPartitionPoint (λ (x : X). key x < n) (λ (x : X). n ≤ key x) xs a
   rest_below x xs n a p = (λ k d low high. p.0 (suc k) d (omega arith) (omega arith), λ k d low high. p.1 (suc k) d (omega arith) (omega arith))
 
-  rest_upto : (x : X) (xs : List X) (n b : ℕ) → IsPartitionPoint (λ (x : X). key x ≤ n) (λ (x : X). n < key x) (x ∷ xs) (suc b) → IsPartitionPoint (λ (x : X). key x ≤ n) (λ (x : X). n < key x) xs b
+  rest_upto : (x : X) (xs : List X) (n b : ℕ) → IsPartitionPoint (λ (x : X). key x ≤ n) (λ (x : X). n < key x) (x ∷ xs) (suc b)
+      → IsPartitionPoint (λ (x : X). key x ≤ n) (λ (x : X). n < key x) xs b
   rest_upto x xs n b p = (λ k d low high. p.0 (suc k) d (omega arith) (omega arith), λ k d low high. p.1 (suc k) d (omega arith) (omega arith))
 
   ne-above : (n m : ℕ) → n < m → eqb n m ≡ false
@@ -65,7 +67,8 @@ module _ {X : Type 0} (key : X → ℕ) where
   parts_at (x ∷ xs) n (suc a) (suc b) parts within =
       let low = parts.below.0 0 x (omega arith) (omega arith) in
       let less : suc b - suc a ≡ b - a = omega arith in
-      rw (ne-below n (key x) low, less) (parts_at xs n a b (record { below = rest_below x xs n a parts.below; upto = rest_upto x xs n b parts.upto }) (omega arith))
+      let rest : Parts xs n a b = record { below = rest_below x xs n a parts.below; upto = rest_upto x xs n b parts.upto } in
+      rw (ne-below n (key x) low, less) (parts_at xs n a b rest (omega arith))
 
   filter-same : (p q : X → Bool) → ((x : X) → p x ≡ q x) → (xs : List X) → filter p xs ≡ filter q xs
   filter-same p q same [] = refl
@@ -79,7 +82,8 @@ module _ {X : Type 0} (key : X → ℕ) where
   found n [] = inr refl
   found n (x ∷ xs) = by (eqb n (key x)) refl (found n xs)
     where
-      by : (b : Bool) → eqb n (key x) ≡ b → ((y : X) × (eqb n (key y) ≡ true)) ⊎ (filter (λ y. eqb n (key y)) xs ≡ []) → ((y : X) × (eqb n (key y) ≡ true)) ⊎ (filter (λ y. eqb n (key y)) (x ∷ xs) ≡ [])
+      by : (b : Bool) → eqb n (key x) ≡ b → ((y : X) × (eqb n (key y) ≡ true)) ⊎ (filter (λ y. eqb n (key y)) xs ≡ [])
+          → ((y : X) × (eqb n (key y) ≡ true)) ⊎ (filter (λ y. eqb n (key y)) (x ∷ xs) ≡ [])
       by true is rest = inl (x, is)
       by false is (inl later) = inl later
       by false is (inr none) = inr (rw is none)

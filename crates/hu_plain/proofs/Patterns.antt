@@ -1,92 +1,132 @@
 -- The patterns that grow a prefix are, for each item that occurs after it, the item's own and those that grow it.
-use Rattle.std.proofs.Common.{◌≡◌, ℕ, ◌<◌, Bool, true, false, cond, ℤ, pos, ◌+ℤ◌, List, [], ◌∷◌, ◌++◌, map, refl, sym, ap, ◌∙◌, subst, inl, inr, arith, flat_map, append_assoc}
+use Rattle.std.proofs.Common.{◌≡◌, ℕ, ◌<◌, Bool, true, false, cond, ℤ, pos, ◌+ℤ◌, List, [], ◌∷◌, ◌++◌, map, length, refl, sym, ap, ◌∙◌, subst, inl, inr, arith, append_assoc, Contains}
 use Rattle.std.specs.List.{AllByRecursion}
 use Rattle.std.proofs.lemmas.Int.{ints}
 use Rattle.hu_kind.specs.declared.entry.Entry.{Entry}
+use Rattle.hu_kind.specs.declared.item.Item.{Item}
 use Rattle.hu_kind.specs.Record.{holds, items_in, values_of}
 use Rattle.hu_kind.specs.Database.{support, utility}
 use Rattle.hu_kind.specs.Itemsets.{occurring_sets, item_entry, item_patterns}
-use Rattle.hu_kind.specs.Order.{Ascend}
-use Rattle.hu_kind.proofs.lemmas.Members.{Member, Member-map, Member-from_map, Member-from_flat_map}
-use Rattle.hu_kind.proofs.lemmas.Occurring.{Occurs, Occurs-from_member, Member-from_occurs, counted, count-member, held-members, holds-members, at_member}
-use Rattle.hu_plain.specs.Row.{earned, tails, grown_entry, grown_patterns, grown_rows}
-use Rattle.hu_plain.proofs.Held.{holds-one, each_above}
-use Rattle.hu_plain.proofs.Growth.{earned-grown_rows, support-grown_rows, above-grown_rows}
+use Rattle.hu_kind.proofs.lemmas.Each.{each-weaker}
+use Rattle.hu_kind.proofs.lemmas.Members.{Member, Member-map, Member-from_map, Member-from_contains, Contains-from_member}
+use Rattle.hu_kind.proofs.lemmas.Occurring.{Occurs, Occurs-from_member, Member-from_occurs, counted, holds-members, at_member}
+use Rattle.hu_plain.specs.Row.{Cells, RowOf, earned, tails, grown_entry, grown_patterns, grown_rows, key_with, IsGrowth, Grows, IsRising}
+use Rattle.hu_plain.specs.View.{first_row}
+use Rattle.hu_plain.specs.Grown.{AreItems}
+use Rattle.hu_plain.proofs.Cut.{AllAbove}
+use Rattle.hu_plain.proofs.Growth.{earned-grown_rows, support-grown_rows, above-grown_rows, support-none}
+use Rattle.hu_plain.proofs.SoFar.{OfOne, AreWhole}
 
--- the entries of the sets that grow a prefix and begin with an item
-abbrev pub patterns_from : List ℤ → List (ℤ × List (ℕ × ℤ)) → ℕ → List Entry
-patterns_from prefix rows item =
-    grown_entry (prefix ++ pos item ∷ []) (grown_rows item rows) [] ∷ grown_patterns (prefix ++ pos item ∷ []) (grown_rows item rows)
+-- an entry is that of a set that grows a prefix just where the set occurs after it
+pub record GrowsBy (prefix : List ℤ) (rows : List RowOf) (entry : Entry) : Type 0 where
+  pub items : List ℕ
+  pub occurs : Occurs (tails rows) items
+  pub is : grown_entry prefix rows items ≡ entry
 
-module _ (prefix : List ℤ) (rows : List (ℤ × List (ℕ × ℤ))) (up : AllByRecursion (λ row. Ascend (items_in row.1)) rows) (item : ℕ) where
+grows-by : (prefix : List ℤ) (rows : List RowOf) (entry : Entry) → Grows prefix rows entry → GrowsBy prefix rows entry
+grows-by prefix rows entry c =
+    let from = Member-from_map (grown_entry prefix rows) entry (occurring_sets (tails rows)) (Member-from_contains entry (grown_patterns prefix rows) c) in
+    record { items = from.0; occurs = Occurs-from_member (tails rows) from.0 from.1; is = from.2 }
+
+by-grows : (prefix : List ℤ) (rows : List RowOf) (entry : Entry) → GrowsBy prefix rows entry → Grows prefix rows entry
+by-grows prefix rows entry by =
+    subst (Grows prefix rows) by.is (Contains-from_member (grown_entry prefix rows by.items) (grown_patterns prefix rows)
+    (Member-map (grown_entry prefix rows) by.items (occurring_sets (tails rows)) (Member-from_occurs (tails rows) by.items by.occurs)))
+
+-- the entries that begin with an item
+abbrev pub BeginsWith : List ℤ → List RowOf → Item → Entry → Type 0
+BeginsWith prefix rows item = IsGrowth (key_with prefix item.0) (grown_rows item.0 rows)
+
+module _ (prefix : List ℤ) (rows : List RowOf) (up : AllByRecursion IsRising rows) where
   -- a set that some grown row holds comes after the item
-  above-held : (items : List ℕ) → 0 < support (tails (grown_rows item rows)) items → AllByRecursion (λ other. item < other) items
-  above-held items h =
+  above-held : (item : ℕ) (items : List ℕ) → 0 < support (tails (grown_rows item rows)) items → AllAbove item items
+  above-held item items h =
       let found = counted (holds items) (tails (grown_rows item rows)) h in
-      let row = Member-from_map (λ (r : ℤ × List (ℕ × ℤ)). r.1) found.0 (grown_rows item rows) found.1 in
-      let later : AllByRecursion (λ other. item < other) (items_in row.0.1) =
-      at_member (λ (r : ℤ × List (ℕ × ℤ)). AllByRecursion (λ other. item < other) (items_in r.1)) row.0 (grown_rows item rows) (above-grown_rows item rows up) row.1 in
-      let after : AllByRecursion (λ other. item < other) (items_in found.0) = subst (λ t. AllByRecursion (λ other. item < other) (items_in t)) row.2 later in
-      each_above item items found.0 after (holds-members items found.0 found.2)
+      let row = Member-from_map (λ (r : RowOf). r.1) found.0 (grown_rows item rows) found.1 in
+      let later = at_member (λ (r : RowOf). AllAbove item (items_in r.1)) row.0 (grown_rows item rows) (above-grown_rows item rows up) row.1 in
+      let after : AllAbove item (items_in found.0) = subst (λ t. AllAbove item (items_in t)) row.2 later in
+      each-weaker (λ i. Member i (items_in found.0)) (λ other. item < other) items
+      (λ i m. at_member (λ other. item < other) i (items_in found.0) after m) (holds-members items found.0 found.2)
 
   -- the entry of the grown prefix with a set is that of the prefix with the item and the set
-  entry-grown : (items : List ℕ) → AllByRecursion (λ other. item < other) items
-      → grown_entry (prefix ++ pos item ∷ []) (grown_rows item rows) items ≡ grown_entry prefix rows (item ∷ items)
-  entry-grown items above =
+  entry-grown : (item : ℕ) (items : List ℕ) → AllAbove item items
+      → grown_entry (key_with prefix item) (grown_rows item rows) items ≡ grown_entry prefix rows (item ∷ items)
+  entry-grown item items above =
       let key = append_assoc prefix (pos item ∷ []) (map pos items) in
       let utility' = earned-grown_rows item items rows up above in
       let support' = support-grown_rows item items rows up above in
       cc
 
-  -- each pattern from an item that occurs is one that grows the prefix
-  pub patterns_from-grown : (entry : Entry) → Member item (flat_map items_in (tails rows)) → Member entry (patterns_from prefix rows item) → Member entry (grown_patterns prefix rows)
-  patterns_from-grown entry occurs (inl e) =
-      let found = Member-from_flat_map items_in item (tails rows) occurs in
-      let alone = holds-one item found.0 found.2 in
-      let o : Occurs (tails rows) (item ∷ []) = record { some = omega arith; ascending = (tt, tt); held = count-member (holds (item ∷ [])) found.0 (tails rows) found.1 alone } in
-      let m = Member-map (grown_entry prefix rows) (item ∷ []) (occurring_sets (tails rows)) (Member-from_occurs (tails rows) (item ∷ []) o) in
-      let P : Entry → Type 0 = λ x. Member x (grown_patterns prefix rows) in
-      subst P (sym (entry-grown [] tt) ∙ e) m
-  patterns_from-grown entry occurs (inr m) =
-      let from = Member-from_map (grown_entry (prefix ++ pos item ∷ []) (grown_rows item rows)) entry (occurring_sets (tails (grown_rows item rows))) m in
-      let items = from.0 in
-      let o = Occurs-from_member (tails (grown_rows item rows)) items from.1 in
-      let above = above-held items o.held in
-      let same = support-grown_rows item items rows up above in
-      let o' : Occurs (tails rows) (item ∷ items) = record { some = omega arith; ascending = (above, o.ascending); held = subst (λ n. 0 < n) same o.held } in
-      let m' = Member-map (grown_entry prefix rows) (item ∷ items) (occurring_sets (tails rows)) (Member-from_occurs (tails rows) (item ∷ items) o') in
-      let P : Entry → Type 0 = λ x. Member x (grown_patterns prefix rows) in
-      subst P (sym (entry-grown items above) ∙ from.2) m'
+  -- an item occurs where some row grows by it
+  occurs-alone : (item : ℕ) → support (tails rows) (item ∷ []) ≡ length (grown_rows item rows)
+  occurs-alone item = sym (support-grown_rows item [] rows up tt) ∙ support-none (grown_rows item rows)
 
--- each pattern that grows the prefix is one from an item that occurs
-module _ (prefix : List ℤ) (rows : List (ℤ × List (ℕ × ℤ))) (up : AllByRecursion (λ row. Ascend (items_in row.1)) rows) where
-  from_set : (items : List ℕ) → Occurs (tails rows) items → (item : ℕ) × Member item (flat_map items_in (tails rows)) × Member (grown_entry prefix rows items) (patterns_from prefix rows item)
-  from_set [] o = absurd (omega (arith, o.some))
-  from_set (item ∷ []) o = (item, (held-members (tails rows) (item ∷ []) o.held).0, inl (entry-grown prefix rows up item [] tt))
-  from_set (item ∷ next ∷ more) o =
-      let items = next ∷ more in
-      let same = support-grown_rows item items rows up o.ascending.0 in
-      let o' : Occurs (tails (grown_rows item rows)) items = record { some = omega arith; ascending = o.ascending.1; held = subst (λ n. 0 < n) (sym same) o.held } in
-      let m = Member-map (grown_entry (prefix ++ pos item ∷ []) (grown_rows item rows)) items (occurring_sets (tails (grown_rows item rows))) (Member-from_occurs (tails (grown_rows item rows)) items o') in
-      let P : Entry → Type 0 = λ x. Member x (grown_patterns (prefix ++ pos item ∷ []) (grown_rows item rows)) in
-      (item, (held-members (tails rows) (item ∷ items) o.held).0, inr (subst P (entry-grown prefix rows up item items o.ascending.0) m))
+  grown-some : (item : ℕ) (items : List ℕ) → 0 < support (tails (grown_rows item rows)) items → 0 < length (grown_rows item rows)
+  grown-some item items h = some (grown_rows item rows) h
+    where
+      some : (rs : List RowOf) → 0 < support (tails rs) items → 0 < length rs
+      some [] h = absurd (omega arith)
+      some (r ∷ rs) h = omega arith
 
-  pub grown-patterns_from : (entry : Entry) → Member entry (grown_patterns prefix rows) → (item : ℕ) × Member item (flat_map items_in (tails rows)) × Member entry (patterns_from prefix rows item)
-  grown-patterns_from entry m =
-      let from = Member-from_map (grown_entry prefix rows) entry (occurring_sets (tails rows)) m in
-      let found = from_set from.0 (Occurs-from_member (tails rows) from.0 from.1) in
-      (found.0, found.1, subst (λ x. Member x (patterns_from prefix rows found.0)) from.2 found.2)
+  begins-grows : (item : Item) (entry : Entry) → 0 < length (grown_rows item.0 rows) → BeginsWith prefix rows item entry → Grows prefix rows entry
+  begins-grows item entry some (inl own) = by-grows prefix rows entry (record {
+    items = item.0 ∷ [];
+    occurs = record { some = omega arith; ascending = (tt, tt); held = omega (arith, some, occurs-alone item.0) };
+    is = sym (entry-grown item.0 [] tt) ∙ own;
+  })
+  begins-grows item entry some (inr grows) =
+      let by = grows-by (key_with prefix item.0) (grown_rows item.0 rows) entry grows in
+      let o = by.occurs in
+      let above = above-held item.0 by.items o.held in
+      by-grows prefix rows entry (record {
+        items = item.0 ∷ by.items;
+        occurs = record {
+          some = omega arith;
+          ascending = (above, o.ascending);
+          held = subst (λ n. 0 < n) (support-grown_rows item.0 by.items rows up above) o.held;
+        };
+        is = sym (entry-grown item.0 by.items above) ∙ by.is;
+      })
 
--- the patterns of a database are those that grow the empty prefix
-earned-none : (records : List (List (ℕ × ℤ))) (items : List ℕ) → earned (map (λ r. (pos 0, r)) records) items ≡ utility records items
+  -- each pattern that grows the prefix begins with an item that occurs
+  grows-begins : (items : List Item) → AreItems rows items → (entry : Entry) → Grows prefix rows entry → OfOne (BeginsWith prefix rows) items entry
+  grows-begins taken are entry grows = let by = grows-by prefix rows entry grows in from by.items by.occurs by.is
+    where
+      first : (item : Item) (some : 0 < length (grown_rows item.0 rows)) → BeginsWith prefix rows item entry → OfOne (BeginsWith prefix rows) taken entry
+      first item some is = record { part = item; among = (are item).1 some; is = is }
+
+      from : (items : List ℕ) → Occurs (tails rows) items → grown_entry prefix rows items ≡ entry → OfOne (BeginsWith prefix rows) taken entry
+      from [] o is = absurd (omega (arith, o.some))
+      from (item ∷ []) o is =
+          first (record { 0 = item }) (subst (λ n. 0 < n) (occurs-alone item) o.held) (inl (entry-grown item [] tt ∙ is))
+      from (item ∷ next ∷ more) o is =
+          let items = next ∷ more in
+          let up' = o.ascending in
+          let held = subst (λ n. 0 < n) (sym (support-grown_rows item items rows up up'.0)) o.held in
+          let occurs : Occurs (tails (grown_rows item rows)) items = record { some = omega arith; ascending = up'.1; held = held } in
+          let by : GrowsBy (key_with prefix item) (grown_rows item rows) entry =
+          record { items = items; occurs = occurs; is = entry-grown item items up'.0 ∙ is } in
+          first (record { 0 = item }) (grown-some item items held) (inr (by-grows (key_with prefix item) (grown_rows item rows) entry by))
+
+  pub begins-whole : (items : List Item) → AreItems rows items → AreWhole (BeginsWith prefix rows) (Grows prefix rows) items
+  begins-whole items are = record {
+    sound = λ entry of. begins-grows of.part entry ((are of.part).0 of.among) of.is;
+    complete = grows-begins items are;
+  }
+
+-- the patterns of records are those that grow the empty prefix
+earned-none : (records : List Cells) (items : List ℕ) → earned (map first_row records) items ≡ utility records items
 earned-none [] items = refl
-earned-none (r ∷ records) items = let ih = earned-none records items in let first = same (holds items r) (values_of items r) in cc
+earned-none (r ∷ records) items =
+    let first = same (holds items r) (values_of items r) in
+    let rest = earned-none records items in
+    cc
   where
     same : (b : Bool) (v : ℤ) → cond b (pos 0 +ℤ v) (pos 0) ≡ cond b v (pos 0)
     same true v = omega (arith, ints)
     same false v = refl
 
-tails-none : (records : List (List (ℕ × ℤ))) → tails (map (λ r. (pos 0, r)) records) ≡ records
+tails-none : (records : List Cells) → tails (map first_row records) ≡ records
 tails-none [] = refl
 tails-none (r ∷ records) = ap (λ rs. r ∷ rs) (tails-none records)
 
@@ -94,9 +134,9 @@ map-same : {A B : Type 0} (f g : A → B) (xs : List A) → ((x : A) → f x ≡
 map-same f g [] e = refl
 map-same f g (x ∷ xs) e = let head = e x in let rest = map-same f g xs e in cc
 
-pub item_patterns-grown : (records : List (List (ℕ × ℤ))) → grown_patterns [] (map (λ r. (pos 0, r)) records) ≡ item_patterns records
+pub item_patterns-grown : (records : List Cells) → grown_patterns [] (map first_row records) ≡ item_patterns records
 item_patterns-grown records =
-    rw (tails-none records) (map-same (grown_entry [] (map (λ r. (pos 0, r)) records)) (item_entry records) (occurring_sets records) each)
+    rw (tails-none records) (map-same (grown_entry [] (map first_row records)) (item_entry records) (occurring_sets records) each)
   where
-    each : (items : List ℕ) → grown_entry [] (map (λ r. (pos 0, r)) records) items ≡ item_entry records items
+    each : (items : List ℕ) → grown_entry [] (map first_row records) items ≡ item_entry records items
     each items = let e = earned-none records items in let t = tails-none records in cc

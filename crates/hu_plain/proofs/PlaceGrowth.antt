@@ -1,60 +1,62 @@
 -- What a grown sequence earns in places: a growth that begins with an item is what is left of it after the step.
-use Rattle.std.proofs.Common.{◌≡◌, ℕ, ◌<◌, Bool, true, false, cond, eqb, ℤ, pos, ◌+ℤ◌, Option, None, Some, option_map, List, [], ◌∷◌, ◌++◌, refl, sym, ap, ◌∙◌, subst, inl, inr, arith}
+use Rattle.std.proofs.Common.{◌≡◌, ℕ, ◌<◌, Bool, true, false, cond, ℤ, pos, ◌+ℤ◌, Option, None, Some, is_some, option_map, List, [], ◌∷◌, ◌++◌, refl, sym, ap, ◌∙◌, ◌⊎◌, inl, inr, arith}
 use Rattle.std.specs.List.{AllByRecursion}
 use Rattle.std.proofs.lemmas.Int.{ints}
-use Rattle.std.proofs.lemmas.Bool.{eq-eqb, ne_eqb, cases_order}
-use Rattle.hu_kind.specs.Record.{has, holds, values_of, items_in}
+use Rattle.hu_kind.specs.Record.{holds, values_of, items_in}
 use Rattle.hu_kind.specs.Sequence.{better, best_utility}
 use Rattle.hu_kind.specs.Order.{Ascend}
-use Rattle.hu_kind.proofs.lemmas.Occurring.{above_all}
-use Rattle.hu_plain.specs.Row.{grown_row, grown_rows}
-use Rattle.hu_plain.specs.Place.{Places, after, best_from, best_of, best_sum, fresh, grown_best, into, itemsets_of, IsAscending}
-use Rattle.hu_plain.proofs.Better.{better-none, better-assoc, plus, plus-none, plus-better, better-plus}
-use Rattle.hu_plain.proofs.Growth.{holds-skip, values_of-skip, has-before}
+use Rattle.hu_plain.specs.Row.{Cells, RowOf, grown_row, grown_rows, IsRising}
+use Rattle.hu_plain.specs.Place.{Places, after, best_from, best_of, best_sum, fresh, grown_best, into, itemsets_of, IsAscending, AreAscending}
+use Rattle.hu_plain.proofs.Better.{some_cases, better-none, better-assoc, plus, plus-none, plus-better, better-plus}
+use Rattle.hu_plain.proofs.Cut.{AllAbove, Cut, IsTail, cut}
 
 -- what a set earns in a whole row, with a utility after it
-abbrev pub row_best : List ℕ → Option ℤ → ℤ × List (ℕ × ℤ) → Option ℤ
+abbrev pub row_best : List ℕ → Option ℤ → RowOf → Option ℤ
 row_best items later row = cond (holds items row.1) (option_map (λ u. (row.0 +ℤ values_of items row.1) +ℤ u) later) None
 
-row_best-here : (sum v w : ℤ) (later : Option ℤ) (b : Bool)
-    → better (cond b (option_map (λ u. ((sum +ℤ v) +ℤ w) +ℤ u) later) None) None ≡ cond b (option_map (λ u. (sum +ℤ (v +ℤ w)) +ℤ u) later) None
-row_best-here sum v w later false = refl
-row_best-here sum v w None true = refl
-row_best-here sum v w (Some u) true = ap (λ n. Some n) (omega (arith, ints))
-
-best_from-grown_row : (item : ℕ) (items : List ℕ) (later : Option ℤ) (sum : ℤ) (cells : List (ℕ × ℤ)) → Ascend (items_in cells) → AllByRecursion (λ other. item < other) items
-    → best_from items later (grown_row item sum cells) ≡ row_best (item ∷ items) later (sum, cells)
-best_from-grown_row item items later sum [] up above = refl
-best_from-grown_row item items later sum (cell ∷ cells) up above = elim (cases_order item cell.0) [
-  | inl e ↦
-      let yes : eqb item cell.0 ≡ true = eq-eqb item cell.0 e in
-      let after : AllByRecursion (λ other. cell.0 < other) items = subst (λ x. AllByRecursion (λ other. x < other) items) e above in
-      simp (yes, holds-skip cell cells items after, values_of-skip cell cells items after) (row_best-here sum cell.1 (values_of items cells) later (holds items cells))
-  | inr (inl before) ↦
-      let no : eqb item cell.0 ≡ false = ne_eqb item cell.0 (λ e. absurd (omega arith)) in
-      let out : has item cells ≡ false = has-before item cells (above_all item cell.0 (items_in cells) before up.0) in
-      let ih = best_from-grown_row item items later sum cells up.1 above in
-      simp (no, out) (ih ∙ simp out)
-  | inr (inr past) ↦
-      let no : eqb item cell.0 ≡ false = ne_eqb item cell.0 (λ e. absurd (omega arith)) in
-      let after : AllByRecursion (λ other. cell.0 < other) items = above_all cell.0 item items past above in
-      let ih = best_from-grown_row item items later sum cells up.1 above in
-      simp (no, holds-skip cell cells items after, values_of-skip cell cells items after) ih
+best_from-grown_row : (item : ℕ) (items : List ℕ) (later : Option ℤ) (row : RowOf) → IsRising row → AllAbove item items
+    → best_from items later (grown_row item row.0 row.1) ≡ row_best (item ∷ items) later row
+best_from-grown_row item items later row up above = elim (cut item row.0 row.1) [
+  | inr none ↦ simp (none.0, none.1)
+  | inl c ↦
+      let tail = c.tail up in
+      simp (c.is, c.here, c.earns, tail.held items above, tail.earn items above) (apart c.value (values_of items c.rest) (holds items c.rest) later)
 ]
+  where
+    apart : (v w : ℤ) (b : Bool) (u : Option ℤ) → better (cond b (option_map (λ x. ((row.0 +ℤ v) +ℤ w) +ℤ x) u) None) None
+        ≡ cond b (option_map (λ x. (row.0 +ℤ (v +ℤ w)) +ℤ x) u) None
+    apart v w false u = refl
+    apart v w true None = refl
+    apart v w true (Some x) = ap (λ n. Some n) (omega (arith, ints))
 
-best_from-append : (items : List ℕ) (later : Option ℤ) (xs ys : List (ℤ × List (ℕ × ℤ))) → best_from items later (xs ++ ys) ≡ better (best_from items later xs) (best_from items later ys)
+best_from-append : (items : List ℕ) (later : Option ℤ) (xs ys : List RowOf)
+    → best_from items later (xs ++ ys) ≡ better (best_from items later xs) (best_from items later ys)
 best_from-append items later [] ys = refl
 best_from-append items later (x ∷ xs) ys =
     ap (λ b. better (row_best items later x) b) (best_from-append items later xs ys)
     ∙ sym (better-assoc (row_best items later x) (best_from items later xs) (best_from items later ys))
 
-pub best_from-grown_rows : (item : ℕ) (items : List ℕ) (later : Option ℤ) (rows : List (ℤ × List (ℕ × ℤ))) → AllByRecursion (λ row. Ascend (items_in row.1)) rows → AllByRecursion (λ other. item < other) items
+pub best_from-grown_rows : (item : ℕ) (items : List ℕ) (later : Option ℤ) (rows : List RowOf) → AllByRecursion IsRising rows → AllAbove item items
     → best_from items later (grown_rows item rows) ≡ best_from (item ∷ items) later rows
 best_from-grown_rows item items later [] up above = refl
 best_from-grown_rows item items later (row ∷ rows) up above =
     best_from-append items later (grown_row item row.0 row.1) (grown_rows item rows)
-    ∙ ap (λ a. better a (best_from items later (grown_rows item rows))) (best_from-grown_row item items later row.0 row.1 up.0 above)
+    ∙ ap (λ a. better a (best_from items later (grown_rows item rows))) (best_from-grown_row item items later row up.0 above)
     ∙ ap (λ b. better (row_best (item ∷ items) later row) b) (best_from-grown_rows item items later rows up.1 above)
+
+-- where a growth is found: in the first row, or in a later one
+pub here_or_later : (items : List ℕ) (later : Option ℤ) (row : RowOf) (rows : List RowOf) → is_some (best_from items later (row ∷ rows)) ≡ true
+    → ((holds items row.1 ≡ true) × (is_some later ≡ true)) ⊎ (is_some (best_from items later rows) ≡ true)
+here_or_later items later row rows some = elim (some_cases (row_best items later row) (best_from items later rows) some) [
+  | inl here ↦ inl (tested (holds items row.1) later here)
+  | inr there ↦ inr there
+]
+  where
+    tested : (b : Bool) (u : Option ℤ) → is_some (cond b (option_map (λ x. (row.0 +ℤ values_of items row.1) +ℤ x) u) None) ≡ true
+        → (b ≡ true) × (is_some u ≡ true)
+    tested true (Some x) h = (refl, refl)
+    tested true None h = cc
+    tested false u h = cc
 
 -- a step leaves the itemsets
 pub itemsets-into : (item : ℕ) (places : Places) → itemsets_of (into item places) ≡ itemsets_of places
@@ -66,7 +68,7 @@ itemsets-after item best [] = refl
 itemsets-after item best (place ∷ places) = ap (λ es. place.1 ∷ es) (itemsets-after item (better best (best_sum place.0)) places)
 
 -- an item into the last itemset
-pub grown_best-into : (item : ℕ) (items : List ℕ) (rest : List (List ℕ)) (places : Places) → AllByRecursion IsAscending places → AllByRecursion (λ other. item < other) items
+pub grown_best-into : (item : ℕ) (items : List ℕ) (rest : List (List ℕ)) (places : Places) → AreAscending places → AllAbove item items
     → grown_best items rest (into item places) ≡ grown_best (item ∷ items) rest places
 grown_best-into item items rest [] up above = refl
 grown_best-into item items rest (place ∷ places) up above =
@@ -76,7 +78,7 @@ grown_best-into item items rest (place ∷ places) up above =
     ∙ ap (λ b. better (best_from (item ∷ items) later place.0) b) (grown_best-into item items rest places up.1 above)
 
 -- rows with nothing more in their itemset
-best_from-none : (later : Option ℤ) (rows : List (ℤ × List (ℕ × ℤ))) → best_from [] later rows ≡ plus (best_sum rows) later
+best_from-none : (later : Option ℤ) (rows : List RowOf) → best_from [] later rows ≡ plus (best_sum rows) later
 best_from-none later [] = refl
 best_from-none later (row ∷ rows) =
     ap (λ b. better (row_best [] later row) b) (best_from-none later rows)
@@ -88,15 +90,18 @@ best_from-none later (row ∷ rows) =
     alone (Some x) = ap (λ n. Some n) (omega (arith, ints))
 
 -- an item of a whole itemset after a sum
-best_from-fresh : (item : ℕ) (items : List ℕ) (rest : List (List ℕ)) (best : Option ℤ) (cells : List (ℕ × ℤ)) (es : List (List (ℕ × ℤ))) → Ascend (items_in cells) → AllByRecursion (λ other. item < other) items
-    → best_from items (best_utility rest es) (grown_rows item (fresh best cells)) ≡ plus best (cond (holds (item ∷ items) cells) (option_map (λ u. values_of (item ∷ items) cells +ℤ u) (best_utility rest es)) None)
+best_from-fresh : (item : ℕ) (items : List ℕ) (rest : List (List ℕ)) (best : Option ℤ) (cells : Cells) (es : List Cells) → Ascend (items_in cells)
+    → AllAbove item items
+    → best_from items (best_utility rest es) (grown_rows item (fresh best cells))
+    ≡ plus best (cond (holds (item ∷ items) cells) (option_map (λ u. values_of (item ∷ items) cells +ℤ u) (best_utility rest es)) None)
 best_from-fresh item items rest None cells es up above = refl
 best_from-fresh item items rest (Some sum) cells es up above =
     best_from-grown_rows item items (best_utility rest es) ((sum, cells) ∷ []) (up, tt) above
     ∙ better-none (row_best (item ∷ items) (best_utility rest es) (sum, cells))
     ∙ apart (holds (item ∷ items) cells) (values_of (item ∷ items) cells) (best_utility rest es)
   where
-    apart : (b : Bool) (v : ℤ) (u : Option ℤ) → cond b (option_map (λ x. (sum +ℤ v) +ℤ x) u) None ≡ option_map (λ x. sum +ℤ x) (cond b (option_map (λ x. v +ℤ x) u) None)
+    apart : (b : Bool) (v : ℤ) (u : Option ℤ)
+        → cond b (option_map (λ x. (sum +ℤ v) +ℤ x) u) None ≡ option_map (λ x. sum +ℤ x) (cond b (option_map (λ x. v +ℤ x) u) None)
     apart false v u = refl
     apart true v None = refl
     apart true v (Some x) = ap (λ n. Some n) (omega (arith, ints))
@@ -109,8 +114,10 @@ after-parts a x y b g =
     ∙ sym (better-assoc (plus a x) (plus a y) (better (plus b y) g))
     ∙ ap (λ z. better z (better (plus b y) g)) (sym (better-plus a x y))
 
-pub grown_best-after : (item : ℕ) (items : List ℕ) (rest : List (List ℕ)) (best : Option ℤ) (places : Places) → AllByRecursion IsAscending places → AllByRecursion (λ other. item < other) items
-    → grown_best items rest (after item best places) ≡ better (plus best (best_utility ((item ∷ items) ∷ rest) (itemsets_of places))) (grown_best [] ((item ∷ items) ∷ rest) places)
+pub grown_best-after : (item : ℕ) (items : List ℕ) (rest : List (List ℕ)) (best : Option ℤ) (places : Places) → AreAscending places
+    → AllAbove item items
+    → grown_best items rest (after item best places)
+    ≡ better (plus best (best_utility ((item ∷ items) ∷ rest) (itemsets_of places))) (grown_best [] ((item ∷ items) ∷ rest) places)
 grown_best-after item items rest best [] up above = sym (better-none (plus best None) ∙ plus-none best)
 grown_best-after item items rest best (place ∷ places) up above =
     let es = itemsets_of places in
@@ -118,8 +125,9 @@ grown_best-after item items rest best (place ∷ places) up above =
     let here = cond (holds (item ∷ items) place.1) (option_map (λ u. values_of (item ∷ items) place.1 +ℤ u) (best_utility rest es)) None in
     let later = best_utility ((item ∷ items) ∷ rest) es in
     let more = grown_best [] ((item ∷ items) ∷ rest) places in
-    ap (λ ds. better (best_from items (best_utility rest ds) (grown_rows item (fresh best place.1))) (grown_best items rest (after item next places))) (itemsets-after item next places)
-    ∙ ap (λ a. better a (grown_best items rest (after item next places))) (best_from-fresh item items rest best place.1 es up.0.1 above)
+    let grown = grown_best items rest (after item next places) in
+    ap (λ ds. better (best_from items (best_utility rest ds) (grown_rows item (fresh best place.1))) grown) (itemsets-after item next places)
+    ∙ ap (λ a. better a grown) (best_from-fresh item items rest best place.1 es up.0.1 above)
     ∙ ap (λ b. better (plus best here) b) (grown_best-after item items rest next places up.1 above)
     ∙ after-parts best here later (best_sum place.0) more
     ∙ ap (λ b. better (plus best (better here later)) (better b more)) (sym (best_from-none later place.0))

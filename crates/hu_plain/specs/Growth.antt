@@ -1,6 +1,6 @@
 -- What a search for sequences makes of a prefix: a prefix grows by further items in its last itemset and further itemsets
 -- after it. The key of a prefix stays open: its last itemset has no -1 yet.
-use Rattle.std.specs.Prelude.{◌≡◌, refl, ℕ, ◌+◌, ◌<◌, ℤ, pos, negsuc, ◌+ℤ◌, None, is_some, unwrap_or, List, [], ◌∷◌, ◌++◌, map, length}
+use Rattle.std.specs.Prelude.{◌≡◌, refl, ℕ, ◌+◌, ◌<◌, ◌⊎◌, ℤ, pos, negsuc, ◌+ℤ◌, None, is_some, unwrap_or, List, [], ◌∷◌, ◌++◌, map, length}
 use Rattle.std.specs.List.{count_by, AllByRecursion}
 use Rattle.hu_kind.specs.declared.entry.Entry.{Entry}
 use Rattle.hu_kind.specs.Sequence.{sequence_key}
@@ -41,16 +41,25 @@ growth_entry prefix rows items rest = record {
 abbrev pub prefix_entry : List ℤ → List Places → Entry
 prefix_entry prefix rows = record { key = closed prefix; utility = grown_utility rows [] []; support = length rows }
 
+-- an itemset of a pattern: some items, ascending
+abbrev pub IsSet : List ℕ → Type 0
+IsSet items = (0 < length items) × Ascend items
+
 -- an entry is that of a sequence that grows a prefix and occurs
 pub record Grows (prefix : List ℤ) (rows : List Places) (entry : Entry) : Type 0 where
   pub items : List ℕ
   pub rest : List (List ℕ)
   pub some : 0 < length items + length rest
   pub ascending : Ascend items
-  pub itemsets : AllByRecursion (λ s. (0 < length s) × Ascend s) rest
+  pub itemsets : AllByRecursion IsSet rest
   pub occurs : 0 < grown_support rows items rest
-  pub is : entry ≡ growth_entry prefix rows items rest
+  pub is : growth_entry prefix rows items rest ≡ entry
+
+-- an entry is that of a prefix itself, or of a sequence that grows it
+abbrev pub IsGrowth : List ℤ → List Places → Entry → Type 0
+IsGrowth prefix rows entry = (prefix_entry prefix rows ≡ entry) ⊎ Grows prefix rows entry
 
 -- `1 -1` grows by `2 -1` in the record `1[2] -1 1[5] -1 2[3] -1`
-pub grown_by_2 : growth_entry (pos 1 ∷ []) (after 1 None (first_places later_is_greatest) ∷ []) [] ((2 ∷ []) ∷ []) ≡ sequence_entry_of ((1 ∷ []) ∷ (2 ∷ []) ∷ []) 8 1
+pub grown_by_2 : growth_entry (pos 1 ∷ []) (after 1 None (first_places later_is_greatest) ∷ []) [] ((2 ∷ []) ∷ [])
+    ≡ sequence_entry_of ((1 ∷ []) ∷ (2 ∷ []) ∷ []) 8 1
 grown_by_2 = refl

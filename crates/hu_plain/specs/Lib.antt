@@ -4,4 +4,3 @@ pub mod Grown
 pub mod Place
 pub mod Growth
 pub mod PlaceView
-pub mod Makes

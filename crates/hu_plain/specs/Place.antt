@@ -10,18 +10,21 @@ use Rattle.hu_kind.specs.Sequence.{better, best_utility}
 use Rattle.hu_kind.specs.Order.{Ascend}
 use Rattle.hu_plain.specs.declared.places.Step.{Step}
 use Rattle.hu_plain.specs.declared.places.Step.TheVariants.{Into, After}
-use Rattle.hu_plain.specs.Row.{grown_rows}
+use Rattle.hu_plain.specs.Row.{Cells, RowOf, grown_rows, IsRising}
 
--- the places of a record
+-- a place as a pair, and the places of a record
+abbrev pub PlaceOf : Type 0
+PlaceOf = List RowOf × Cells
+
 abbrev pub Places : Type 0
-Places = List (List (ℤ × List (ℕ × ℤ)) × List (ℕ × ℤ))
+Places = List PlaceOf
 
 -- the itemsets of places
-abbrev pub itemsets_of : Places → List (List (ℕ × ℤ))
+abbrev pub itemsets_of : Places → List Cells
 itemsets_of places = map (λ place. place.1) places
 
 -- the best that further items earn from rows of one itemset, where a given utility comes after it
-abbrev pub best_from : List ℕ → Option ℤ → List (ℤ × List (ℕ × ℤ)) → Option ℤ
+abbrev pub best_from : List ℕ → Option ℤ → List RowOf → Option ℤ
 best_from items later [] = None
 best_from items later (row ∷ rows) = better
     (if holds items row.1 then option_map (λ u. (row.0 +ℤ values_of items row.1) +ℤ u) later else None)
@@ -35,7 +38,7 @@ grown_best items rest (place ∷ places) = better
     (grown_best items rest places)
 
 -- the best of the sums that rows earned
-abbrev pub best_sum : List (ℤ × List (ℕ × ℤ)) → Option ℤ
+abbrev pub best_sum : List RowOf → Option ℤ
 best_sum [] = None
 best_sum (row ∷ rows) = better (Some row.0) (best_sum rows)
 
@@ -45,7 +48,7 @@ best_of [] = None
 best_of (place ∷ places) = better (best_sum place.0) (best_of places)
 
 -- the row of a whole itemset after a sum, if there is one
-abbrev pub fresh : Option ℤ → List (ℕ × ℤ) → List (ℤ × List (ℕ × ℤ))
+abbrev pub fresh : Option ℤ → Cells → List RowOf
 fresh best cells = option_to_list (option_map (λ sum. (sum, cells)) best)
 
 -- the places of the prefix with an item in its last itemset
@@ -78,11 +81,11 @@ abbrev pub all_stepped : Step → List Places → List Places
 all_stepped step rows = filter occurs_at (map (stepped step) rows)
 
 -- the places of a record for the empty prefix
-abbrev pub first_places : List (List (ℕ × ℤ)) → Places
+abbrev pub first_places : List Cells → Places
 first_places elements = ((pos 0, []) ∷ [], []) ∷ map (λ cells. ([], cells)) elements
 
 -- the most that the sums and the cells after them come to at one place, by what a sum and an itemset count for
-abbrev pub reach : (ℤ → ℕ) → (List (ℕ × ℤ) → ℕ) → Places → ℕ
+abbrev pub reach : (ℤ → ℕ) → (Cells → ℕ) → Places → ℕ
 reach h g [] = 0
 reach h g (place ∷ places) = max
     (sum_by (λ row. (h row.0 + g row.1) + sum_by g (itemsets_of places)) place.0)
@@ -99,13 +102,16 @@ IsBegun (([], cells) ∷ places) = ⊥
 IsBegun ((row ∷ rows, cells) ∷ places) = ⊤
 
 -- a place whose items ascend
-abbrev pub IsAscending : List (ℤ × List (ℕ × ℤ)) × List (ℕ × ℤ) → Type 0
-IsAscending place = AllByRecursion (λ row. Ascend (items_in row.1)) place.0 × Ascend (items_in place.1)
+abbrev pub IsAscending : PlaceOf → Type 0
+IsAscending place = AllByRecursion IsRising place.0 × Ascend (items_in place.1)
+
+abbrev pub AreAscending : Places → Type 0
+AreAscending places = AllByRecursion IsAscending places
 
 -- places as a search keeps them: they begin with one in which the prefix ends, the items ascend, and no sum is too large
 pub record ArePlaces (rows : List Places) : Type 0 where
   pub begin : AllByRecursion IsBegun rows
-  pub ascending : AllByRecursion (λ places. AllByRecursion IsAscending places) rows
+  pub ascending : AllByRecursion AreAscending rows
   pub sum_fits : sum_by reach_of rows < 2 ^ 127
 
 -- the places in the record `1[2] -1 1[5] -1 2[3] -1` of `1 -1`, and the best utility of `1 -1 2 -1`

@@ -1,5 +1,5 @@
 -- How places and steps as a search keeps them are seen.
-use Rattle.std.specs.Prelude.{◌↔◌, ◌<◌, ℕ, ℤ, Option, option_map, option_to_list, List, [], ◌∷◌, ◌++◌, map, length}
+use Rattle.std.specs.Prelude.{◌<◌, ℕ, ℤ, Option, option_map, option_to_list, List, [], ◌∷◌, ◌++◌, map, length}
 use Rattle.std.specs.Global.{Vec}
 use Rattle.std.specs.List.{Contains, flat_map}
 use Rattle.hu_kind.specs.declared.item.Item.{Item}
@@ -9,15 +9,16 @@ use Rattle.hu_plain.specs.declared.row.Row.{Row}
 use Rattle.hu_plain.specs.declared.places.Place.{Place}
 use Rattle.hu_plain.specs.declared.places.Step.{Step}
 use Rattle.hu_plain.specs.declared.places.Step.TheVariants.{Into, After}
+use Rattle.hu_plain.specs.Row.{RowOf}
 use Rattle.hu_plain.specs.View.{row_of}
-use Rattle.hu_plain.specs.Place.{Places, all_stepped, begun, itemsets_of}
+use Rattle.hu_plain.specs.Place.{PlaceOf, Places, all_stepped, begun, itemsets_of}
 
 -- a row, if there is one
-abbrev pub rows_in : Option Row → List (ℤ × List (ℕ × ℤ))
+abbrev pub rows_in : Option Row → List RowOf
 rows_in row = option_to_list (option_map row_of row)
 
 -- a place as a pair
-abbrev pub place_of : Place → List (ℤ × List (ℕ × ℤ)) × List (ℕ × ℤ)
+abbrev pub place_of : Place → PlaceOf
 place_of place = (rows_in place.end, pairs_of place.cells.now)
 
 -- places as pairs
@@ -29,7 +30,7 @@ abbrev pub all_places : List (Vec Place) → List Places
 all_places rows = map (λ places. places_of places.items) rows
 
 -- places with one more, but with none before the first in which the prefix ends
-abbrev pub pushed : Places → List (ℤ × List (ℕ × ℤ)) × List (ℕ × ℤ) → Places
+abbrev pub pushed : Places → PlaceOf → Places
 pushed [] place = begun (place ∷ [])
 pushed (first ∷ places) place = (first ∷ places) ++ place ∷ []
 
@@ -49,6 +50,6 @@ step_into item = Into item
 abbrev pub step_after : Item → Step
 step_after item = After item
 
--- steps are just those that the prefix can take in some record
-abbrev pub AreSteps : List Places → List Step → Type 0
-AreSteps rows steps = (step : Step) → Contains steps step ↔ (0 < length (all_stepped step rows))
+-- the steps that the prefix can take in some record are among these
+abbrev pub HasSteps : List Places → List Step → Type 0
+HasSteps rows steps = (step : Step) → 0 < length (all_stepped step rows) → Contains steps step

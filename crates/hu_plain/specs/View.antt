@@ -1,28 +1,22 @@
 -- A row as a search keeps it is seen as the pair of what its prefix earned and the pairs of its cells.
-use Rattle.std.specs.Prelude.{◌↔◌, ℕ, ℤ, pos, List, map}
-use Rattle.std.specs.List.{Contains, flat_map}
+use Rattle.std.specs.Prelude.{ℕ, ℤ, pos, List, map}
 use Rattle.hu_kind.specs.declared.item.Item.{Item}
 use Rattle.hu_kind.specs.Cell.{pairs_of}
-use Rattle.hu_kind.specs.Record.{items_in}
 use Rattle.hu_plain.specs.declared.row.Row.{Row}
-use Rattle.hu_plain.specs.Row.{tails}
+use Rattle.hu_plain.specs.Row.{Cells, RowOf}
 
 -- a row as a pair
-abbrev pub row_of : Row → ℤ × List (ℕ × ℤ)
+abbrev pub row_of : Row → RowOf
 row_of row = (row.earned, pairs_of row.tail.now)
 
 -- rows as pairs
-abbrev pub rows_of : List Row → List (ℤ × List (ℕ × ℤ))
+abbrev pub rows_of : List Row → List RowOf
 rows_of rows = map row_of rows
 
 -- the row of the empty prefix in a record
-abbrev pub first_row : List (ℕ × ℤ) → ℤ × List (ℕ × ℤ)
+abbrev pub first_row : Cells → RowOf
 first_row cells = (pos 0, cells)
 
 -- the numbers of items
 abbrev pub numbers_of : List Item → List ℕ
 numbers_of items = map (λ item. item.0) items
-
--- items are those of some cells after a prefix
-abbrev pub AreLaterItems : List (ℤ × List (ℕ × ℤ)) → List Item → Type 0
-AreLaterItems rows items = (number : ℕ) → Contains (numbers_of items) number ↔ Contains (flat_map items_in (tails rows)) number

@@ -3,9 +3,10 @@
 ghost use Rattle.std.specs.Prelude.{◌≡◌, ◌==◌, ◌+◌, ◌<◌, ◌≤◌, ◌^◌, ◌∷◌, ◌++◌, map, drop, length, filter, IfOk, OnOk};
 ghost use Rattle.hu_kind.specs.Cell.{pairs_of};
 ghost use Rattle.std.specs.List.Sorted.{IsNonDecreasingBy, IsPartitionPoint};
-ghost use Rattle.hu_plain.specs.Grown.{grown_cells, pair_with, AreGrown};
-ghost use Rattle.hu_plain.specs.Row.{grown_rows, weight_of, AreRows};
-ghost use Rattle.hu_plain.specs.View.{row_of, rows_of};
+ghost use Rattle.hu_collect.specs.Laws.{SameMembers};
+ghost use Rattle.hu_plain.specs.Grown.{grown_from, item_at, made_of, pair_with, AreGrown};
+ghost use Rattle.hu_plain.specs.Row.{weight_of, AreRows};
+ghost use Rattle.hu_plain.specs.View.{row_of, rows_of, numbers_of};
 
 use crate::row::Row;
 use hu_kind::{Item, NoMemory};
@@ -34,7 +35,7 @@ pub(crate) fn all_grown<'a>(alloc: Global, rows: &[Row<'a>]) -> Result<Vec<Grown
 /// Appends the rows that its items make of a row.
 fn push_grown<'a>(grown: &mut Vec<Grown<'a>>, row: &Row<'a>) -> Result<(), NoMemory>
     requires { weight_of (row_of row.now) < 2 ^ 127 }
-    ensures { OnOk result (map pair_with grown.new.items ≡ map pair_with grown.old.items ++ grown_cells (row_of row.now).0 (row_of row.now).1) }
+    ensures { OnOk result (map pair_with grown.new.items ≡ map pair_with grown.old.items ++ grown_from row.now 0) }
 {
     for place in 0..row.tail.len() {
         grown.push(grown_at(row, place))?;
@@ -46,7 +47,7 @@ fn push_grown<'a>(grown: &mut Vec<Grown<'a>>, row: &Row<'a>) -> Result<(), NoMem
 fn grown_at<'a>(row: &Row<'a>, place: usize) -> Grown<'a>
     requires within { place < length row.now.tail.now }
     requires fits { weight_of (row_of row.now) < 2 ^ 127 }
-    ensures { pair_with result ∷ grown_cells row.now.earned (pairs_of (drop (place + 1) row.now.tail.now)) ≡ grown_cells row.now.earned (pairs_of (drop place row.now.tail.now)) }
+    ensures { pair_with result ∷ grown_from row.now (place + 1) ≡ grown_from row.now place }
 {
     let cell = row.tail[place];
     Grown {
@@ -58,14 +59,26 @@ fn grown_at<'a>(row: &Row<'a>, place: usize) -> Grown<'a>
     }
 }
 
+/// The items of grown rows, each once where they stand by item.
+pub(crate) fn items_of(alloc: Global, grown: &[Grown<'_>]) -> Result<Vec<Item>, NoMemory>
+    ensures { IfOk result (λ items. SameMembers (map item_at grown.now) (numbers_of items.items)) }
+{
+    let mut items = Vec::new(alloc);
+    for one in grown {
+        items.push(one.item)?;
+    }
+    items.dedup();
+    Ok(items)
+}
+
 /// The rows that an item makes. They are found by halves.
 pub(crate) fn grown_rows<'a>(
     alloc: Global,
     grown: &[Grown<'a>],
     item: Item,
 ) -> Result<Vec<Row<'a>>, NoMemory>
-    requires { IsNonDecreasingBy (λ one. one.item.0) grown.now }
-    ensures { IfOk result (λ rows. rows_of rows.items ≡ map (λ one. row_of one.row) (filter (λ one. item.0 == one.item.0) grown.now)) }
+    requires { IsNonDecreasingBy item_at grown.now }
+    ensures { IfOk result (λ rows. rows_of rows.items ≡ made_of item.0 grown.now) }
 {
     let mut rows = Vec::new(alloc);
     for one in grown_by(grown, item) {
@@ -76,7 +89,7 @@ pub(crate) fn grown_rows<'a>(
 
 /// The grown rows of an item.
 fn grown_by<'b, 'a>(grown: &'b [Grown<'a>], item: Item) -> &'b [Grown<'a>]
-    requires { IsNonDecreasingBy (λ one. one.item.0) grown.now }
+    requires { IsNonDecreasingBy item_at grown.now }
     ensures { result.now ≡ filter (λ one. item.0 == one.item.0) grown.now }
 {
     &grown[count_below(grown, item)..count_upto(grown, item)]
@@ -84,7 +97,7 @@ fn grown_by<'b, 'a>(grown: &'b [Grown<'a>], item: Item) -> &'b [Grown<'a>]
 
 /// How many of their items are below an item.
 fn count_below(grown: &[Grown<'_>], item: Item) -> usize
-    requires { IsNonDecreasingBy (λ one. one.item.0) grown.now }
+    requires { IsNonDecreasingBy item_at grown.now }
     ensures bound { result ≤ length grown.now }
     ensures splits { IsPartitionPoint (λ one. one.item.0 < item.0) (λ one. item.0 ≤ one.item.0) grown.now result }
 {
@@ -93,7 +106,7 @@ fn count_below(grown: &[Grown<'_>], item: Item) -> usize
 
 /// How many of their items are not above an item.
 fn count_upto(grown: &[Grown<'_>], item: Item) -> usize
-    requires { IsNonDecreasingBy (λ one. one.item.0) grown.now }
+    requires { IsNonDecreasingBy item_at grown.now }
     ensures bound { result ≤ length grown.now }
     ensures splits { IsPartitionPoint (λ one. one.item.0 ≤ item.0) (λ one. item.0 < one.item.0) grown.now result }
 {

@@ -1,25 +1,23 @@
 //! The plain engine for itemsets.
 
-ghost use Rattle.std.specs.Prelude.{◌≡◌, [], ◌∷◌, ◌++◌, pos, IfOk, OnOk, OnErr};
+ghost use Rattle.std.specs.Prelude.{◌≡◌, [], ◌∷◌, OnOk};
 ghost use Rattle.hu_kind.specs.Itemsets.{item_patterns};
 ghost use Rattle.hu_base.specs.Base.{records_of};
-ghost use Rattle.hu_collect.specs.Rule.{made, IsKept, MakesSome};
-ghost use Rattle.hu_collect.specs.State.{Mines};
-ghost use Rattle.hu_plain.specs.Row.{grown_entry, grown_patterns, grown_rows, AreRows};
-ghost use Rattle.hu_plain.specs.Grown.{AreGrown};
+ghost use Rattle.hu_collect.specs.State.{IsInOrder, Takes, Searches, Mines};
+ghost use Rattle.hu_plain.specs.Row.{grown_entry, key_with, AreRows, Grows, IsGrowth};
 ghost use Rattle.hu_plain.specs.View.{rows_of};
 
-use crate::grown::{Grown, all_grown, grown_rows};
-use crate::row::{Row, first_rows, later_items, total_earned};
+use crate::grown::{all_grown, grown_rows, items_of};
+use crate::row::{Row, first_rows, total_earned};
 use hu_base::Base;
-use hu_collect::{Collect, law_of_members, law_of_turns};
+use hu_collect::Collect;
 use hu_kind::{Entry, Item, Key, NoMemory, Record};
 use std::alloc::Global;
 
 /// Offers each itemset that some record holds, with its utility and its support. Nothing is cut. A set is grown over the
-/// records that hold it alone: what each cell after the set makes of its record is sorted by item. The memory is a row for
-/// each cell after a set or one of its prefixes in the records that hold it. After want of memory some of the sets have
-/// been offered.
+/// records that hold it alone: what each cell after the set makes of its record is sorted by item, once. The memory is a
+/// row for each cell after a set or one of its prefixes in the records that hold it. After want of memory some of the sets
+/// have been offered.
 pub fn mine_items<C: Collect>(
     alloc: Global,
     base: &Base<Record>,
@@ -35,6 +33,7 @@ pub fn mine_items<C: Collect>(
 }
 
 /// Offers each itemset that grows the prefix.
+#[cycle(search)]
 fn search<C: Collect>(
     alloc: Global,
     rows: &[Row<'_>],
@@ -42,46 +41,38 @@ fn search<C: Collect>(
     collect: &mut C,
 ) -> Result<(), NoMemory>
     requires rows { AreRows (rows_of rows.now) }
-    requires kept { IsKept ((C.state collect.old).rule) ((C.state collect.old).content) }
-    ensures rule { (C.state collect.new).rule ≡ (C.state collect.old).rule }
+    requires in_order { IsInOrder (C.state collect.old) }
     ensures prefix { OnOk result (prefix.new ≡ prefix.old) }
-    ensures ok { OnOk result ((C.state collect.new).content ≡ made ((C.state collect.old).rule) ((C.state collect.old).content) (grown_patterns prefix.old (rows_of rows.now))) }
-    ensures err { OnErr result (MakesSome ((C.state collect.old).rule) ((C.state collect.old).content) (grown_patterns prefix.old (rows_of rows.now)) ((C.state collect.new).content)) }
+    ensures searches { Searches (C.state collect.old) (Grows prefix.old (rows_of rows.now)) (C.state collect.new) result }
 {
-    law_of_turns();
-    law_of_members();
-    let items = later_items(alloc, rows)?;
     let all = all_grown(alloc, rows)?;
+    let items = items_of(alloc, &all)?;
     'items: for item in &items {
-        let grown = grow(alloc, rows, &all, *item, prefix, collect)?;
-        search(alloc, &grown, prefix, collect)?;
-        prefix.pop();
+        let grown = grown_rows(alloc, &all, *item)?;
+        enter(alloc, &grown, *item, prefix, collect)?;
     }
     Ok(())
 }
 
-/// Puts an item to the prefix, and offers what that makes.
-fn grow<'a, C: Collect>(
+/// Offers the prefix with an item more, and each itemset that grows it.
+#[cycle(search)]
+fn enter<C: Collect>(
     alloc: Global,
-    rows: &[Row<'a>],
-    all: &[Grown<'a>],
+    rows: &[Row<'_>],
     item: Item,
     prefix: &mut Key,
     collect: &mut C,
-) -> Result<Vec<Row<'a>>, NoMemory>
+) -> Result<(), NoMemory>
     requires rows { AreRows (rows_of rows.now) }
-    requires all { AreGrown (rows_of rows.now) all.now }
-    ensures rule { (C.state collect.new).rule ≡ (C.state collect.old).rule }
-    ensures rows { IfOk result (λ grown. rows_of grown.items ≡ grown_rows item.0 (rows_of rows.now)) }
-    ensures rules { IfOk result (λ grown. AreRows (rows_of grown.items)) }
-    ensures prefix { OnOk result (prefix.new ≡ prefix.old ++ pos item.0 ∷ []) }
-    ensures ok { OnOk result ((C.state collect.new).content ≡ made ((C.state collect.old).rule) ((C.state collect.old).content) (grown_entry (prefix.old ++ pos item.0 ∷ []) (grown_rows item.0 (rows_of rows.now)) [] ∷ [])) }
-    ensures err { OnErr result ((C.state collect.new).content ≡ (C.state collect.old).content) }
+    requires in_order { IsInOrder (C.state collect.old) }
+    ensures prefix { OnOk result (prefix.new ≡ prefix.old) }
+    ensures searches { Searches (C.state collect.old) (IsGrowth (key_with prefix.old item.0) (rows_of rows.now)) (C.state collect.new) result }
 {
-    let grown = grown_rows(alloc, all, item)?;
     prefix.push(i64::from(item.0))?;
-    offer(alloc, &grown, prefix, collect)?;
-    Ok(grown)
+    offer(alloc, rows, prefix, collect)?;
+    search(alloc, rows, prefix, collect)?;
+    prefix.pop();
+    Ok(())
 }
 
 /// Offers the prefix itself.
@@ -92,9 +83,7 @@ fn offer<C: Collect>(
     collect: &mut C,
 ) -> Result<(), NoMemory>
     requires { AreRows (rows_of rows.now) }
-    ensures rule { (C.state collect.new).rule ≡ (C.state collect.old).rule }
-    ensures ok { OnOk result ((C.state collect.new).content ≡ made ((C.state collect.old).rule) ((C.state collect.old).content) (grown_entry prefix.now (rows_of rows.now) [] ∷ [])) }
-    ensures err { OnErr result ((C.state collect.new).content ≡ (C.state collect.old).content) }
+    ensures { Takes (C.state collect.old) (grown_entry prefix.now (rows_of rows.now) [] ∷ []) (C.state collect.new) result }
 {
     collect.offer(Entry {
         key: prefix.copy_in(alloc)?,

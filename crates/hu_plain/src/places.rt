@@ -7,11 +7,11 @@ ghost use Rattle.hu_kind.specs.Record.{items_in, absolute_of};
 ghost use Rattle.hu_kind.specs.Sequence.{better};
 ghost use Rattle.hu_kind.specs.Order.{Ascend};
 ghost use Rattle.hu_collect.specs.Laws.{SameMembers};
-ghost use Rattle.hu_plain.specs.Row.{grown_rows, weight_of};
+ghost use Rattle.hu_plain.specs.Row.{grown_rows, AreRows};
 ghost use Rattle.hu_plain.specs.View.{numbers_of};
 ghost use Rattle.hu_plain.specs.Growth.{grown_utility};
-ghost use Rattle.hu_plain.specs.Place.{after, all_stepped, begun, best_of, best_sum, first_places, fresh, into, itemsets_of, reach_of, stepped, ArePlaces, IsAscending};
-ghost use Rattle.hu_plain.specs.PlaceView.{all_places, following, joining, pushed, rows_in, step_after, step_into, place_of, places_of, AreSteps};
+ghost use Rattle.hu_plain.specs.Place.{after, all_stepped, begun, best_of, best_sum, first_places, fresh, into, itemsets_of, reach_of, stepped, ArePlaces, AreAscending};
+ghost use Rattle.hu_plain.specs.PlaceView.{all_places, following, joining, pushed, rows_in, step_after, step_into, place_of, places_of, HasSteps};
 
 use crate::row::{Row, distinct, push_items};
 use hu_kind::{Cell, Item, NoMemory, SeqRecord};
@@ -36,8 +36,7 @@ pub(crate) struct Place<'a> {
 impl<'a> Place<'a> {
     /// The place at the same itemset that a row makes with an item more.
     fn ended(&self, row: Option<Row<'a>>, item: Item) -> Place<'a>
-        requires ascending { AllByRecursion (λ pair. Ascend (items_in pair.1)) (rows_in row) }
-        requires sum_fits { sum_by weight_of (rows_in row) < 2 ^ 127 }
+        requires { AreRows (rows_in row) }
         ensures { place_of result ≡ (grown_rows item.0 (rows_in row.entry), pairs_of self.now.cells.now) }
     {
         Place {
@@ -66,8 +65,7 @@ impl<'a> Place<'a> {
 
 /// The row with an item more.
 fn grown_row(row: Option<Row<'_>>, item: Item) -> Option<Row<'_>>
-    requires ascending { AllByRecursion (λ pair. Ascend (items_in pair.1)) (rows_in row) }
-    requires sum_fits { sum_by weight_of (rows_in row) < 2 ^ 127 }
+    requires { AreRows (rows_in row) }
     ensures { rows_in result ≡ grown_rows item.0 (rows_in row.entry) }
 {
     row?.grown(item)
@@ -98,7 +96,7 @@ pub(crate) fn best_of(places: &[Place<'_>]) -> Option<i128>
 /// The places of a record for the empty prefix, which ends before the first itemset.
 fn first_places(alloc: Global, sequence: &SeqRecord) -> Result<Vec<Place<'_>>, NoMemory>
     ensures value { IfOk result (λ places. places_of places.items ≡ first_places sequence.now) }
-    ensures ascending { IfOk result (λ places. AllByRecursion IsAscending (places_of places.items)) }
+    ensures ascending { IfOk result (λ places. AreAscending (places_of places.items)) }
 {
     let mut places = Vec::new(alloc);
     places.push(Place {
@@ -135,7 +133,7 @@ pub(crate) fn first_places_of(
 
 /// The places with an item more in the last itemset.
 fn into<'a>(alloc: Global, places: &[Place<'a>], item: Item) -> Result<Vec<Place<'a>>, NoMemory>
-    requires ascending { AllByRecursion IsAscending (places_of places.now) }
+    requires ascending { AreAscending (places_of places.now) }
     requires sum_fits { reach_of (places_of places.now) < 2 ^ 127 }
     ensures { IfOk result (λ grown. places_of grown.items ≡ begun (into item.0 (places_of places.now))) }
 {
@@ -148,7 +146,7 @@ fn into<'a>(alloc: Global, places: &[Place<'a>], item: Item) -> Result<Vec<Place
 
 /// The places with an item in a new itemset. Each itemset goes with the best occurrence that ends before it.
 fn after<'a>(alloc: Global, places: &[Place<'a>], item: Item) -> Result<Vec<Place<'a>>, NoMemory>
-    requires ascending { AllByRecursion IsAscending (places_of places.now) }
+    requires ascending { AreAscending (places_of places.now) }
     requires sum_fits { reach_of (places_of places.now) < 2 ^ 127 }
     ensures { IfOk result (λ grown. places_of grown.items ≡ begun (after item.0 None (places_of places.now))) }
 {
@@ -173,7 +171,7 @@ fn push_place<'a>(places: &mut Vec<Place<'a>>, place: Place<'a>) -> Result<(), N
 
 /// The places after a step.
 fn stepped<'a>(alloc: Global, places: &[Place<'a>], step: Step) -> Result<Vec<Place<'a>>, NoMemory>
-    requires ascending { AllByRecursion IsAscending (places_of places.now) }
+    requires ascending { AreAscending (places_of places.now) }
     requires sum_fits { reach_of (places_of places.now) < 2 ^ 127 }
     ensures { IfOk result (λ grown. places_of grown.items ≡ stepped step (places_of places.now)) }
 {
@@ -215,14 +213,20 @@ pub(crate) fn total_best(rows: &[Vec<Place<'_>>]) -> i128
     sum
 }
 
-/// The steps that the prefix can take in some record, each once.
+/// The steps that the prefix can take in some record, and maybe others, each once.
 pub(crate) fn steps_of(alloc: Global, rows: &[Vec<Place<'_>>]) -> Result<Vec<Step>, NoMemory>
     requires { ArePlaces (all_places rows.now) }
-    ensures { IfOk result (λ steps. AreSteps (all_places rows.now) steps.items) }
+    ensures { IfOk result (λ steps. HasSteps (all_places rows.now) steps.items) }
 {
+    let mut joining = Vec::new(alloc);
+    let mut following = Vec::new(alloc);
+    for places in rows {
+        push_joining(&mut joining, places)?;
+        push_following(&mut following, places)?;
+    }
     let mut steps = Vec::new(alloc);
-    push_into(&mut steps, &joining_items(alloc, rows)?)?;
-    push_after(&mut steps, &following_items(alloc, rows)?)?;
+    push_into(&mut steps, &distinct(joining))?;
+    push_after(&mut steps, &distinct(following))?;
     Ok(steps)
 }
 
@@ -244,28 +248,6 @@ fn push_after(steps: &mut Vec<Step>, items: &[Item]) -> Result<(), NoMemory>
         steps.push(Step::After(*item))?;
     }
     Ok(())
-}
-
-/// The items that can join the last itemset in some record, each once.
-fn joining_items(alloc: Global, rows: &[Vec<Place<'_>>]) -> Result<Vec<Item>, NoMemory>
-    ensures { IfOk result (λ items. SameMembers (flat_map joining (all_places rows.now)) (numbers_of items.items)) }
-{
-    let mut items = Vec::new(alloc);
-    for places in rows {
-        push_joining(&mut items, places)?;
-    }
-    Ok(distinct(items))
-}
-
-/// The items that can begin a new itemset in some record, each once.
-fn following_items(alloc: Global, rows: &[Vec<Place<'_>>]) -> Result<Vec<Item>, NoMemory>
-    ensures { IfOk result (λ items. SameMembers (flat_map following (all_places rows.now)) (numbers_of items.items)) }
-{
-    let mut items = Vec::new(alloc);
-    for places in rows {
-        push_following(&mut items, places)?;
-    }
-    Ok(distinct(items))
 }
 
 /// Appends the items that can join the last itemset in a record.

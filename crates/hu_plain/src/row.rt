@@ -8,7 +8,7 @@ ghost use Rattle.hu_kind.specs.Record.{items_in, absolute_of};
 ghost use Rattle.hu_kind.specs.Order.{Ascend};
 ghost use Rattle.hu_collect.specs.Laws.{SameMembers};
 ghost use Rattle.hu_plain.specs.Row.{earned, grown_row, grown_rows, weight_of, AreRows};
-ghost use Rattle.hu_plain.specs.View.{row_of, rows_of, first_row, numbers_of, AreLaterItems};
+ghost use Rattle.hu_plain.specs.View.{row_of, rows_of, first_row, numbers_of};
 
 use hu_kind::{Cell, Item, NoMemory, Record};
 use std::alloc::Global;
@@ -63,17 +63,6 @@ pub(crate) fn first_rows(alloc: Global, records: &[Record]) -> Result<Vec<Row<'_
         })?;
     }
     Ok(rows)
-}
-
-/// The items that stand after the prefix, ascending and each once.
-pub(crate) fn later_items(alloc: Global, rows: &[Row<'_>]) -> Result<Vec<Item>, NoMemory>
-    ensures { IfOk result (λ items. AreLaterItems (rows_of rows.now) items.items) }
-{
-    let mut items = Vec::new(alloc);
-    for row in rows {
-        push_items(&mut items, row.tail)?;
-    }
-    Ok(distinct(items))
 }
 
 /// The same items, ascending and each once.

@@ -1,18 +1,16 @@
 //! The plain engine for sequences.
 
-ghost use Rattle.std.specs.Prelude.{◌≡◌, ℤ, List, [], ◌∷◌, OnOk, OnErr};
+ghost use Rattle.std.specs.Prelude.{◌≡◌, ℤ, List, [], ◌∷◌, OnOk};
 ghost use Rattle.hu_kind.specs.Sequence.{sequence_patterns};
 ghost use Rattle.hu_base.specs.Base.{records_of};
-ghost use Rattle.hu_collect.specs.Rule.{made, IsKept, MakesSome};
-ghost use Rattle.hu_collect.specs.State.{Mines};
-ghost use Rattle.hu_plain.specs.Makes.{MakesAllOf, MakesSomeOf};
-ghost use Rattle.hu_plain.specs.Growth.{closed, prefix_entry, stepped_key, Grows};
+ghost use Rattle.hu_collect.specs.State.{IsInOrder, Takes, Searches, Mines};
+ghost use Rattle.hu_plain.specs.Growth.{closed, prefix_entry, stepped_key, Grows, IsGrowth};
 ghost use Rattle.hu_plain.specs.Place.{ArePlaces};
 ghost use Rattle.hu_plain.specs.PlaceView.{all_places};
 
 use crate::places::{Place, Step, all_stepped, first_places_of, steps_of, total_best};
 use hu_base::Base;
-use hu_collect::{Collect, law_of_members, law_of_turns};
+use hu_collect::Collect;
 use hu_kind::{Entry, Key, NoMemory, SeqRecord};
 use std::alloc::Global;
 
@@ -29,15 +27,15 @@ pub fn mine_sequences<C: Collect>(
 ) -> Result<(), NoMemory>
     ensures { Mines (C.state collect.old) (sequence_patterns (records_of base.now)) (C.state collect.new) result }
 {
-    // These tell the proof that the content is in order, that no sum overflows, and what collectors make of members.
+    // These two tell the proof that the content is in order, and that no sum overflows.
     let _floor = collect.floor();
     let _sum = base.sum();
-    law_of_members();
     let rows = first_places_of(alloc, base.records())?;
     search(alloc, &rows, &mut Key::new(alloc), collect)
 }
 
 /// Offers each sequence that grows the prefix.
+#[cycle(search)]
 fn search<C: Collect>(
     alloc: Global,
     rows: &[Vec<Place<'_>>],
@@ -45,39 +43,40 @@ fn search<C: Collect>(
     collect: &mut C,
 ) -> Result<(), NoMemory>
     requires rows { ArePlaces (all_places rows.now) }
-    requires kept { IsKept ((C.state collect.old).rule) ((C.state collect.old).content) }
-    ensures rule { (C.state collect.new).rule ≡ (C.state collect.old).rule }
+    requires in_order { IsInOrder (C.state collect.old) }
     ensures prefix { OnOk result (prefix.new ≡ prefix.old) }
-    ensures ok { OnOk result (MakesAllOf ((C.state collect.old).rule) ((C.state collect.old).content) (Grows prefix.old (all_places rows.now)) ((C.state collect.new).content)) }
-    ensures err { OnErr result (MakesSomeOf ((C.state collect.old).rule) ((C.state collect.old).content) (Grows prefix.old (all_places rows.now)) ((C.state collect.new).content)) }
+    ensures searches { Searches (C.state collect.old) (Grows prefix.old (all_places rows.now)) (C.state collect.new) result }
 {
-    law_of_turns();
     let steps = steps_of(alloc, rows)?;
     'steps: for step in &steps {
         let grown = all_stepped(alloc, rows, *step)?;
-        grow(alloc, &grown, *step, prefix, collect)?;
-        search(alloc, &grown, prefix, collect)?;
-        leave(prefix, *step);
+        if grown.is_empty() {
+            continue;
+        }
+        enter(alloc, &grown, *step, prefix, collect)?;
     }
     Ok(())
 }
 
-/// Puts a step to the prefix, and offers what that makes.
-fn grow<C: Collect>(
+/// Offers the prefix with a step more, and each sequence that grows it.
+#[cycle(search)]
+fn enter<C: Collect>(
     alloc: Global,
     rows: &[Vec<Place<'_>>],
     step: Step,
     prefix: &mut Key,
     collect: &mut C,
 ) -> Result<(), NoMemory>
-    requires { ArePlaces (all_places rows.now) }
-    ensures rule { (C.state collect.new).rule ≡ (C.state collect.old).rule }
-    ensures prefix { OnOk result (prefix.new ≡ stepped_key prefix.old step) }
-    ensures ok { OnOk result ((C.state collect.new).content ≡ made ((C.state collect.old).rule) ((C.state collect.old).content) (prefix_entry (stepped_key prefix.old step) (all_places rows.now) ∷ [])) }
-    ensures err { OnErr result ((C.state collect.new).content ≡ (C.state collect.old).content) }
+    requires rows { ArePlaces (all_places rows.now) }
+    requires in_order { IsInOrder (C.state collect.old) }
+    ensures prefix { OnOk result (prefix.new ≡ prefix.old) }
+    ensures searches { Searches (C.state collect.old) (IsGrowth (stepped_key prefix.old step) (all_places rows.now)) (C.state collect.new) result }
 {
-    enter(prefix, step)?;
-    offer(alloc, rows, prefix, collect)
+    push_step(prefix, step)?;
+    offer(alloc, rows, prefix, collect)?;
+    search(alloc, rows, prefix, collect)?;
+    pop_step(prefix, step);
+    Ok(())
 }
 
 /// Offers the prefix itself.
@@ -88,9 +87,7 @@ fn offer<C: Collect>(
     collect: &mut C,
 ) -> Result<(), NoMemory>
     requires { ArePlaces (all_places rows.now) }
-    ensures rule { (C.state collect.new).rule ≡ (C.state collect.old).rule }
-    ensures ok { OnOk result ((C.state collect.new).content ≡ made ((C.state collect.old).rule) ((C.state collect.old).content) (prefix_entry prefix.now (all_places rows.now) ∷ [])) }
-    ensures err { OnErr result ((C.state collect.new).content ≡ (C.state collect.old).content) }
+    ensures { Takes (C.state collect.old) (prefix_entry prefix.now (all_places rows.now) ∷ []) (C.state collect.new) result }
 {
     let mut key = prefix.copy_in(alloc)?;
     close(&mut key)?;
@@ -112,7 +109,7 @@ fn close(key: &mut Key) -> Result<(), NoMemory>
 }
 
 /// Puts the item of a step to a prefix.
-fn enter(prefix: &mut Key, step: Step) -> Result<(), NoMemory>
+fn push_step(prefix: &mut Key, step: Step) -> Result<(), NoMemory>
     ensures { OnOk result (prefix.new ≡ stepped_key prefix.old step) }
 {
     match step {
@@ -125,7 +122,7 @@ fn enter(prefix: &mut Key, step: Step) -> Result<(), NoMemory>
 }
 
 /// Takes back what a step put to a prefix.
-fn leave(prefix: &mut Key, step: Step)
+fn pop_step(prefix: &mut Key, step: Step)
     ensures { (before : List ℤ) → prefix.old ≡ stepped_key before step → prefix.new ≡ before }
 {
     prefix.pop();

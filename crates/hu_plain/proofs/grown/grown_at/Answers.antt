@@ -10,11 +10,7 @@ no_cell = record { item = record { 0 = 0 }; value = pos 0 }
 
 pub overflow_add-result : goal.overflow_add-result
 unfolding no_cell
-overflow_add-result c =
-    let row = c.args.row.now in
-    let within = absolute_of-at row.tail.now c.args.place no_cell c.requires.within in
-    let fits = c.requires.fits in
-    omega (arith, ints, within, fits)
+overflow_add-result c = omega (arith, ints, absolute_of-at c.args.row.now.tail.now c.args.place no_cell c.requires.within, c.requires.fits)
 
 pub returns : goal.returns
 unfolding no_cell
@@ -22,4 +18,4 @@ returns c =
     let row = c.args.row.now in
     let within = absolute_of-at row.tail.now c.args.place no_cell c.requires.within in
     let fits = c.requires.fits in
-    at_place row.earned _ row.tail.now _ c.args.place no_cell c.requires.within (omega (arith, ints, within, fits)) (rest_of row.tail.now c.args.place)
+    at_place row _ _ c.args.place no_cell c.requires.within (omega (arith, ints, within, fits)) (rest_of row.tail.now c.args.place)

@@ -1,104 +1,127 @@
-use Rattle.std.proofs.Common.{rules, ◌≡◌, [], ◌∷◌, ◌++◌, pos, ◌<◌, ◌∙◌, sym, subst, get_or, arith}
-use Rattle.std.proofs.lemmas.List.{length-map}
+use Rattle.std.proofs.Common.{rules, ◌≡◌, ◌∙◌, ◌+◌, ◌*◌, ◌<◌, [], ◌∷◌, get_or, length, refl, sym, ap, subst, arith}
+use Rattle.std.proofs.lemmas.List.Elements.{Contains-get_or}
+use Rattle.hu_kind.specs.declared.entry.Entry.{Entry}
 use Rattle.hu_kind.specs.declared.item.Item.{Item}
-use Rattle.hu_collect.specs.Rule.{IsKept}
-use Rattle.hu_plain.specs.Row.{grown_rows, AreRows}
-use Rattle.hu_plain.specs.View.{rows_of, numbers_of}
-use Rattle.hu_plain.proofs.Growth.{cells_in, cells_in-grown_rows}
-use Rattle.hu_plain.proofs.SearchLemmas.{Search-from, MakesSome-upto, MakesSome-next, made-all, made-next, kept-own, item_occurs, next_item, Member-item, own_from, more_from, some_from, popped, on_err, rows_from, ends_from}
+use Rattle.hu_collect.specs.State.{IsInOrder, Reached, ReachedSome}
+use Rattle.hu_collect.proofs.lemmas.Searching.{stopped}
+use Rattle.hu_plain.specs.Row.{grown_entry, grown_rows, key_with, AreRows, Grows, IsGrowth}
+use Rattle.hu_plain.specs.View.{rows_of}
+use Rattle.hu_plain.specs.Grown.{AreGrown, AreItems}
+use Rattle.hu_plain.proofs.Growth.{cells_in, cells_in-grown_rows, AreRows-grown_rows}
+use Rattle.hu_plain.proofs.GrownLemmas.{items-grown, found-grown}
+use Rattle.hu_plain.proofs.Patterns.{begins-whole}
+use Rattle.hu_plain.proofs.SoFar.{own-ordered, own-then, own-some, so_far-none, so_far-ordered, so_far-stopped, so_far-all, so_far-next, so_far-some}
 use Rattle.hu_plain.proofs.items.+search.Goals as goal
 
 no_item : Item
 no_item = record { 0 = 0 }
 
-pub returns-in_err-grown-clause-err : goal.returns-in_err-grown-clause-err
-returns-in_err-grown-clause-err g t c =
-    let prefix = c.args.prefix.now in
-    let rows = rows_of c.args.rows.now in
-    let items = c.deref-item-items.result.now in
-    let rule = (g.C.Collect.state c.args.collect.now).rule in
-    let old = (g.C.Collect.state c.args.collect.now).content in
-    let s = Search-from prefix rows c.in_ok-items.items.items items c.law_of_turns.ensures c.law_of_members.ensures c.requires.rows c.in_ok-items.ensures c.deref-item-items.ensures.value in
-    on_err c.from_residual-in_err-grown.result _
-    (MakesSome-upto prefix rows (numbers_of items) s rule old c.items.item-index ((g.C.Collect.state c.items.collect).content) ((g.C.Collect.state c.grow.new.collect).content) c.items.invariant.2 c.in_err-grown.ensures.err)
+-- ---- enter
 
-pub search-requires : goal.search-requires
-unfolding no_item
-search-requires g t c κs within =
-    let prefix = c.args.prefix.now in
-    let rows = rows_of c.args.rows.now in
-    let items = c.deref-item-items.result.now in
-    let rule = (g.C.Collect.state c.args.collect.now).rule in
-    let old = (g.C.Collect.state c.args.collect.now).content in
-    let i = c.items.item-index in
-    let item = (get_or items i no_item).0 in
-    let s = Search-from prefix rows c.in_ok-items.items.items items c.law_of_turns.ensures c.law_of_members.ensures c.requires.rows c.in_ok-items.ensures c.deref-item-items.ensures.value in
-    let m = Member-item items i no_item c.items-test.true in
-    let grown = rows_from c.deref-in-items.result.now c.in_ok-grown.grown.items (grown_rows item rows) c.deref-in-items.ensures.value c.in_ok-grown.ensures.rows in
-    let own = own_from ((g.C.Collect.state c.items.collect).rule) rule ((g.C.Collect.state c.items.collect).content) ((g.C.Collect.state c.grow.new.collect).content) c.items.prefix prefix (grown_rows item rows) item
-    c.items.invariant.0 c.items.invariant.1 c.in_ok-grown.ensures.ok in
-    let kept' = kept-own prefix rows (numbers_of items) s rule old i item (next_item items i no_item c.items-test.true) m ((g.C.Collect.state c.items.collect).content) ((g.C.Collect.state c.grow.new.collect).content) c.items.invariant.2 own in
-    let fewer = cells_in-grown_rows item rows (item_occurs prefix rows (numbers_of items) s rule old item m) in
-    let are : AreRows (rows_of c.deref-in-items.result.now) = subst (λ found. AreRows (rows_of found)) (sym c.deref-in-items.ensures.value) c.in_ok-grown.ensures.rules in
-    let same_rule : (g.C.Collect.state c.grow.new.collect).rule ≡ rule = c.in_ok-grown.ensures.rule ∙ c.items.invariant.0 in
-    let kept : IsKept ((g.C.Collect.state c.grow.new.collect).rule) ((g.C.Collect.state c.grow.new.collect).content) = subst (λ r. IsKept r ((g.C.Collect.state c.grow.new.collect).content)) (sym same_rule) kept' in
-    let smaller : cells_in (rows_of c.deref-in-items.result.now) < cells_in (rows_of c.args.rows.now) = subst (λ rs. cells_in rs < cells_in rows) (sym grown) fewer in
+pub enter-search-requires : goal.enter-search-requires
+enter-search-requires g t c κs within =
+    let old = g.C.Collect.state c.args.collect.now in
+    let mid = g.C.Collect.state c.offer.new.collect in
+    let ordered : IsInOrder mid = own-ordered old mid (grown_entry c.push.new.self (rows_of c.args.rows.now) []) c.in_ok-offer.ensures in
+    let cells = cells_in (rows_of c.args.rows.now) in
+    let smaller : 2 * cells < 2 * cells + 1 = omega arith in
     search rules
 
-pub returns-in_err-search-clause-err : goal.returns-in_err-search-clause-err
-unfolding no_item
-returns-in_err-search-clause-err g t c =
-    let prefix = c.args.prefix.now in
+pub enter-returns-in_err-search-clause-searches : goal.enter-returns-in_err-search-clause-searches
+enter-returns-in_err-search-clause-searches g t c =
+    let old = g.C.Collect.state c.args.collect.now in
+    let new = g.C.Collect.state c.search.new.collect in
     let rows = rows_of c.args.rows.now in
-    let items = c.deref-item-items.result.now in
-    let rule = (g.C.Collect.state c.args.collect.now).rule in
-    let old = (g.C.Collect.state c.args.collect.now).content in
-    let i = c.items.item-index in
-    let item = (get_or items i no_item).0 in
-    let s = Search-from prefix rows c.in_ok-items.items.items items c.law_of_turns.ensures c.law_of_members.ensures c.requires.rows c.in_ok-items.ensures c.deref-item-items.ensures.value in
-    let m = Member-item items i no_item c.items-test.true in
-    let grown = rows_from c.deref-in-items.result.now c.in_ok-grown.grown.items (grown_rows item rows) c.deref-in-items.ensures.value c.in_ok-grown.ensures.rows in
-    let own = own_from ((g.C.Collect.state c.items.collect).rule) rule ((g.C.Collect.state c.items.collect).content) ((g.C.Collect.state c.grow.new.collect).content) c.items.prefix prefix (grown_rows item rows) item
-    c.items.invariant.0 c.items.invariant.1 c.in_ok-grown.ensures.ok in
-    let same_rule = c.in_ok-grown.ensures.rule ∙ c.items.invariant.0 in
-    let same_prefix = ends_from c.grow.new.prefix c.items.prefix prefix item c.in_ok-grown.ensures.prefix c.items.invariant.1 in
-    let some = some_from ((g.C.Collect.state c.grow.new.collect).rule) rule ((g.C.Collect.state c.grow.new.collect).content) ((g.C.Collect.state c.search.new.collect).content) c.grow.new.prefix (prefix ++ pos item ∷ []) (rows_of c.deref-in-items.result.now) (grown_rows item rows)
-    same_rule same_prefix grown c.in_err-search.ensures.err in
-    on_err c.from_residual-in_err-search.result _
-    (MakesSome-next prefix rows (numbers_of items) s rule old i item (next_item items i no_item c.items-test.true) m ((g.C.Collect.state c.items.collect).content) ((g.C.Collect.state c.grow.new.collect).content) c.items.invariant.2 own
-    ((g.C.Collect.state c.search.new.collect).content) some)
+    let key = c.push.new.self in
+    let pushed : key ≡ key_with c.args.prefix.now c.args.item.0 = search rules in
+    stopped {P = IsGrowth (key_with c.args.prefix.now c.args.item.0) rows} c.from_residual-in_err-search.result c.from_residual-in_err-search.ensures.0
+    (subst (λ p. ReachedSome old (IsGrowth p rows) new) pushed
+    (own-some {P = Grows key rows} (grown_entry key rows []) c.in_ok-offer.ensures c.in_err-search.ensures.searches))
 
-pub items-preserved : goal.items-preserved
-unfolding no_item
-items-preserved g t c =
-    let prefix = c.args.prefix.now in
+pub enter-returns-clause-searches : goal.enter-returns-clause-searches
+enter-returns-clause-searches g t c =
+    let old = g.C.Collect.state c.args.collect.now in
+    let new = g.C.Collect.state c.search.new.collect in
     let rows = rows_of c.args.rows.now in
-    let items = c.deref-item-items.result.now in
-    let rule = (g.C.Collect.state c.args.collect.now).rule in
-    let old = (g.C.Collect.state c.args.collect.now).content in
-    let i = c.items.item-index in
-    let item = (get_or items i no_item).0 in
-    let s = Search-from prefix rows c.in_ok-items.items.items items c.law_of_turns.ensures c.law_of_members.ensures c.requires.rows c.in_ok-items.ensures c.deref-item-items.ensures.value in
-    let m = Member-item items i no_item c.items-test.true in
-    let grown = rows_from c.deref-in-items.result.now c.in_ok-grown.grown.items (grown_rows item rows) c.deref-in-items.ensures.value c.in_ok-grown.ensures.rows in
-    let own = own_from ((g.C.Collect.state c.items.collect).rule) rule ((g.C.Collect.state c.items.collect).content) ((g.C.Collect.state c.grow.new.collect).content) c.items.prefix prefix (grown_rows item rows) item
-    c.items.invariant.0 c.items.invariant.1 c.in_ok-grown.ensures.ok in
-    let same_rule = c.in_ok-grown.ensures.rule ∙ c.items.invariant.0 in
-    let same_prefix = ends_from c.grow.new.prefix c.items.prefix prefix item c.in_ok-grown.ensures.prefix c.items.invariant.1 in
-    let more = more_from ((g.C.Collect.state c.grow.new.collect).rule) rule ((g.C.Collect.state c.grow.new.collect).content) ((g.C.Collect.state c.search.new.collect).content) c.grow.new.prefix (prefix ++ pos item ∷ []) (rows_of c.deref-in-items.result.now) (grown_rows item rows)
-    same_rule same_prefix grown c.in_ok-search.ensures.ok in (
-      c.in_ok-search.ensures.rule ∙ same_rule,
-      popped c.pop.result c.search.new.prefix c.pop.new.self prefix (pos item) (c.in_ok-search.ensures.prefix ∙ same_prefix) c.pop.ensures.empty c.pop.ensures.last,
-      made-next prefix rows (numbers_of items) s rule old i item (next_item items i no_item c.items-test.true) m ((g.C.Collect.state c.items.collect).content) ((g.C.Collect.state c.grow.new.collect).content) c.items.invariant.2 own
-          ((g.C.Collect.state c.search.new.collect).content) more,
-    )
+    let key = c.push.new.self in
+    let pushed : key ≡ key_with c.args.prefix.now c.args.item.0 = search rules in
+    subst (λ p. Reached old (IsGrowth p rows) new) pushed
+    (own-then {P = Grows key rows} (grown_entry key rows []) c.requires.in_order c.in_ok-offer.ensures c.in_ok-search.ensures.searches)
 
-pub returns-clause-ok : goal.returns-clause-ok
-returns-clause-ok g t c =
-    let prefix = c.args.prefix.now in
+-- ---- search
+
+pub search-items-init : goal.search-items-init
+search-items-init g t c =
     let rows = rows_of c.args.rows.now in
     let items = c.deref-item-items.result.now in
-    let rule = (g.C.Collect.state c.args.collect.now).rule in
-    let old = (g.C.Collect.state c.args.collect.now).content in
-    let s = Search-from prefix rows c.in_ok-items.items.items items c.law_of_turns.ensures c.law_of_members.ensures c.requires.rows c.in_ok-items.ensures c.deref-item-items.ensures.value in
-    made-all prefix rows (numbers_of items) s rule old c.items.item-index ((g.C.Collect.state c.items.collect).content) c.items.invariant.2 (omega (arith, length-map items (λ (item : Item). item.0)))
+    let grown : AreGrown rows c.deref.result.now = subst (AreGrown rows) (sym c.deref.ensures.value) c.in_ok-all.ensures in
+    let are : AreItems rows items = subst (AreItems rows) (sym c.deref-item-items.ensures.value)
+    (items-grown rows c.deref.result.now c.in_ok-items.items.items grown c.in_ok-items.ensures) in
+    record {
+      prefix = refl;
+      are = are;
+      so_far = so_far-none (g.C.Collect.state c.args.collect.now) c.requires.in_order
+          (begins-whole c.args.prefix.now rows c.requires.rows.ascending items are);
+    }
+
+pub search-returns-in_err-grown-clause-searches : goal.search-returns-in_err-grown-clause-searches
+search-returns-in_err-grown-clause-searches g t c =
+    stopped {P = Grows c.args.prefix.now (rows_of c.args.rows.now)} c.from_residual-in_err-grown.result c.from_residual-in_err-grown.ensures.0
+    (so_far-stopped c.items.invariant.so_far)
+
+pub search-enter-requires : goal.search-enter-requires
+unfolding no_item
+search-enter-requires g t c κs within =
+    let rows = rows_of c.args.rows.now in
+    let items = c.deref-item-items.result.now in
+    let item = get_or items c.items.item-index no_item in
+    let found = c.deref-in-items-2.result.now in
+    let is : rows_of found ≡ grown_rows item.0 rows =
+    found-grown rows c.in_ok-all.all.items c.deref-in-items.result.now c.in_ok-grown.grown.items found item.0 c.in_ok-all.ensures
+    c.deref-in-items.ensures.value c.in_ok-grown.ensures c.deref-in-items-2.ensures.value in
+    let are : AreRows (rows_of found) = subst AreRows (sym is) (AreRows-grown_rows item.0 rows c.requires.rows) in
+    let ordered : IsInOrder (g.C.Collect.state c.items.collect) = so_far-ordered c.items.invariant.so_far in
+    let some : 0 < length (grown_rows item.0 rows) = (c.items.invariant.are item).0 (Contains-get_or items c.items.item-index no_item c.items-test.true) in
+    let fewer = cells_in-grown_rows item.0 rows in
+    let smaller : 2 * cells_in (rows_of found) + 1 < 2 * cells_in rows = omega (arith, some, fewer, ap cells_in is) in
+    search rules
+
+pub search-returns-in_err-enter-clause-searches : goal.search-returns-in_err-enter-clause-searches
+unfolding no_item
+search-returns-in_err-enter-clause-searches g t c =
+    let rows = rows_of c.args.rows.now in
+    let now = g.C.Collect.state c.items.collect in
+    let new = g.C.Collect.state c.enter.new.collect in
+    let item = get_or c.deref-item-items.result.now c.items.item-index no_item in
+    let found = c.deref-in-items-2.result.now in
+    let is : rows_of found ≡ grown_rows item.0 rows =
+    found-grown rows c.in_ok-all.all.items c.deref-in-items.result.now c.in_ok-grown.grown.items found item.0 c.in_ok-all.ensures
+    c.deref-in-items.ensures.value c.in_ok-grown.ensures c.deref-in-items-2.ensures.value in
+    let same = c.items.invariant.prefix in
+    stopped {P = Grows c.args.prefix.now rows} c.from_residual-in_err-enter.result c.from_residual-in_err-enter.ensures.0
+    (so_far-some c.items.invariant.so_far no_item c.items-test.true
+    (subst (λ rs. ReachedSome now (IsGrowth (key_with c.args.prefix.now item.0) rs) new) is
+    (subst (λ p. ReachedSome now (IsGrowth (key_with p item.0) (rows_of found)) new) same c.in_err-enter.ensures.searches)))
+
+pub search-items-preserved : goal.search-items-preserved
+unfolding no_item
+search-items-preserved g t c =
+    let rows = rows_of c.args.rows.now in
+    let now = g.C.Collect.state c.items.collect in
+    let new = g.C.Collect.state c.enter.new.collect in
+    let item = get_or c.deref-item-items.result.now c.items.item-index no_item in
+    let found = c.deref-in-items-2.result.now in
+    let is : rows_of found ≡ grown_rows item.0 rows =
+    found-grown rows c.in_ok-all.all.items c.deref-in-items.result.now c.in_ok-grown.grown.items found item.0 c.in_ok-all.ensures
+    c.deref-in-items.ensures.value c.in_ok-grown.ensures c.deref-in-items-2.ensures.value in
+    let same = c.items.invariant.prefix in
+    record {
+      prefix = c.in_ok-enter.ensures.prefix ∙ same;
+      are = c.items.invariant.are;
+      so_far = so_far-next c.items.invariant.so_far no_item c.items-test.true c.requires.in_order
+          (subst (λ rs. Reached now (IsGrowth (key_with c.args.prefix.now item.0) rs) new) is
+          (subst (λ p. Reached now (IsGrowth (key_with p item.0) (rows_of found)) new) same c.in_ok-enter.ensures.searches));
+    }
+
+pub search-returns-clause-searches : goal.search-returns-clause-searches
+search-returns-clause-searches g t c = so_far-all c.items.invariant.so_far c.items-test.false

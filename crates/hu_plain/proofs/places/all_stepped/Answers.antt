@@ -1,16 +1,17 @@
 use Rattle.std.proofs.Common.{◌∙◌, ap, subst, sym, arith}
-use Rattle.std.specs.List.{AllByRecursion}
+use Rattle.std.specs.Global.{Vec}
 use Rattle.std.proofs.lemmas.List.{take_all}
-use Rattle.hu_plain.specs.Place.{all_stepped, reach_of, ArePlaces, IsAscending}
+use Rattle.hu_plain.specs.declared.places.Place.{Place}
+use Rattle.hu_plain.specs.Place.{all_stepped, reach_of, ArePlaces, AreAscending}
 use Rattle.hu_plain.specs.PlaceView.{all_places, places_of}
-use Rattle.hu_plain.proofs.PlaceLemmas.{places_at, places-within, ArePlaces-stepped}
+use Rattle.hu_plain.proofs.PlaceLemmas.{each-at, places-within, ArePlaces-stepped}
 use Rattle.hu_plain.proofs.places.all_stepped.Goals as goal
 
 pub stepped-requires-clause-ascending : goal.stepped-requires-clause-ascending
 stepped-requires-clause-ascending c =
     let is = c.deref.ensures.value ∙ ap (λ v. v.items) c.places-item.is in
-    subst (λ places. AllByRecursion IsAscending (places_of places)) (sym is)
-    (places_at (λ places. AllByRecursion IsAscending places) c.args.rows.now c.loop-places.places-index _ c.requires.ascending c.loop-places-test.true)
+    subst (λ places. AreAscending (places_of places)) (sym is)
+    (each-at (λ (v : Vec Place). places_of v.items) AreAscending c.args.rows.now c.loop-places.places-index _ c.requires.ascending c.loop-places-test.true)
 
 pub stepped-requires-clause-sum_fits : goal.stepped-requires-clause-sum_fits
 stepped-requires-clause-sum_fits c =

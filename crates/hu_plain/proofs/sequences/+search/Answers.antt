@@ -1,85 +1,141 @@
-use Rattle.std.proofs.Common.{rules, ◌≡◌, ◌∙◌, ◌<◌, sym, ap, subst, refl}
-use Rattle.hu_collect.specs.Rule.{IsKept}
+use Rattle.std.proofs.Common.{rules, ◌≡◌, ◌∙◌, ◌+◌, ◌*◌, ◌<◌, List, [], ◌∷◌, get_or, length, refl, sym, ap, subst, arith}
+use Rattle.std.specs.Global.{Vec}
+use Rattle.hu_kind.specs.declared.entry.Entry.{Entry}
+use Rattle.hu_collect.specs.State.{IsInOrder, Reached, ReachedSome}
+use Rattle.hu_collect.proofs.lemmas.Searching.{reached-none, reached-as, some-as, stopped}
+use Rattle.hu_plain.specs.declared.places.Place.{Place}
 use Rattle.hu_plain.specs.declared.places.Step.{Step}
 use Rattle.hu_plain.specs.declared.places.Step.TheVariants.{Into}
-use Rattle.hu_plain.specs.Place.{ArePlaces}
-use Rattle.hu_plain.specs.PlaceView.{all_places, AreSteps}
-use Rattle.hu_plain.proofs.Reach.{left_in}
-use Rattle.hu_plain.proofs.SearchLemmas.{on_err}
-use Rattle.hu_plain.proofs.StepSearch.{begun, some-made, all-made, fewer-left, kept-offered, stepped-next, stepped-some}
+use Rattle.hu_plain.specs.Growth.{prefix_entry, stepped_key, Grows, IsGrowth}
+use Rattle.hu_plain.specs.Place.{all_stepped, ArePlaces}
+use Rattle.hu_plain.specs.PlaceView.{all_places, HasSteps}
+use Rattle.hu_plain.proofs.PlaceLemmas.{none-stepped, some-stepped}
+use Rattle.hu_plain.proofs.Reach.{left_in, left_in-stepped}
+use Rattle.hu_plain.proofs.SoFar.{own-ordered, own-then, own-some, so_far-none, so_far-ordered, so_far-stopped, so_far-all, so_far-next, so_far-some}
+use Rattle.hu_plain.proofs.Steps.{BeginsWith, begins-whole}
 use Rattle.hu_plain.proofs.sequences.+search.Goals as goal
 
 no_step : Step
 no_step = Into (record { 0 = 0 })
 
-pub steps-init : goal.steps-init
-steps-init g t c = record {
-  rule = refl;
-  prefix = refl;
-  made = begun c.args.prefix.now (all_places c.args.rows.now) c.requires.rows c.law_of_turns.ensures ((g.C.Collect.state c.args.collect.now).rule) ((g.C.Collect.state c.args.collect.now).content) c.deref-step-items.result.now c.requires.kept;
-}
+-- ---- enter
 
-pub returns-in_err-grown-clause-err : goal.returns-in_err-grown-clause-err
-returns-in_err-grown-clause-err g t c =
-    on_err c.from_residual-in_err-grown.result _
-    (some-made c.args.prefix.now (all_places c.args.rows.now) c.requires.rows c.law_of_turns.ensures ((g.C.Collect.state c.args.collect.now).rule) ((g.C.Collect.state c.args.collect.now).content) c.deref-step-items.result.now
-    c.steps.step-index ((g.C.Collect.state c.steps.collect).content) ((g.C.Collect.state c.steps.collect).content) c.steps.invariant.made refl)
-
-pub returns-in_err-grow-clause-err : goal.returns-in_err-grow-clause-err
-returns-in_err-grow-clause-err g t c =
-    on_err c.from_residual-in_err-grow.result _
-    (some-made c.args.prefix.now (all_places c.args.rows.now) c.requires.rows c.law_of_turns.ensures ((g.C.Collect.state c.args.collect.now).rule) ((g.C.Collect.state c.args.collect.now).content) c.deref-step-items.result.now
-    c.steps.step-index ((g.C.Collect.state c.steps.collect).content) ((g.C.Collect.state c.grow.new.collect).content) c.steps.invariant.made c.in_err-grow.ensures.err)
-
-pub search-requires : goal.search-requires
-unfolding no_step
-search-requires g t c κs within =
-    let taken = subst (λ ss. AreSteps (all_places c.args.rows.now) ss) (sym c.deref-step-items.ensures.value) c.in_ok-steps.ensures in
-    let is = ap all_places c.deref.ensures.value ∙ c.in_ok-grown.ensures.value in
-    let fewer = fewer-left c.args.prefix.now (all_places c.args.rows.now) c.requires.rows c.law_of_turns.ensures ((g.C.Collect.state c.args.collect.now).rule) ((g.C.Collect.state c.args.collect.now).content) c.deref-step-items.result.now
-    c.steps.step-index no_step ((g.C.Collect.state c.steps.collect).content) ((g.C.Collect.state c.grow.new.collect).content) c.steps-test.true c.steps.invariant.made
-    c.deref.result.now is taken ((g.C.Collect.state c.steps.collect).rule) c.steps.prefix c.grow.new.prefix c.steps.invariant.rule c.steps.invariant.prefix c.in_ok-grow.ensures.prefix c.in_ok-grow.ensures.ok in
-    let kept' = kept-offered c.args.prefix.now (all_places c.args.rows.now) c.requires.rows c.law_of_turns.ensures ((g.C.Collect.state c.args.collect.now).rule) ((g.C.Collect.state c.args.collect.now).content) c.deref-step-items.result.now
-    c.steps.step-index no_step ((g.C.Collect.state c.steps.collect).content) ((g.C.Collect.state c.grow.new.collect).content) c.steps-test.true c.steps.invariant.made
-    c.deref.result.now is taken ((g.C.Collect.state c.steps.collect).rule) c.steps.prefix c.grow.new.prefix c.steps.invariant.rule c.steps.invariant.prefix c.in_ok-grow.ensures.prefix c.in_ok-grow.ensures.ok in
-    let same_rule : (g.C.Collect.state c.grow.new.collect).rule ≡ (g.C.Collect.state c.args.collect.now).rule = c.in_ok-grow.ensures.rule ∙ c.steps.invariant.rule in
-    let kept : IsKept ((g.C.Collect.state c.grow.new.collect).rule) ((g.C.Collect.state c.grow.new.collect).content) = subst (λ r. IsKept r ((g.C.Collect.state c.grow.new.collect).content)) (sym same_rule) kept' in
-    let same : c.deref-in-steps.result.now ≡ c.deref.result.now = c.deref-in-steps.ensures.value ∙ sym c.deref.ensures.value in
-    let are : ArePlaces (all_places c.deref-in-steps.result.now) = subst (λ rs. ArePlaces (all_places rs)) (sym c.deref-in-steps.ensures.value) c.in_ok-grown.ensures.rules in
-    let smaller : left_in (all_places c.deref-in-steps.result.now) < left_in (all_places c.args.rows.now) = subst (λ rs. left_in (all_places rs) < left_in (all_places c.args.rows.now)) (sym same) fewer in
+pub enter-search-requires : goal.enter-search-requires
+enter-search-requires g t c κs within =
+    let old = g.C.Collect.state c.args.collect.now in
+    let mid = g.C.Collect.state c.offer.new.collect in
+    let ordered : IsInOrder mid = own-ordered old mid (prefix_entry c.push_step.new.prefix (all_places c.args.rows.now)) c.in_ok-offer.ensures in
+    let left = left_in (all_places c.args.rows.now) in
+    let smaller : 2 * left < 2 * left + 1 = omega arith in
     search rules
 
-pub returns-in_err-search-clause-err : goal.returns-in_err-search-clause-err
-unfolding no_step
-returns-in_err-search-clause-err g t c =
-    let taken = subst (λ ss. AreSteps (all_places c.args.rows.now) ss) (sym c.deref-step-items.ensures.value) c.in_ok-steps.ensures in
-    let is = ap all_places c.deref.ensures.value ∙ c.in_ok-grown.ensures.value in
-    let same_rule : (g.C.Collect.state c.grow.new.collect).rule ≡ (g.C.Collect.state c.args.collect.now).rule = c.in_ok-grow.ensures.rule ∙ c.steps.invariant.rule in
-    let same : c.deref-in-steps.result.now ≡ c.deref.result.now = c.deref-in-steps.ensures.value ∙ sym c.deref.ensures.value in
-    on_err c.from_residual-in_err-search.result _
-    (stepped-some c.args.prefix.now (all_places c.args.rows.now) c.requires.rows c.law_of_turns.ensures ((g.C.Collect.state c.args.collect.now).rule) ((g.C.Collect.state c.args.collect.now).content) c.deref-step-items.result.now
-    c.steps.step-index no_step ((g.C.Collect.state c.steps.collect).content) ((g.C.Collect.state c.grow.new.collect).content) c.steps-test.true c.steps.invariant.made
-    c.deref.result.now is taken ((g.C.Collect.state c.steps.collect).rule) c.steps.prefix c.grow.new.prefix c.steps.invariant.rule c.steps.invariant.prefix c.in_ok-grow.ensures.prefix c.in_ok-grow.ensures.ok
-    ((g.C.Collect.state c.search.new.collect).content) ((g.C.Collect.state c.grow.new.collect).rule) c.deref-in-steps.result.now same_rule same c.in_err-search.ensures.err)
+pub enter-returns-in_err-search-clause-searches : goal.enter-returns-in_err-search-clause-searches
+enter-returns-in_err-search-clause-searches g t c =
+    let old = g.C.Collect.state c.args.collect.now in
+    let new = g.C.Collect.state c.search.new.collect in
+    let rows = all_places c.args.rows.now in
+    let key = c.push_step.new.prefix in
+    stopped {P = IsGrowth (stepped_key c.args.prefix.now c.args.step) rows} c.from_residual-in_err-search.result c.from_residual-in_err-search.ensures.0
+    (subst (λ p. ReachedSome old (IsGrowth p rows) new) c.in_ok-push_step.ensures
+    (own-some {P = Grows key rows} (prefix_entry key rows) c.in_ok-offer.ensures c.in_err-search.ensures.searches))
 
-pub steps-preserved : goal.steps-preserved
-unfolding no_step
-steps-preserved g t c =
-    let taken = subst (λ ss. AreSteps (all_places c.args.rows.now) ss) (sym c.deref-step-items.ensures.value) c.in_ok-steps.ensures in
-    let is = ap all_places c.deref.ensures.value ∙ c.in_ok-grown.ensures.value in
-    let same_rule : (g.C.Collect.state c.grow.new.collect).rule ≡ (g.C.Collect.state c.args.collect.now).rule = c.in_ok-grow.ensures.rule ∙ c.steps.invariant.rule in
-    let same : c.deref-in-steps.result.now ≡ c.deref.result.now = c.deref-in-steps.ensures.value ∙ sym c.deref.ensures.value in
+pub enter-returns-clause-searches : goal.enter-returns-clause-searches
+enter-returns-clause-searches g t c =
+    let old = g.C.Collect.state c.args.collect.now in
+    let new = g.C.Collect.state c.search.new.collect in
+    let rows = all_places c.args.rows.now in
+    let key = c.push_step.new.prefix in
+    subst (λ p. Reached old (IsGrowth p rows) new) c.in_ok-push_step.ensures
+    (own-then {P = Grows key rows} (prefix_entry key rows) c.requires.in_order c.in_ok-offer.ensures c.in_ok-search.ensures.searches)
+
+-- ---- search
+
+pub search-steps-init : goal.search-steps-init
+search-steps-init g t c =
+    let rows = all_places c.args.rows.now in
+    let steps = c.deref-step-items.result.now in
+    let has : HasSteps rows steps = subst (HasSteps rows) (sym c.deref-step-items.ensures.value) c.in_ok-steps.ensures in
     record {
-      rule = c.in_ok-search.ensures.rule ∙ same_rule;
-      prefix = c.leave.ensures c.steps.prefix (c.in_ok-search.ensures.prefix ∙ c.in_ok-grow.ensures.prefix) ∙ c.steps.invariant.prefix;
-      made = stepped-next c.args.prefix.now (all_places c.args.rows.now) c.requires.rows c.law_of_turns.ensures ((g.C.Collect.state c.args.collect.now).rule) ((g.C.Collect.state c.args.collect.now).content) c.deref-step-items.result.now
-          c.steps.step-index no_step ((g.C.Collect.state c.steps.collect).content) ((g.C.Collect.state c.grow.new.collect).content) c.steps-test.true c.steps.invariant.made
-          c.deref.result.now is taken ((g.C.Collect.state c.steps.collect).rule) c.steps.prefix c.grow.new.prefix c.steps.invariant.rule c.steps.invariant.prefix c.in_ok-grow.ensures.prefix c.in_ok-grow.ensures.ok
-          ((g.C.Collect.state c.search.new.collect).content) ((g.C.Collect.state c.grow.new.collect).rule) c.deref-in-steps.result.now same_rule same c.in_ok-search.ensures.ok;
+      prefix = refl;
+      so_far = so_far-none (g.C.Collect.state c.args.collect.now) c.requires.in_order
+          (begins-whole c.args.prefix.now rows c.requires.rows.ascending steps has);
     }
 
-pub returns-clause-ok : goal.returns-clause-ok
-returns-clause-ok g t c =
-    let taken = subst (λ ss. AreSteps (all_places c.args.rows.now) ss) (sym c.deref-step-items.ensures.value) c.in_ok-steps.ensures in
-    all-made c.args.prefix.now (all_places c.args.rows.now) c.requires.rows c.law_of_turns.ensures ((g.C.Collect.state c.args.collect.now).rule) ((g.C.Collect.state c.args.collect.now).content) c.deref-step-items.result.now
-    taken c.steps.step-index ((g.C.Collect.state c.steps.collect).content) c.steps.invariant.made c.steps-test.false
+pub search-returns-in_err-grown-clause-searches : goal.search-returns-in_err-grown-clause-searches
+search-returns-in_err-grown-clause-searches g t c =
+    stopped {P = Grows c.args.prefix.now (all_places c.args.rows.now)} c.from_residual-in_err-grown.result c.from_residual-in_err-grown.ensures.0
+    (so_far-stopped c.steps.invariant.so_far)
+
+pub search-returns-clause-searches : goal.search-returns-clause-searches
+search-returns-clause-searches g t c = so_far-all c.steps.invariant.so_far c.steps-test.false
+
+pub search-steps-preserved-then-is_empty : goal.search-steps-preserved-then-is_empty
+unfolding no_step
+search-steps-preserved-then-is_empty g t c =
+    let rows = all_places c.args.rows.now in
+    let now = g.C.Collect.state c.steps.collect in
+    let step = get_or c.deref-step-items.result.now c.steps.step-index no_step in
+    let none : length (all_stepped step rows) ≡ 0 =
+    none-stepped c.in_ok-grown.grown (all_stepped step rows) c.in_ok-grown.ensures.value (sym c.is_empty.ensures ∙ c.if-is_empty.true) in
+    record {
+      prefix = c.steps.invariant.prefix;
+      so_far = so_far-next c.steps.invariant.so_far no_step c.steps-test.true c.requires.in_order
+          (reached-none {P = BeginsWith c.args.prefix.now rows step} now (so_far-ordered c.steps.invariant.so_far)
+          (λ e begins pass high. let some = begins.0 in absurd (omega (arith, some, none))));
+    }
+
+pub search-enter-requires : goal.search-enter-requires
+unfolding no_step
+search-enter-requires g t c κs within =
+    let rows = all_places c.args.rows.now in
+    let step = get_or c.deref-step-items.result.now c.steps.step-index no_step in
+    let found = all_places c.deref.result.now in
+    let is : found ≡ all_stepped step rows = ap all_places c.deref.ensures.value ∙ c.in_ok-grown.ensures.value in
+    let some : 0 < length (all_stepped step rows) =
+    some-stepped c.in_ok-grown.grown (all_stepped step rows) c.in_ok-grown.ensures.value (sym c.is_empty.ensures ∙ c.if-is_empty.false) in
+    let are : ArePlaces found = subst (λ (xs : List (Vec Place)). ArePlaces (all_places xs)) (sym c.deref.ensures.value) c.in_ok-grown.ensures.rules in
+    let ordered : IsInOrder (g.C.Collect.state c.steps.collect) = so_far-ordered c.steps.invariant.so_far in
+    let fewer = left_in-stepped step rows in
+    let smaller : 2 * left_in found + 1 < 2 * left_in rows = omega (arith, some, fewer, ap left_in is) in
+    search rules
+
+pub search-returns-in_err-enter-clause-searches : goal.search-returns-in_err-enter-clause-searches
+unfolding no_step
+search-returns-in_err-enter-clause-searches g t c =
+    let rows = all_places c.args.rows.now in
+    let now = g.C.Collect.state c.steps.collect in
+    let new = g.C.Collect.state c.enter.new.collect in
+    let prefix = c.args.prefix.now in
+    let step = get_or c.deref-step-items.result.now c.steps.step-index no_step in
+    let found = all_places c.deref.result.now in
+    let is : found ≡ all_stepped step rows = ap all_places c.deref.ensures.value ∙ c.in_ok-grown.ensures.value in
+    let some : 0 < length (all_stepped step rows) =
+    some-stepped c.in_ok-grown.grown (all_stepped step rows) c.in_ok-grown.ensures.value (sym c.is_empty.ensures ∙ c.if-is_empty.false) in
+    let same = c.steps.invariant.prefix in
+    stopped {P = Grows prefix rows} c.from_residual-in_err-enter.result c.from_residual-in_err-enter.ensures.0
+    (so_far-some c.steps.invariant.so_far no_step c.steps-test.true
+    (some-as {P = IsGrowth (stepped_key prefix step) (all_stepped step rows)} {R = BeginsWith prefix rows step} (λ e p. (some, p))
+    (subst (λ rs. ReachedSome now (IsGrowth (stepped_key prefix step) rs) new) is
+    (subst (λ p. ReachedSome now (IsGrowth (stepped_key p step) found) new) same c.in_err-enter.ensures.searches))))
+
+pub search-steps-preserved : goal.search-steps-preserved
+unfolding no_step
+search-steps-preserved g t c =
+    let rows = all_places c.args.rows.now in
+    let now = g.C.Collect.state c.steps.collect in
+    let new = g.C.Collect.state c.enter.new.collect in
+    let prefix = c.args.prefix.now in
+    let step = get_or c.deref-step-items.result.now c.steps.step-index no_step in
+    let found = all_places c.deref.result.now in
+    let is : found ≡ all_stepped step rows = ap all_places c.deref.ensures.value ∙ c.in_ok-grown.ensures.value in
+    let some : 0 < length (all_stepped step rows) =
+    some-stepped c.in_ok-grown.grown (all_stepped step rows) c.in_ok-grown.ensures.value (sym c.is_empty.ensures ∙ c.if-is_empty.false) in
+    let same = c.steps.invariant.prefix in
+    record {
+      prefix = c.in_ok-enter.ensures.prefix ∙ same;
+      so_far = so_far-next c.steps.invariant.so_far no_step c.steps-test.true c.requires.in_order
+          (reached-as {P = IsGrowth (stepped_key prefix step) (all_stepped step rows)} {R = BeginsWith prefix rows step}
+          (λ e p. (some, p)) (λ e r pass high. r.1)
+          (subst (λ rs. Reached now (IsGrowth (stepped_key prefix step) rs) new) is
+          (subst (λ p. Reached now (IsGrowth (stepped_key p step) found) new) same c.in_ok-enter.ensures.searches)));
+    }

@@ -9,7 +9,8 @@ pub returns-in_err-cell : goal.returns-in_err-cell
 returns-in_err-cell c =
     let row = c.args.self.now in
     let lookup = c.in_err-cell.ensures.lookup in
-    let none = grown_row-past c.args.item.0 row.earned row.tail.now c.place_of-place.result c.requires.ascending c.place_of-place.ensures.splits (λ d within e. absurd (omega (arith, lookup.3))) in
+    let none = grown_row-past c.args.item.0 row.earned row.tail.now c.place_of-place.result c.requires.ascending c.place_of-place.ensures.splits
+    (λ d within e. absurd (omega (arith, lookup.3))) in
     let gone = c.from_residual.ensures in
     rw gone (sym none)
 
@@ -39,8 +40,10 @@ returns c =
     let place = c.place_of-place.result in
     let lookup = c.in_ok-cell.ensures.lookup in
     let here = eqb-true cell.item.0 c.args.item.0 (not-false (nat_eq cell.item.0 c.args.item.0) (sym c.ne.ensures ∙ c.if-ne.false)) in
-    let at = grown_row-at c.args.item.0 row.earned row.tail.now place cell c.requires.ascending lookup.3.0 (sym (ap (λ (x : Cell). x.item.0) (lookup.3.1 cell)) ∙ here) in
+    let at = grown_row-at c.args.item.0 row.earned row.tail.now place cell c.requires.ascending lookup.3.0
+    (sym (ap (λ (x : Cell). x.item.0) (lookup.3.1 cell)) ∙ here) in
     let value = ap (λ (x : Cell). x.value) (lookup.3.1 cell) in
     let within = absolute_of-at row.tail.now place cell lookup.3.0 in
     let fits = c.requires.sum_fits in
-    same_row _ (row.earned +ℤ (get_or row.tail.now place cell).value) _ (drop (suc place) row.tail.now) _ (omega (arith, ints, value, within, fits, ap unsigned_abs value)) (rest_of row.tail.now place) at
+    same_row _ (row.earned +ℤ (get_or row.tail.now place cell).value) _ (drop (suc place) row.tail.now) _
+    (omega (arith, ints, value, within, fits, ap unsigned_abs value)) (rest_of row.tail.now place) at
