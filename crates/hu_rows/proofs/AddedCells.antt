@@ -30,7 +30,7 @@ holds-ranks : (ranks : List ℕ) (cells others : List (ℕ × ℤ)) → items_in
 holds-ranks [] cells others same = refl
 holds-ranks (rank ∷ ranks) cells others same = λ j. has-ranks rank cells others same j && holds-ranks ranks cells others same j
 
-value_of-added : (rank : ℕ) (cells others : List (ℕ × ℤ)) → items_in cells ≡ items_in others → value_of rank (added_cells cells others) ≡ value_of rank cells +ℤ value_of rank others
+pub value_of-added : (rank : ℕ) (cells others : List (ℕ × ℤ)) → items_in cells ≡ items_in others → value_of rank (added_cells cells others) ≡ value_of rank cells +ℤ value_of rank others
 value_of-added rank [] [] same = refl
 value_of-added rank [] (other ∷ others) same = cc
 value_of-added rank (cell ∷ cells) [] same = cc

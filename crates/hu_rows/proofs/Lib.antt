@@ -3,6 +3,7 @@ pub mod CellLemmas
 pub mod ProjectionLemmas
 pub mod AddedCells
 pub mod MergingLemmas
+pub mod SumLemmas
 pub mod SortedRows
 pub mod RankOrder
 pub mod RunLemmas

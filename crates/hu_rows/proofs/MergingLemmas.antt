@@ -1,6 +1,6 @@
--- Rows of the same ranks made one: what sets earn over them stays, and in order no two have the same ranks.
-use Rattle.std.proofs.Common.{◌≡◌, ◌<◌, ◌≢◌, ℕ, suc, ◌+◌, ◌≤◌, Bool, true, false, cond, ◌+ℤ◌, List, [], ◌∷◌, take, drop, reverse, refl, sym, ap, ◌∙◌, subst, arith, sum_by, nat_cmp, Ordering, Less, Equal, Greater}
-use Rattle.std.specs.List.{AllByRecursion, fold, prefix_len}
+-- Rows of the same ranks made one: what they add stays, and in order no two have the same ranks.
+use Rattle.std.proofs.Common.{◌≡◌, ◌<◌, ◌≢◌, ℕ, suc, ◌+◌, ◌≤◌, Bool, true, false, cond, ◌||◌, ℤ, ◌+ℤ◌, List, [], ◌∷◌, take, drop, reverse, refl, sym, ap, ◌∙◌, subst, arith, sum_by, nat_cmp, Ordering, Less, Equal, Greater}
+use Rattle.std.specs.List.{AllByRecursion, fold, prefix_len, list_any}
 use Rattle.std.specs.Ordering.{is_lt, is_eq, ordering_reverse}
 use Rattle.std.specs.Cmp.{IsTotalOrder}
 use Rattle.std.specs.Cmp.Lexicographic.{slice_cmp}
@@ -11,10 +11,11 @@ use Rattle.std.proofs.lemmas.List.Sums.{sum_by-cons}
 use Rattle.std.proofs.lemmas.Map.Lookups.{exact_bytes}
 use Rattle.hu_kind.specs.Order.{Ascend}
 use Rattle.hu_rows.specs.declared.rows.Row.{Row}
-use Rattle.hu_rows.specs.Rows.{RowOf, AreRows, AreApart, AreCounted, over, over_row, count_over, count_in, count_of, size_of, ranks_of}
+use Rattle.hu_rows.specs.Rows.{RowOf, AreRows, AreApart, AreCounted, count_of, size_of, ranks_of}
+use Rattle.hu_rows.specs.Sums.{sum_over}
 use Rattle.hu_rows.specs.Merging.{row_cmp, added, merged, merged_from}
 use Rattle.hu_rows.specs.View.{row_of, rows_of, same_ranks}
-use Rattle.hu_rows.proofs.AddedCells.{items_in-added_cells, over_row-added, count_in-added, size_of-added}
+use Rattle.hu_rows.proofs.AddedCells.{items_in-added_cells, size_of-added}
 
 -- ---- the order of rows
 
@@ -37,84 +38,121 @@ apart-from_is_eq a b h same =
     let never : is_eq (row_cmp a b) ≡ true = ap is_eq tied in
     cc
 
--- ---- what sets earn over merged rows
+-- ---- rows as they are merged
 
-over-merged_from : (set : List ℕ) (row : RowOf) (rows : List RowOf) → over (merged_from row rows) set ≡ over_row set row +ℤ over rows set
-over-merged_from set row [] = refl
-over-merged_from set row (next ∷ rows) = by (is_eq (row_cmp row next)) refl (λ r. over-merged_from set r rows)
+-- what holds of a row alone, of a row that takes on the next one, and of a row before another holds of merged rows
+by_merging : (P : RowOf → List RowOf → List RowOf → Type 0)
+    → ((row : RowOf) → P row [] (row ∷ []))
+    → ((row next : RowOf) (rows answer : List RowOf) → ranks_of row ≡ ranks_of next → P (added row next) rows answer → P row (next ∷ rows) answer)
+    → ((row next : RowOf) (rows : List RowOf) → is_eq (row_cmp row next) ≡ false → P next rows (merged_from next rows)
+    → P row (next ∷ rows) (row ∷ merged_from next rows))
+    → (row : RowOf) (rows : List RowOf) → P row rows (merged_from row rows)
+by_merging P one same other row [] = one row
+by_merging P one same other row (next ∷ rows) = by (is_eq (row_cmp row next)) refl (λ r. by_merging P one same other r rows)
   where
-    by : (b : Bool) → is_eq (row_cmp row next) ≡ b → ((r : RowOf) → over (merged_from r rows) set ≡ over_row set r +ℤ over rows set) → over (cond b (merged_from (added row next) rows) (row ∷ merged_from next rows)) set ≡ over_row set row +ℤ (over_row set next +ℤ over rows set)
-    by true h ih = omega (arith, ints, ih (added row next), over_row-added set row next (same-from_is_eq row next h))
-    by false h ih = ap (λ rest. over_row set row +ℤ rest) (ih next)
+    by : (b : Bool) → is_eq (row_cmp row next) ≡ b → ((r : RowOf) → P r rows (merged_from r rows))
+        → P row (next ∷ rows) (cond b (merged_from (added row next) rows) (row ∷ merged_from next rows))
+    by true h ih = same row next rows (merged_from (added row next) rows) (same-from_is_eq row next h) (ih (added row next))
+    by false h ih = other row next rows h (ih next)
 
-pub over-merged : (set : List ℕ) (rows : List RowOf) → over (merged rows) set ≡ over rows set
-over-merged set [] = refl
-over-merged set (row ∷ rows) = over-merged_from set row rows
+-- ---- what rows of the same ranks add
 
-count_over-merged_from : (set : List ℕ) (row : RowOf) (rows : List RowOf) → count_over (merged_from row rows) set ≡ count_in set row + count_over rows set
-count_over-merged_from set row [] = refl
-count_over-merged_from set row (next ∷ rows) = by (is_eq (row_cmp row next)) refl (λ r. count_over-merged_from set r rows)
-  where
-    by : (b : Bool) → is_eq (row_cmp row next) ≡ b → ((r : RowOf) → count_over (merged_from r rows) set ≡ count_in set r + count_over rows set) → count_over (cond b (merged_from (added row next) rows) (row ∷ merged_from next rows)) set ≡ count_in set row + (count_in set next + count_over rows set)
-    by true h ih = omega (arith, ih (added row next), count_in-added set row next (same-from_is_eq row next h))
-    by false h ih = ap (λ rest. count_in set row + rest) (ih next)
+abbrev pub IsAdded : (RowOf → ℤ) → Type 0
+IsAdded f = (row other : RowOf) → ranks_of row ≡ ranks_of other → f (added row other) ≡ f row +ℤ f other
 
-pub count_over-merged : (set : List ℕ) (rows : List RowOf) → count_over (merged rows) set ≡ count_over rows set
-count_over-merged set [] = refl
-count_over-merged set (row ∷ rows) = count_over-merged_from set row rows
+abbrev pub IsCounted : (RowOf → ℕ) → Type 0
+IsCounted f = (row other : RowOf) → ranks_of row ≡ ranks_of other → f (added row other) ≡ f row + f other
+
+pub sum_over-merged : (f : RowOf → ℤ) → IsAdded f → (rows : List RowOf) → sum_over f (merged rows) ≡ sum_over f rows
+sum_over-merged f adds [] = refl
+sum_over-merged f adds (row ∷ rows) =
+    by_merging (λ row rows answer. sum_over f answer ≡ f row +ℤ sum_over f rows)
+    (λ row. refl)
+    (λ row next rows answer same ih. omega (arith, ints, ih, adds row next same))
+    (λ row next rows h ih. ap (λ rest. f row +ℤ rest) ih)
+    row rows
+
+pub sum_by-merged : (f : RowOf → ℕ) → IsCounted f → (rows : List RowOf) → sum_by f (merged rows) ≡ sum_by f rows
+sum_by-merged f adds [] = refl
+sum_by-merged f adds (row ∷ rows) =
+    by_merging (λ row rows answer. sum_by f answer ≡ sum_by f (row ∷ rows))
+    (λ row. refl)
+    (λ row next rows answer same ih. omega (
+      arith,
+      ih,
+      adds row next same,
+      sum_by-cons f (added row next) rows,
+      sum_by-cons f row (next ∷ rows),
+      sum_by-cons f next rows,
+    ))
+    (λ row next rows h ih. omega (arith, ih, sum_by-cons f row (merged_from next rows), sum_by-cons f row (next ∷ rows)))
+    row rows
 
 -- ---- the ranks of merged rows
 
--- what holds of the ranks of each row holds of those of merged rows
-each-merged_from : (P : List ℕ → Type 0) (row : RowOf) (rows : List RowOf) → P (ranks_of row) → AllByRecursion (λ other. P (ranks_of other)) rows → AllByRecursion (λ other. P (ranks_of other)) (merged_from row rows)
-each-merged_from P row [] here all = (here, tt)
-each-merged_from P row (next ∷ rows) here all = by (is_eq (row_cmp row next)) (λ r h. each-merged_from P r rows h all.1)
+-- some row passes a test of its ranks where one does of the merged rows
+pub list_any-merged : (p : List ℕ → Bool) (rows : List RowOf) → list_any (λ row. p (ranks_of row)) (merged rows) ≡ list_any (λ row. p (ranks_of row)) rows
+list_any-merged p [] = refl
+list_any-merged p (row ∷ rows) =
+    by_merging (λ row rows answer. list_any (λ r. p (ranks_of r)) answer ≡ (p (ranks_of row) || list_any (λ r. p (ranks_of r)) rows))
+    (λ row. refl)
+    (λ row next rows answer same ih.
+    ih ∙ ap (λ ranks. p ranks || list_any (λ r. p (ranks_of r)) rows) (items_in-added_cells row.cells next.cells)
+    ∙ twice (p (ranks_of row)) (p (ranks_of next)) (list_any (λ r. p (ranks_of r)) rows) (ap p same))
+    (λ row next rows h ih. ap (λ rest. p (ranks_of row) || rest) ih)
+    row rows
   where
-    by : (b : Bool) → ((r : RowOf) → P (ranks_of r) → AllByRecursion (λ other. P (ranks_of other)) (merged_from r rows)) → AllByRecursion (λ other. P (ranks_of other)) (cond b (merged_from (added row next) rows) (row ∷ merged_from next rows))
-    by true ih = ih (added row next) (subst P (sym (items_in-added_cells row.cells next.cells)) here)
-    by false ih = (here, ih next all.0)
+    twice : (a b c : Bool) → a ≡ b → (a || c) ≡ (a || (b || c))
+    twice true b c e = refl
+    twice false true c e = cc
+    twice false false c e = refl
+
+-- what holds of the ranks of each row holds of those of merged rows
+each-merged_from : (P : List ℕ → Type 0) (row : RowOf) (rows : List RowOf) → P (ranks_of row) → AllByRecursion (λ other. P (ranks_of other)) rows
+    → AllByRecursion (λ other. P (ranks_of other)) (merged_from row rows)
+each-merged_from P =
+    by_merging (λ row rows answer. P (ranks_of row) → AllByRecursion (λ other. P (ranks_of other)) rows → AllByRecursion (λ other. P (ranks_of other)) answer)
+    (λ row here all. (here, tt))
+    (λ row next rows answer same ih here all. ih (subst P (sym (items_in-added_cells row.cells next.cells)) here) all.1)
+    (λ row next rows h ih here all. (here, ih all.0 all.1))
 
 pub each-merged : (P : List ℕ → Type 0) (rows : List RowOf) → AllByRecursion (λ row. P (ranks_of row)) rows → AllByRecursion (λ row. P (ranks_of row)) (merged rows)
 each-merged P [] all = tt
 each-merged P (row ∷ rows) all = each-merged_from P row rows all.0 all.1
 
 -- merged rows stand for records where the rows do
-counted-merged_from : (row : RowOf) (rows : List RowOf) → 0 < row.count → AreCounted rows → AreCounted (merged_from row rows)
-counted-merged_from row [] here all = (here, tt)
-counted-merged_from row (next ∷ rows) here all = by (is_eq (row_cmp row next)) (λ r h. counted-merged_from r rows h all.1)
-  where
-    by : (b : Bool) → ((r : RowOf) → 0 < r.count → AreCounted (merged_from r rows)) → AreCounted (cond b (merged_from (added row next) rows) (row ∷ merged_from next rows))
-    by true ih = ih (added row next) (omega arith)
-    by false ih = (here, ih next all.0)
-
 pub counted-merged : (rows : List RowOf) → AreCounted rows → AreCounted (merged rows)
 counted-merged [] all = tt
-counted-merged (row ∷ rows) all = counted-merged_from row rows all.0 all.1
+counted-merged (row ∷ rows) all =
+    by_merging (λ row rows answer. 0 < row.count → AreCounted rows → AreCounted answer)
+    (λ row here all. (here, tt))
+    (λ row next rows answer same ih here all. ih (omega arith) all.1)
+    (λ row next rows h ih here all. (here, ih all.0 all.1))
+    row rows all.0 all.1
 
 -- ---- the rules of rows
 
-sizes-merged_from : (row : RowOf) (rows : List RowOf) → sum_by size_of (merged_from row rows) ≤ size_of row + sum_by size_of rows
-sizes-merged_from row [] = omega arith
-sizes-merged_from row (next ∷ rows) = by (is_eq (row_cmp row next)) (λ r. sizes-merged_from r rows)
-  where
-    by : (b : Bool) → ((r : RowOf) → sum_by size_of (merged_from r rows) ≤ size_of r + sum_by size_of rows) → sum_by size_of (cond b (merged_from (added row next) rows) (row ∷ merged_from next rows)) ≤ size_of row + sum_by size_of (next ∷ rows)
-    by true ih = omega (arith, ih (added row next), size_of-added row next, sum_by-cons size_of next rows)
-    by false ih = omega (arith, ih next, sum_by-cons size_of row (merged_from next rows), sum_by-cons size_of next rows)
-
-counts-merged_from : (row : RowOf) (rows : List RowOf) → sum_by count_of (merged_from row rows) ≡ row.count + sum_by count_of rows
-counts-merged_from row [] = omega arith
-counts-merged_from row (next ∷ rows) = by (is_eq (row_cmp row next)) (λ r. counts-merged_from r rows)
-  where
-    by : (b : Bool) → ((r : RowOf) → sum_by count_of (merged_from r rows) ≡ r.count + sum_by count_of rows) → sum_by count_of (cond b (merged_from (added row next) rows) (row ∷ merged_from next rows)) ≡ row.count + sum_by count_of (next ∷ rows)
-    by true ih = omega (arith, ih (added row next), sum_by-cons count_of next rows)
-    by false ih = omega (arith, ih next, sum_by-cons count_of row (merged_from next rows), sum_by-cons count_of next rows)
+sizes-merged : (rows : List RowOf) → sum_by size_of (merged rows) ≤ sum_by size_of rows
+sizes-merged [] = omega arith
+sizes-merged (row ∷ rows) =
+    by_merging (λ row rows answer. sum_by size_of answer ≤ sum_by size_of (row ∷ rows))
+    (λ row. omega arith)
+    (λ row next rows answer same ih. omega (
+      arith,
+      ih,
+      size_of-added row next,
+      sum_by-cons size_of (added row next) rows,
+      sum_by-cons size_of row (next ∷ rows),
+      sum_by-cons size_of next rows,
+    ))
+    (λ row next rows h ih. omega (arith, ih, sum_by-cons size_of row (merged_from next rows), sum_by-cons size_of row (next ∷ rows)))
+    row rows
 
 pub AreRows-merged : (rows : List RowOf) → AreRows rows → AreRows (merged rows)
-AreRows-merged [] rules = rules
-AreRows-merged (row ∷ rows) rules = record {
-  ascending = each-merged_from Ascend row rows rules.ascending.0 rules.ascending.1;
-  sizes = omega (arith, sizes-merged_from row rows, sum_by-cons size_of row rows, rules.sizes);
-  counts = omega (arith, counts-merged_from row rows, sum_by-cons count_of row rows, rules.counts);
+AreRows-merged rows rules = record {
+  ascending = each-merged Ascend rows rules.ascending;
+  sizes = omega (arith, sizes-merged rows, rules.sizes);
+  counts = omega (arith, sum_by-merged count_of (λ row other same. refl) rows, rules.counts);
 }
 
 -- ---- merged rows in order
@@ -150,19 +188,16 @@ rising-added row next (other ∷ rows) high =
     let keeps : ranks_of row ≡ ranks_of (added row next) = sym (items_in-added_cells row.cells next.cells) in
     (subst (λ ranks. is_lt (slice_cmp nat_cmp (reverse (ranks_of other)) (reverse ranks)) ≡ false) keeps high.0, rising-added row next rows high.1)
 
-AreApart-merged_from : (row : RowOf) (rows : List RowOf) → Rising (row ∷ rows) → AreApart (merged_from row rows)
-AreApart-merged_from row [] rise = (tt, tt)
-AreApart-merged_from row (next ∷ rows) rise = by (is_eq (row_cmp row next)) refl (λ r. AreApart-merged_from r rows)
-  where
-    by : (b : Bool) → is_eq (row_cmp row next) ≡ b → ((r : RowOf) → Rising (r ∷ rows) → AreApart (merged_from r rows)) → AreApart (cond b (merged_from (added row next) rows) (row ∷ merged_from next rows))
-    by true h ih = ih (added row next) (rising-added row next rows rise.0.1, rise.1.1)
-    by false h ih =
-        let less = above row next rise.0.0 h in
-        (each-merged_from (λ ranks. ranks_of row ≢ ranks) next rows (apart-from_is_eq row next h) (all_apart row next rows less rise.1.0), ih next rise.1)
-
 pub AreApart-merged : (rows : List RowOf) → Rising rows → AreApart (merged rows)
 AreApart-merged [] rise = tt
-AreApart-merged (row ∷ rows) rise = AreApart-merged_from row rows rise
+AreApart-merged (row ∷ rows) rise =
+    by_merging (λ row rows answer. Rising (row ∷ rows) → AreApart answer)
+    (λ row rise. (tt, tt))
+    (λ row next rows answer same ih rise. ih (rising-added row next rows rise.0.1, rise.1.1))
+    (λ row next rows h ih rise.
+    let higher = all_apart row next rows (above row next rise.0.0 h) rise.1.0 in
+    (each-merged_from (λ ranks. ranks_of row ≢ ranks) next rows (apart-from_is_eq row next h) higher, ih rise.1))
+    row rows rise
 
 -- ---- merging run by run
 

@@ -1,17 +1,35 @@
 -- Rows merged run by run, as they lie in memory.
-use Rattle.std.proofs.Common.{◌≡◌, ℕ, ◌+◌, ◌-◌, ◌<◌, ◌≤◌, List, [], ◌∷◌, ◌++◌, length, get_or, take, drop, refl, sym, ap, ◌∙◌, subst, arith, sum_by, append_assoc}
+use Rattle.std.proofs.Common.{◌≡◌, ℕ, ◌+◌, ◌-◌, ◌<◌, ◌≤◌, ◌^◌, pos, List, [], ◌∷◌, ◌++◌, length, get_or, take, drop, refl, sym, ap, ◌∙◌, subst, arith, sum_by, append_assoc}
 use Rattle.std.specs.List.{fold, prefix_len}
 use Rattle.std.proofs.lemmas.List.{take_rest, drop_more, drop-drop, map-append, length-drop}
-use Rattle.std.proofs.lemmas.List.Sums.{sum_by-cons, sum_by_more_le, sum_by-take-le, sum_by-drop_more, sum_by-take-drop, prefix_len-le-length}
+use Rattle.std.proofs.lemmas.List.Sums.{sum_by-cons, sum_by_more_le, sum_by-take-le, sum_by-drop_more, sum_by-take-drop, prefix_len-le-length, get_or-le-sum_by}
+use Rattle.hu_kind.specs.Order.{Ascend}
+use Rattle.hu_kind.proofs.lemmas.Each.{each-get}
 use Rattle.hu_rows.specs.declared.rows.Row.{Row}
-use Rattle.hu_rows.specs.Rows.{RowOf, size_of, count_of}
+use Rattle.hu_rows.specs.Rows.{RowOf, AreRows, size_of, count_of, ranks_of}
 use Rattle.hu_rows.specs.Merging.{added, merged}
 use Rattle.hu_rows.specs.View.{row_of, rows_of, same_ranks}
+use Rattle.hu_rows.proofs.CellChecks.{rows-each}
 use Rattle.hu_rows.proofs.MergingLemmas.{size_of-fold, count_of-fold, merged-run}
 
 pub sum_by-rows_of : (f : RowOf → ℕ) (rows : List Row) → sum_by f (rows_of rows) ≡ sum_by (λ row. f (row_of row)) rows
 sum_by-rows_of f [] = refl
 sum_by-rows_of f (row ∷ rows) = omega (arith, sum_by-cons f (row_of row) (rows_of rows), sum_by-cons (λ (r : Row). f (row_of r)) row rows, sum_by-rows_of f rows)
+
+-- a row that stands past the end
+abbrev pub none : Row
+none = record { before = pos 0; count = 0; cells = record { ref_ptr = (0, 0); now = [] } }
+
+-- a row of rows: its ranks ascend, and its size fits
+pub record IsRow (row : RowOf) : Type 0 where
+  pub ascending : Ascend (ranks_of row)
+  pub size : size_of row < 2 ^ 127
+
+pub IsRow-at : (rows : List Row) (i : ℕ) → AreRows (rows_of rows) → i < length rows → IsRow (row_of (get_or rows i none))
+IsRow-at rows i rules within = record {
+  ascending = each-get (λ row. Ascend (ranks_of (row_of row))) rows i none (rows-each (λ row. Ascend (ranks_of row)) rows rules.ascending) within;
+  size = omega (arith, sum_by-rows_of size_of rows, get_or-le-sum_by (λ (row : Row). size_of (row_of row)) rows i none within, rules.sizes);
+}
 
 -- the rows added so far and the next are within all of them
 pub size-room : (first : RowOf) (rest : List Row) (i : ℕ) (d : Row) → i < length rest → size_of (fold added first (rows_of (take i rest))) + size_of (row_of (get_or rest i d)) ≤ size_of first + sum_by size_of (rows_of rest)

@@ -1,11 +1,12 @@
 -- Rows put in order and made one: what sets earn stays, and no two have the same ranks.
-use Rattle.std.proofs.Common.{◌≡◌, ℕ, suc, ◌+◌, ◌<◌, ◌≤◌, false, List, [], ◌∷◌, length, get_or, refl, sym, ◌∙◌, arith, sum_by}
+use Rattle.std.proofs.Common.{◌≡◌, ℕ, suc, ◌+◌, ◌<◌, ◌≤◌, false, ℤ, ◌+ℤ◌, List, [], ◌∷◌, length, get_or, refl, sym, ap, ◌∙◌, subst, arith, sum_by, Result, IfOk}
 use Rattle.std.specs.List.{AllByRecursion}
 use Rattle.std.specs.List.Sorted.{IsPermutation, IsSortedBy}
 use Rattle.std.specs.Ordering.{is_lt}
 use Rattle.std.proofs.lemmas.Int.{ints}
 use Rattle.std.proofs.lemmas.List.Sums.{sum_by-cons}
-use Rattle.std.proofs.lemmas.List.Sorted.{sum_by-IsPermutation, Contains-permutation, IsPermutation-map, IsPermutation-sym, sorted_far, ranks_by}
+use Rattle.std.proofs.lemmas.Result.{IfOk-weaker}
+use Rattle.std.proofs.lemmas.List.Sorted.{sum_by-IsPermutation, list_any-IsPermutation, Contains-permutation, IsPermutation-map, IsPermutation-sym, sorted_far, ranks_by}
 use borrow.Author.Differences.{up, down}
 use Rattle.hu_kind.specs.Order.{Ascend}
 use Rattle.hu_kind.proofs.lemmas.Members.{Member, Contains-from_member, Member-from_contains, Member-flat_map, Member-from_flat_map}
@@ -15,30 +16,43 @@ use Rattle.hu_rows.specs.Rows.{RowOf, AreRows, over, over_row, count_over, count
 use Rattle.hu_rows.specs.Merging.{row_cmp, merged, IsMerging}
 use Rattle.hu_rows.specs.View.{row_of, rows_of, row_below}
 use Rattle.hu_rows.proofs.CellChecks.{each-rows}
-use Rattle.hu_rows.proofs.MergingLemmas.{row_cmp_total, Rising, over-merged, count_over-merged, each-merged, AreApart-merged, AreRows-merged, counted-merged}
+use Rattle.hu_rows.proofs.AddedCells.{over_row-added, count_in-added}
+use Rattle.hu_rows.proofs.MergingLemmas.{row_cmp_total, Rising, sum_over-merged, sum_by-merged, list_any-merged, each-merged, AreApart-merged, AreRows-merged, counted-merged}
+use Rattle.hu_rows.proofs.SumLemmas.{SameSums, AreSums-same}
+use Rattle.hu_rows.specs.Sums.{sum_over}
 
--- ---- rows in another order
+-- ---- what rows add, in another order and merged
 
-over-parts : (set : List ℕ) (rows : List RowOf) → up (over rows set) + sum_by (λ row. down (over_row set row)) rows ≡ down (over rows set) + sum_by (λ row. up (over_row set row)) rows
-over-parts set [] = refl
-over-parts set (row ∷ rows) = omega (arith, ints, sum_by-cons (λ r. down (over_row set r)) row rows, sum_by-cons (λ r. up (over_row set r)) row rows, over-parts set rows)
+sum_over-parts : (f : RowOf → ℤ) (rows : List RowOf) → up (sum_over f rows) + sum_by (λ row. down (f row)) rows ≡ down (sum_over f rows) + sum_by (λ row. up (f row)) rows
+sum_over-parts f [] = refl
+sum_over-parts f (row ∷ rows) = omega (arith, ints, sum_by-cons (λ r. down (f r)) row rows, sum_by-cons (λ r. up (f r)) row rows, sum_over-parts f rows)
 
-pub over-permutation : (set : List ℕ) (rows others : List RowOf) → IsPermutation rows others → over others set ≡ over rows set
-over-permutation set rows others same = omega (
+sum_over-permutation : (f : RowOf → ℤ) (rows others : List RowOf) → IsPermutation rows others → sum_over f others ≡ sum_over f rows
+sum_over-permutation f rows others same = omega (
   arith,
   ints,
-  over-parts set rows,
-  over-parts set others,
-  sum_by-IsPermutation (λ r. down (over_row set r)) rows others same,
-  sum_by-IsPermutation (λ r. up (over_row set r)) rows others same,
+  sum_over-parts f rows,
+  sum_over-parts f others,
+  sum_by-IsPermutation (λ r. down (f r)) rows others same,
+  sum_by-IsPermutation (λ r. up (f r)) rows others same,
 )
+
+SameSums-sorted : (rows sorted : List RowOf) → IsPermutation rows sorted → SameSums rows (merged sorted)
+SameSums-sorted rows sorted same = record {
+  worth = λ f adds. sum_over-merged f adds sorted ∙ sum_over-permutation f rows sorted same;
+  number = λ f adds. sum_by-merged f adds sorted ∙ sum_by-IsPermutation f rows sorted same;
+  any = λ p. list_any-merged p sorted ∙ sym (list_any-IsPermutation (λ row. p (ranks_of row)) rows sorted same);
+}
+
+over-sum : (set : List ℕ) (rows : List RowOf) → over rows set ≡ sum_over (over_row set) rows
+over-sum set [] = refl
+over-sum set (row ∷ rows) = ap (λ rest. over_row set row +ℤ rest) (over-sum set rows)
 
 count_over-sum : (set : List ℕ) (rows : List RowOf) → count_over rows set ≡ sum_by (count_in set) rows
 count_over-sum set [] = refl
 count_over-sum set (row ∷ rows) = omega (arith, sum_by-cons (count_in set) row rows, count_over-sum set rows)
 
-pub count_over-permutation : (set : List ℕ) (rows others : List RowOf) → IsPermutation rows others → count_over others set ≡ count_over rows set
-count_over-permutation set rows others same = count_over-sum set others ∙ sum_by-IsPermutation (count_in set) rows others same ∙ sym (count_over-sum set rows)
+-- ---- the rules of rows in another order
 
 Member-permutation : {A : Type 0} (xs ys : List A) (x : A) → IsPermutation xs ys → Member x ys → Member x xs
 Member-permutation xs ys x same m = Member-from_contains x xs (Contains-permutation ys xs x (IsPermutation-sym xs ys same) (Contains-from_member x ys m))
@@ -85,14 +99,26 @@ AreRows-sorted rows sorted same = AreRows-permutation (rows_of rows) (rows_of so
 
 -- rows put in order and made one
 pub IsMerging-sorted : (rows sorted : List Row) → IsPermutation rows sorted → IsSortedBy row_below sorted → IsMerging (rows_of rows) (merged (rows_of sorted))
-IsMerging-sorted rows sorted same order =
-    let same' = IsPermutation-map row_of rows sorted same in
+IsMerging-sorted rows sorted permuted order =
+    let same = IsPermutation-map row_of rows sorted permuted in
+    let given = rows_of rows in
+    let answer = merged (rows_of sorted) in
+    let sums = SameSums-sorted given (rows_of sorted) same in
+    let apart = AreApart-merged (rows_of sorted) (Rising-sorted sorted order) in
+    let rules : AreRows given → AreRows answer = λ rules. AreRows-merged (rows_of sorted) (AreRows-permutation given (rows_of sorted) same rules) in
     record {
-      over = λ set. over-merged set (rows_of sorted) ∙ over-permutation set (rows_of rows) (rows_of sorted) same';
-      count = λ set. count_over-merged set (rows_of sorted) ∙ count_over-permutation set (rows_of rows) (rows_of sorted) same';
-      rules = λ rules. AreRows-merged (rows_of sorted) (AreRows-sorted rows sorted same rules);
-      counted = λ all. counted-merged (rows_of sorted) (by_members (λ row. 0 < row.count) (rows_of sorted) (λ row m. at_member (λ (r : RowOf). 0 < r.count) row (rows_of rows) all (Member-permutation (rows_of rows) (rows_of sorted) row same' m)));
-      apart = AreApart-merged (rows_of sorted) (Rising-sorted sorted order);
-      ranks = λ rank m. Contains-from_member rank (ranks_in (rows_of rows))
-          (Member-ranks_permutation rank (rows_of rows) (rows_of sorted) same' (Member-merged rank (rows_of sorted) (Member-from_contains rank (ranks_in (merged (rows_of sorted))) m)));
+      over = λ set. over-sum set answer ∙ sums.worth (over_row set) (over_row-added set) ∙ sym (over-sum set given);
+      count = λ set. count_over-sum set answer ∙ sums.number (count_in set) (count_in-added set) ∙ sym (count_over-sum set given);
+      rules = rules;
+      sums = λ are. AreSums-same given answer sums apart (rules are).ascending;
+      apart = apart;
+      counted = λ all. counted-merged (rows_of sorted) (by_members (λ row. 0 < row.count) (rows_of sorted) (λ row m.
+          at_member (λ (r : RowOf). 0 < r.count) row given all (Member-permutation given (rows_of sorted) row same m)));
+      ranks = λ rank m. Contains-from_member rank (ranks_in given)
+          (Member-ranks_permutation rank given (rows_of sorted) same (Member-merged rank (rows_of sorted) (Member-from_contains rank (ranks_in answer) m)));
     }
+
+-- what follows where rows are merged that are these
+pub IfOk-merging : {E : Type 0} (r : Result (List RowOf) E) (given rows : List RowOf) (P : List RowOf → Type 0)
+    → given ≡ rows → ((answer : List RowOf) → IsMerging rows answer → P answer) → IfOk r (IsMerging given) → IfOk r P
+IfOk-merging r given rows P is next h = IfOk-weaker r (IsMerging rows) P next (subst (λ rs. IfOk r (IsMerging rs)) is h)

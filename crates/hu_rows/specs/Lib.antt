@@ -1,5 +1,6 @@
 pub mod Rows
 pub mod Projection
+pub mod Sums
 pub mod Merging
 pub mod Bounds
 pub mod Setting

@@ -6,6 +6,7 @@ use Rattle.std.specs.List.{Contains}
 use Rattle.std.specs.Ordering.{nat_cmp, is_eq}
 use Rattle.std.specs.Cmp.Lexicographic.{slice_cmp}
 use Rattle.hu_rows.specs.Rows.{RowOf, ranks_of, ranks_in, over, count_over, AreRows, AreApart, AreCounted}
+use Rattle.hu_rows.specs.Sums.{AreSums}
 
 -- rows by their ranks from the last backwards
 abbrev pub row_cmp : RowOf → RowOf → Ordering
@@ -36,6 +37,7 @@ pub record IsMerging (rows answer : List RowOf) : Type 0 where
   pub over : (set : List ℕ) → over answer set ≡ over rows set
   pub count : (set : List ℕ) → count_over answer set ≡ count_over rows set
   pub rules : AreRows rows → AreRows answer
+  pub sums : AreRows rows → AreSums rows answer
   pub apart : AreApart answer
   pub counted : AreCounted rows → AreCounted answer
   pub ranks : (rank : ℕ) → Contains (ranks_in answer) rank → Contains (ranks_in rows) rank

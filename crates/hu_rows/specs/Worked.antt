@@ -1,8 +1,10 @@
 -- Worked rows: projections, merged rows and bounds, by computation.
-use Rattle.std.specs.Prelude.{◌≡◌, ℕ, ℤ, pos, negsuc, List, [], ◌∷◌, refl}
+use Rattle.std.specs.Prelude.{◌≡◌, ℕ, ℤ, nat_eq, pos, negsuc, unsigned_abs, List, [], ◌∷◌, refl, Bool, true, false, ⊤}
+use mathlib.Core.Path.{subst}
 use Rattle.hu_rows.specs.Rows.{RowOf, over, count_over}
 use Rattle.hu_rows.specs.Projection.{projected}
 use Rattle.hu_rows.specs.Merging.{merged}
+use Rattle.hu_rows.specs.Sums.{with_ranks, sum_over, summed, AreSums}
 use Rattle.hu_rows.specs.Bounds.{local_bound, subtree_bound}
 
 abbrev pub row : ℤ → ℕ → List (ℕ × ℤ) → RowOf
@@ -54,3 +56,41 @@ signed_local = refl
 
 pub signed_subtree : subtree_bound (merged (projected 0 signed_rows)) (1 ∷ []) 1 ≡ pos 4
 signed_subtree = refl
+
+-- merged rows are the sums of the rows with their ranks
+pub sum_with_1_and_2 : summed (1 ∷ 2 ∷ []) (with_ranks (1 ∷ 2 ∷ []) (projected 0 three_rows)) ≡ with_ranks (1 ∷ 2 ∷ []) two_rows
+sum_with_1_and_2 = refl
+
+pub sum_with_2 : summed (2 ∷ []) (with_ranks (2 ∷ []) (projected 0 three_rows)) ≡ with_ranks (2 ∷ []) two_rows
+sum_with_2 = refl
+
+pub none_with_1 : summed (1 ∷ []) (with_ranks (1 ∷ []) (projected 0 three_rows)) ≡ with_ranks (1 ∷ []) two_rows
+none_with_1 = refl
+
+pub signed_sum_with_1 : summed (1 ∷ []) (with_ranks (1 ∷ []) (projected 0 signed_rows)) ≡ row (negsuc 2) 2 ((1, pos 7) ∷ []) ∷ []
+signed_sum_with_1 = refl
+
+-- two rows over which each set earns the same as over these two
+abbrev pub shifted_rows : List RowOf
+shifted_rows = row (pos 6) 2 ((1, pos 6) ∷ (2, pos 4) ∷ []) ∷ row (pos 1) 1 ((2, pos 7) ∷ []) ∷ []
+
+pub shifted_over_none : over shifted_rows [] ≡ over two_rows []
+shifted_over_none = refl
+
+pub shifted_over_1 : over shifted_rows (1 ∷ []) ≡ over two_rows (1 ∷ [])
+shifted_over_1 = refl
+
+pub shifted_over_2 : over shifted_rows (2 ∷ []) ≡ over two_rows (2 ∷ [])
+shifted_over_2 = refl
+
+pub shifted_over_1_and_2 : over shifted_rows (1 ∷ 2 ∷ []) ≡ over two_rows (1 ∷ 2 ∷ [])
+shifted_over_1_and_2 = refl
+
+-- nothing holds that is false
+abbrev Holds : Bool → Type 0
+Holds true = ⊤
+Holds false = ⊥
+
+-- but they are not the sums
+pub shifted_not_sums : AreSums (projected 0 three_rows) shifted_rows → ⊥
+shifted_not_sums sums = subst (λ rows. Holds (nat_eq (unsigned_abs (sum_over (λ r. r.before) rows)) 1)) (sums (2 ∷ [])) tt

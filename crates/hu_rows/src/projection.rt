@@ -6,6 +6,7 @@ ghost use Rattle.hu_kind.specs.Order.{Ascend};
 ghost use Rattle.hu_kind.specs.Record.{items_in, has};
 ghost use Rattle.hu_rows.specs.Rows.{AreRows, AreApart, over, count_over, ranks_of, ranks_in, size_of};
 ghost use Rattle.hu_rows.specs.Projection.{projected, projected_row};
+ghost use Rattle.hu_rows.specs.Sums.{AreSums};
 ghost use Rattle.hu_rows.specs.View.{cells_of, row_of, rows_of};
 
 use crate::merge::merge;
@@ -27,24 +28,25 @@ pub fn project<'a, 'b: 'a>(
 ) -> Result<Rows<'a>, NoMemory>
     ensures over { IfOk result (λ answer. (set : List ℕ) → AllByRecursion (λ rank. z < rank) set → over answer set ≡ over rows.now (z ∷ set)) }
     ensures count { IfOk result (λ answer. (set : List ℕ) → AllByRecursion (λ rank. z < rank) set → count_over answer set ≡ count_over rows.now (z ∷ set)) }
+    ensures sums { IfOk result (AreSums (projected z rows.now)) }
     ensures apart { IfOk result AreApart }
     ensures after { IfOk result (λ answer. (rank : ℕ) → Contains (ranks_in answer) rank → z < rank) }
     ensures among { IfOk result (λ answer. (rank : ℕ) → Contains (ranks_in answer) rank → Contains (ranks_in rows.now) rank) }
 {
-    merge(alloc, projected_rows(alloc, rows.rows(), z)?, arena)
+    merge(alloc, projected_rows(alloc, rows, z)?, arena)
 }
 
 /// The rows that hold a rank, projected by it, unmerged.
 fn projected_rows<'a, 'b: 'a>(
     alloc: Global,
-    rows: &[Row<'b>],
+    rows: &Rows<'b>,
     z: u32,
 ) -> Result<Vec<Row<'a>>, NoMemory>
-    requires { AreRows (rows_of rows.now) }
-    ensures { IfOk result (λ answer. rows_of answer.items ≡ projected z (rows_of rows.now)) }
+    ensures value { IfOk result (λ answer. rows_of answer.items ≡ projected z rows.now) }
+    ensures rules { IfOk result (λ answer. AreRows (rows_of answer.items)) }
 {
     let mut projected = Vec::new(alloc);
-    for row in rows {
+    for row in rows.rows() {
         if let Some(one) = projected_row(row, z) {
             projected.push(one)?;
         }

@@ -3,8 +3,9 @@
 ghost use Rattle.std.specs.Prelude.{◌≡◌, ◌↔◌, ◌+◌, ◌<◌, ◌^◌, ℕ, unsigned_abs, List, [], ◌∷◌, ◌++◌, map, length, IfOk, OnOk, IsSome, IfSome, SomeIff, IsTrue};
 ghost use Rattle.std.specs.List.{All, AllAdjacentBelow, sum_by};
 ghost use Rattle.hu_kind.specs.Database.{utility, support};
-ghost use Rattle.hu_totals.specs.View.{pairs_in};
+ghost use Rattle.hu_totals.specs.Ranked.{IsRanking};
 ghost use Rattle.hu_rows.specs.Rows.{AreRows, AreApart, AreCounted, over, count_over, size_of, count_of, unmerged};
+ghost use Rattle.hu_rows.specs.Sums.{AreSums};
 ghost use Rattle.hu_rows.specs.Tally.{AreBelow};
 ghost use Rattle.hu_rows.specs.View.{row_of, row_with, rows_of, KeepRules};
 
@@ -102,12 +103,13 @@ impl<'a> Rows<'a> {
     ) -> Result<Rows<'a>, NoMemory>
         ensures over { IfOk result (λ rows. (set : List ℕ) → over rows set ≡ utility ranked.now.records set) }
         ensures count { IfOk result (λ rows. (set : List ℕ) → count_over rows set ≡ support ranked.now.records set) }
+        ensures sums { IfOk result (AreSums (map unmerged ranked.now.records)) }
         ensures apart { IfOk result AreApart }
         ensures rules { IfOk result AreRows }
         ensures counted { IfOk result AreCounted }
         ensures ranks { IfOk result (AreBelow (length ranked.now.items)) }
     {
-        merge(alloc, ranked_rows(alloc, ranked.records())?, arena)
+        merge(alloc, ranked_rows(alloc, ranked)?, arena)
     }
 }
 
@@ -120,13 +122,14 @@ fn with_row<'a>(alloc: Global, rows: &[Row<'a>], row: Row<'a>) -> Result<Vec<Row
     Ok(answer)
 }
 
-/// A row for each of these records.
-fn ranked_rows<'a>(alloc: Global, records: &'a [Vec<Dense>]) -> Result<Vec<Row<'a>>, NoMemory>
-    ensures value { IfOk result (λ rows. rows_of rows.items ≡ map unmerged (map pairs_in records.now)) }
-    ensures few { OnOk result (length records.now < 2 ^ 64) }
+/// A row for each record.
+fn ranked_rows<'a>(alloc: Global, ranked: &'a Ranked) -> Result<Vec<Row<'a>>, NoMemory>
+    ensures value { IfOk result (λ rows. rows_of rows.items ≡ map unmerged ranked.now.records) }
+    ensures rules { IfOk result (λ rows. AreRows (rows_of rows.items)) }
+    ensures ranking { IsRanking ranked.now }
 {
     let mut rows = Vec::new(alloc);
-    for record in records {
+    for record in ranked.records() {
         rows.push(Row {
             before: 0,
             count: 1,

@@ -15,6 +15,13 @@ const THREE_ROWS: [&[(u32, i128)]; 3] = [
     &[(0, 2), (2, 7)],
 ];
 
+const FOUR_ROWS: [&[(u32, i128)]; 4] = [
+    &[(0, 4), (1, 2), (2, 3)],
+    &[(0, 1), (1, 5), (2, 1)],
+    &[(0, 2), (2, 7)],
+    &[(1, 4), (2, 6)],
+];
+
 const SIGNED_ROWS: [&[(u32, i128)]; 2] = [&[(0, -4), (1, 2)], &[(0, 1), (1, 5)]];
 
 /// The cells of these ranks and values, in an arena.
@@ -189,13 +196,7 @@ fn walk(
 
 #[test]
 fn ranked_records_as_rows(rt: HostRuntime) -> Result<(), Fail> {
-    let records: [&[(u32, i128)]; 4] = [
-        &[(0, 4), (1, 2), (2, 3)],
-        &[(0, 1), (1, 5), (2, 1)],
-        &[(0, 2), (2, 7)],
-        &[(1, 4), (2, 6)],
-    ];
-    let ranked = ranked_of(&rt, rt.alloc(), &records)?;
+    let ranked = ranked_of(&rt, rt.alloc(), &FOUR_ROWS)?;
     let arena = Bump::new(rt.alloc());
     let rows = Rows::of(rt.alloc(), &ranked, &arena)?;
     assert_eq!(rt;
@@ -208,5 +209,26 @@ fn ranked_records_as_rows(rt: HostRuntime) -> Result<(), Fail> {
         text.as_str(),
         "0 : 7 3\n0 1 : 12 2\n0 1 2 : 16 2\n0 2 : 18 3\n1 : 11 3\n1 2 : 21 3\n2 : 17 4\n"
     );
+    Ok(())
+}
+
+#[test]
+fn projecting_merged_rows_is_merging_projected_ones(rt: HostRuntime) -> Result<(), Fail> {
+    let ranked = ranked_of(&rt, rt.alloc(), &FOUR_ROWS)?;
+    let arena = Bump::new(rt.alloc());
+    let merged = Rows::of(rt.alloc(), &ranked, &arena)?;
+    let unmerged = rows_in(&rt, rt.alloc(), &arena, &FOUR_ROWS)?;
+    assert!(&rt; merged.rows().len() == 3);
+    assert!(&rt; unmerged.rows().len() == 4);
+    let by_rank = ["2 1: 2=7\n5 2: 1=7 2=4\n", "11 3: 2=10\n", "17 4:\n"];
+    for z in 0..3u32 {
+        let of_merged = project(rt.alloc(), &merged, z, &arena)?;
+        let of_unmerged = project(rt.alloc(), &unmerged, z, &arena)?;
+        assert_eq!(rt; told(rt.alloc(), &of_merged)?.as_str(), by_rank[z as usize]);
+        assert_eq!(rt;
+            told(rt.alloc(), &of_unmerged)?.as_str(),
+            by_rank[z as usize]
+        );
+    }
     Ok(())
 }

@@ -1,19 +1,19 @@
-use Rattle.std.proofs.Common.{pos, [], arith}
-use Rattle.std.proofs.lemmas.List.Sums.{get_or-le-sum_by}
-use Rattle.hu_kind.specs.Order.{Ascend}
-use Rattle.hu_rows.specs.declared.rows.Row.{Row}
-use Rattle.hu_rows.specs.Rows.{ranks_of, size_of}
-use Rattle.hu_rows.specs.View.{row_of}
-use Rattle.hu_rows.proofs.CellChecks.{places-each, rows-each}
-use Rattle.hu_rows.proofs.RunLemmas.{sum_by-rows_of}
+use Rattle.std.proofs.Common.{◌≡◌, sym, subst, arith}
+use Rattle.std.proofs.lemmas.Grind.{common_steps}
+use Rattle.hu_rows.specs.Rows.{AreRows}
+use Rattle.hu_rows.specs.Projection.{projected}
+use Rattle.hu_rows.specs.View.{rows_of}
+use Rattle.hu_rows.proofs.ProjectionLemmas.{AreRows-projected}
+use Rattle.hu_rows.proofs.RunLemmas.{IsRow-at}
 use Rattle.hu_rows.proofs.projection.projected_rows.Goals as goal
 
-pub projected_row-requires-clause-ascending : goal.projected_row-requires-clause-ascending
-projected_row-requires-clause-ascending c =
-    let none : Row = record { before = pos 0; count = 0; cells = record { ref_ptr = (0, 0); now = [] } } in
-    places-each (λ (row : Row). Ascend (ranks_of (row_of row))) c.args.rows.now (rows-each (λ row. Ascend (ranks_of row)) c.args.rows.now c.requires.ascending) c.loop-row.row-index none c.loop-row-test.true
+pub projected_row-requires : goal.projected_row-requires
+projected_row-requires c =
+    let rules : AreRows (rows_of c.rows-row-items.result.now) = subst AreRows (sym c.rows-row-items.ensures.value) c.rows-row-items.ensures.rules in
+    let row = IsRow-at c.rows-row-items.result.now c.loop-row.row-index rules c.loop-row-test.true in
+    record { ascending = row.ascending; size = row.size }
 
-pub projected_row-requires-clause-size : goal.projected_row-requires-clause-size
-projected_row-requires-clause-size c =
-    let none : Row = record { before = pos 0; count = 0; cells = record { ref_ptr = (0, 0); now = [] } } in
-    omega (arith, sum_by-rows_of size_of c.args.rows.now, get_or-le-sum_by (λ (row : Row). size_of (row_of row)) c.args.rows.now c.loop-row.row-index none c.loop-row-test.true, c.requires.sizes)
+pub returns-clause-rules : goal.returns-clause-rules
+returns-clause-rules c =
+    let is : rows_of c.loop-row.projected.items ≡ projected c.args.z c.args.rows.now = grind (arith, common_steps) in
+    subst AreRows (sym is) (AreRows-projected c.args.z c.args.rows.now c.rows-row-items.ensures.rules)

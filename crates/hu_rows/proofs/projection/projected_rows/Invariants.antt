@@ -4,4 +4,4 @@ use Rattle.hu_rows.specs.View.{rows_of}
 use Rattle.hu_rows.proofs.projection.projected_rows.Given as goal
 
 abbrev pub invariant-loop-row : goal.invariant-loop-row
-invariant-loop-row l = rows_of l.projected.items ≡ projected l.z (rows_of (take l.row-index l.rows))
+invariant-loop-row l = rows_of l.projected.items ≡ projected l.z (rows_of (take l.row-index l.row-items))

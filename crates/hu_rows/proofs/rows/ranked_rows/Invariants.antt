@@ -5,4 +5,4 @@ use Rattle.hu_rows.specs.View.{rows_of}
 use Rattle.hu_rows.proofs.rows.ranked_rows.Given as goal
 
 abbrev pub invariant-loop-record : goal.invariant-loop-record
-invariant-loop-record l = rows_of l.rows.items ≡ map unmerged (map pairs_in (take l.record-index l.records))
+invariant-loop-record l = rows_of l.rows.items ≡ map unmerged (map pairs_in (take l.record-index l.record-items))
