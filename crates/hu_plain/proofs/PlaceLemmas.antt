@@ -20,10 +20,10 @@ use Rattle.hu_plain.specs.declared.places.Step.{Step}
 use Rattle.hu_plain.specs.declared.places.Step.TheVariants.{Into, After}
 use Rattle.hu_plain.specs.declared.places.Place.{Place}
 use Rattle.hu_plain.specs.Row.{Cells, RowOf, grown_rows, weight_of, IsRising, AreRows}
-use Rattle.hu_plain.specs.View.{numbers_of}
+use Rattle.hu_plain.specs.View.{numbers_of, rows_in}
 use Rattle.hu_plain.specs.Growth.{closed, grown_utility, prefix_entry, Grows}
 use Rattle.hu_plain.specs.Place.{PlaceOf, Places, after, all_stepped, begun, best_of, best_sum, first_places, fresh, grown_best, itemsets_of, reach_of, ArePlaces, IsAscending, AreAscending, IsBegun}
-use Rattle.hu_plain.specs.PlaceView.{all_places, following, joining, pushed, rows_in, step_after, step_into, place_of, places_of, HasSteps}
+use Rattle.hu_plain.specs.PlaceView.{all_places, following, joining, pushed, step_after, step_into, place_of, places_of, HasSteps}
 use Rattle.hu_plain.proofs.Reach.{ahead, ahead-upto, reach_with, best-within, next-within, reaches-stepped}
 use Rattle.hu_plain.proofs.RowLemmas.{item-of_number}
 use Rattle.hu_plain.proofs.SearchLemmas.{entry_with, popped}

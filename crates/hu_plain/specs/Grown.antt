@@ -1,7 +1,7 @@
 -- The rows that items make of the rows of a prefix, each with its item.
-use Rattle.std.specs.Prelude.{◌≡◌, ◌↔◌, ℕ, ◌<◌, ◌==◌, ℤ, ◌+ℤ◌, List, [], ◌∷◌, map, drop, length}
+use Rattle.std.specs.Prelude.{◌≡◌, ◌↔◌, ℕ, ◌<◌, ◌≤◌, ◌==◌, ℤ, ◌+ℤ◌, List, [], ◌∷◌, map, drop, length}
 use Rattle.std.specs.List.{Contains, filter, flat_map}
-use Rattle.std.specs.List.Sorted.{IsNonDecreasingBy}
+use Rattle.std.specs.List.Sorted.{IsNonDecreasingBy, IsPartitionPoint}
 use Rattle.hu_kind.specs.declared.item.Item.{Item}
 use Rattle.hu_kind.specs.Cell.{pairs_of}
 use Rattle.hu_plain.specs.declared.grown.Grown.{Grown}
@@ -26,9 +26,19 @@ all_grown rows = flat_map (λ row. grown_cells row.0 row.1) rows
 abbrev pub pair_with : Grown → ℕ × RowOf
 pair_with grown = (grown.item.0, row_of grown.row)
 
+abbrev pub pairs_with : List Grown → List (ℕ × RowOf)
+pairs_with grown = map pair_with grown
+
 -- the item that made a row
 abbrev pub item_at : Grown → ℕ
 item_at grown = grown.item.0
+
+-- so many grown rows are of items below an item, and so many of items up to it
+abbrev pub AreBelow : ℕ → List Grown → ℕ → Type 0
+AreBelow item grown count = IsPartitionPoint (λ one. item_at one < item) (λ one. item ≤ item_at one) grown count
+
+abbrev pub AreUpto : ℕ → List Grown → ℕ → Type 0
+AreUpto item grown count = IsPartitionPoint (λ one. item_at one ≤ item) (λ one. item < item_at one) grown count
 
 -- the rows that an item made
 abbrev pub made_of : ℕ → List Grown → List RowOf

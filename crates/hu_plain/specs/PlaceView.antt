@@ -1,5 +1,5 @@
 -- How places and steps as a search keeps them are seen.
-use Rattle.std.specs.Prelude.{◌<◌, ℕ, ℤ, Option, option_map, option_to_list, List, [], ◌∷◌, ◌++◌, map, length}
+use Rattle.std.specs.Prelude.{◌<◌, ℕ, List, [], ◌∷◌, ◌++◌, map, length}
 use Rattle.std.specs.Global.{Vec}
 use Rattle.std.specs.List.{Contains, flat_map}
 use Rattle.hu_kind.specs.declared.item.Item.{Item}
@@ -10,12 +10,8 @@ use Rattle.hu_plain.specs.declared.places.Place.{Place}
 use Rattle.hu_plain.specs.declared.places.Step.{Step}
 use Rattle.hu_plain.specs.declared.places.Step.TheVariants.{Into, After}
 use Rattle.hu_plain.specs.Row.{RowOf}
-use Rattle.hu_plain.specs.View.{row_of}
+use Rattle.hu_plain.specs.View.{rows_in}
 use Rattle.hu_plain.specs.Place.{PlaceOf, Places, all_stepped, begun, itemsets_of}
-
--- a row, if there is one
-abbrev pub rows_in : Option Row → List RowOf
-rows_in row = option_to_list (option_map row_of row)
 
 -- a place as a pair
 abbrev pub place_of : Place → PlaceOf
@@ -34,14 +30,22 @@ abbrev pub pushed : Places → PlaceOf → Places
 pushed [] place = begun (place ∷ [])
 pushed (first ∷ places) place = (first ∷ places) ++ place ∷ []
 
+-- the items after the prefix in rows
+abbrev pub items_after : List RowOf → List ℕ
+items_after rows = flat_map (λ row. items_in row.1) rows
+
+-- all items at places
+abbrev pub items_at : Places → List ℕ
+items_at places = flat_map items_in (itemsets_of places)
+
 -- the items that can join the last itemset in a record
 abbrev pub joining : Places → List ℕ
-joining places = flat_map (λ place. flat_map (λ row. items_in row.1) place.0) places
+joining places = flat_map (λ place. items_after place.0) places
 
 -- the items that can begin a new itemset in a record: those after the first place
 abbrev pub following : Places → List ℕ
 following [] = []
-following (place ∷ places) = flat_map items_in (itemsets_of places)
+following (place ∷ places) = items_at places
 
 -- the steps of an item
 abbrev pub step_into : Item → Step

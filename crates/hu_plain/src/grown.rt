@@ -1,10 +1,9 @@
 //! The rows that items make of the rows of a prefix, found by item.
 
-ghost use Rattle.std.specs.Prelude.{◌≡◌, ◌==◌, ◌+◌, ◌<◌, ◌≤◌, ◌^◌, ◌∷◌, ◌++◌, map, drop, length, filter, IfOk, OnOk};
-ghost use Rattle.hu_kind.specs.Cell.{pairs_of};
-ghost use Rattle.std.specs.List.Sorted.{IsNonDecreasingBy, IsPartitionPoint};
+ghost use Rattle.std.specs.Prelude.{◌≡◌, ◌==◌, ◌+◌, ◌<◌, ◌≤◌, ◌^◌, ◌∷◌, ◌++◌, map, length, filter, IfOk, OnOk};
+ghost use Rattle.std.specs.List.Sorted.{IsNonDecreasingBy};
 ghost use Rattle.hu_collect.specs.Laws.{SameMembers};
-ghost use Rattle.hu_plain.specs.Grown.{grown_from, item_at, made_of, pair_with, AreGrown};
+ghost use Rattle.hu_plain.specs.Grown.{grown_from, item_at, pairs_with, AreBelow, AreUpto, made_of, pair_with, AreGrown};
 ghost use Rattle.hu_plain.specs.Row.{weight_of, AreRows};
 ghost use Rattle.hu_plain.specs.View.{row_of, rows_of, numbers_of};
 
@@ -35,7 +34,7 @@ pub(crate) fn all_grown<'a>(alloc: Global, rows: &[Row<'a>]) -> Result<Vec<Grown
 /// Appends the rows that its items make of a row.
 fn push_grown<'a>(grown: &mut Vec<Grown<'a>>, row: &Row<'a>) -> Result<(), NoMemory>
     requires { weight_of (row_of row.now) < 2 ^ 127 }
-    ensures { OnOk result (map pair_with grown.new.items ≡ map pair_with grown.old.items ++ grown_from row.now 0) }
+    ensures { OnOk result (pairs_with grown.new.items ≡ pairs_with grown.old.items ++ grown_from row.now 0) }
 {
     for place in 0..row.tail.len() {
         grown.push(grown_at(row, place))?;
@@ -99,7 +98,7 @@ fn grown_by<'b, 'a>(grown: &'b [Grown<'a>], item: Item) -> &'b [Grown<'a>]
 fn count_below(grown: &[Grown<'_>], item: Item) -> usize
     requires { IsNonDecreasingBy item_at grown.now }
     ensures bound { result ≤ length grown.now }
-    ensures splits { IsPartitionPoint (λ one. one.item.0 < item.0) (λ one. item.0 ≤ one.item.0) grown.now result }
+    ensures splits { AreBelow item.0 grown.now result }
 {
     grown.partition_point(|one| one.item.0 < item.0)
 }
@@ -108,7 +107,7 @@ fn count_below(grown: &[Grown<'_>], item: Item) -> usize
 fn count_upto(grown: &[Grown<'_>], item: Item) -> usize
     requires { IsNonDecreasingBy item_at grown.now }
     ensures bound { result ≤ length grown.now }
-    ensures splits { IsPartitionPoint (λ one. one.item.0 ≤ item.0) (λ one. item.0 < one.item.0) grown.now result }
+    ensures splits { AreUpto item.0 grown.now result }
 {
     grown.partition_point(|one| one.item.0 <= item.0)
 }

@@ -1,17 +1,15 @@
 //! Places: where in a sequence record a prefix can end.
 
 ghost use Rattle.std.specs.Prelude.{◌≡◌, ◌<◌, ◌^◌, [], ◌++◌, map, None, IfOk, OnOk};
-ghost use Rattle.std.specs.List.{sum_by, flat_map, AllByRecursion};
+ghost use Rattle.std.specs.List.{sum_by, AllByRecursion};
 ghost use Rattle.hu_kind.specs.Cell.{pairs_of};
-ghost use Rattle.hu_kind.specs.Record.{items_in, absolute_of};
+ghost use Rattle.hu_kind.specs.Record.{absolute_of};
 ghost use Rattle.hu_kind.specs.Sequence.{better};
-ghost use Rattle.hu_kind.specs.Order.{Ascend};
-ghost use Rattle.hu_collect.specs.Laws.{SameMembers};
 ghost use Rattle.hu_plain.specs.Row.{grown_rows, AreRows};
-ghost use Rattle.hu_plain.specs.View.{numbers_of};
+ghost use Rattle.hu_plain.specs.View.{rows_in, Appends};
 ghost use Rattle.hu_plain.specs.Growth.{grown_utility};
-ghost use Rattle.hu_plain.specs.Place.{after, all_stepped, begun, best_of, best_sum, first_places, fresh, into, itemsets_of, reach_of, stepped, ArePlaces, AreAscending};
-ghost use Rattle.hu_plain.specs.PlaceView.{all_places, following, joining, pushed, rows_in, step_after, step_into, place_of, places_of, HasSteps};
+ghost use Rattle.hu_plain.specs.Place.{after, all_stepped, begun, best_of, best_sum, first_places, fresh, into, reach_of, stepped, ArePlaces, AreAscending};
+ghost use Rattle.hu_plain.specs.PlaceView.{all_places, following, items_after, items_at, joining, pushed, step_after, step_into, place_of, places_of, HasSteps};
 
 use crate::row::{Row, distinct, push_items};
 use hu_kind::{Cell, Item, NoMemory, SeqRecord};
@@ -252,7 +250,7 @@ fn push_after(steps: &mut Vec<Step>, items: &[Item]) -> Result<(), NoMemory>
 
 /// Appends the items that can join the last itemset in a record.
 fn push_joining(items: &mut Vec<Item>, places: &[Place<'_>]) -> Result<(), NoMemory>
-    ensures { OnOk result (numbers_of items.new.items ≡ numbers_of items.old.items ++ joining (places_of places.now)) }
+    ensures { OnOk result (Appends items.old.items (joining (places_of places.now)) items.new.items) }
 {
     for place in places {
         push_tail(items, place.end)?;
@@ -262,7 +260,7 @@ fn push_joining(items: &mut Vec<Item>, places: &[Place<'_>]) -> Result<(), NoMem
 
 /// Appends the items after a row's prefix.
 fn push_tail(items: &mut Vec<Item>, row: Option<Row<'_>>) -> Result<(), NoMemory>
-    ensures { OnOk result (numbers_of items.new.items ≡ numbers_of items.old.items ++ flat_map (λ pair. items_in pair.1) (rows_in row.entry)) }
+    ensures { OnOk result (Appends items.old.items (items_after (rows_in row.entry)) items.new.items) }
 {
     match row {
         Some(row) => push_items(items, row.tail),
@@ -272,7 +270,7 @@ fn push_tail(items: &mut Vec<Item>, row: Option<Row<'_>>) -> Result<(), NoMemory
 
 /// Appends the items that can begin a new itemset in a record: those after the first place.
 fn push_following(items: &mut Vec<Item>, places: &[Place<'_>]) -> Result<(), NoMemory>
-    ensures { OnOk result (numbers_of items.new.items ≡ numbers_of items.old.items ++ following (places_of places.now)) }
+    ensures { OnOk result (Appends items.old.items (following (places_of places.now)) items.new.items) }
 {
     match places.split_first() {
         Some((_, later)) => push_cells(items, later),
@@ -282,7 +280,7 @@ fn push_following(items: &mut Vec<Item>, places: &[Place<'_>]) -> Result<(), NoM
 
 /// Appends the items of all cells at places.
 fn push_cells(items: &mut Vec<Item>, places: &[Place<'_>]) -> Result<(), NoMemory>
-    ensures { OnOk result (numbers_of items.new.items ≡ numbers_of items.old.items ++ flat_map items_in (itemsets_of (places_of places.now))) }
+    ensures { OnOk result (Appends items.old.items (items_at (places_of places.now)) items.new.items) }
 {
     for place in places {
         push_items(items, place.cells)?;

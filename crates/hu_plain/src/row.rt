@@ -1,14 +1,14 @@
 //! Rows: the records that hold a prefix, and what one more item makes of them.
 
-ghost use Rattle.std.specs.Prelude.{◌≡◌, ◌<◌, ◌≤◌, ◌^◌, [], ◌++◌, map, length, IfOk, OnOk, option_map, option_to_list};
+ghost use Rattle.std.specs.Prelude.{◌≡◌, ◌<◌, ◌≤◌, ◌^◌, [], map, length, IfOk, OnOk};
 ghost use Rattle.std.specs.List.{sum_by};
 ghost use Rattle.std.specs.List.Sorted.{IsPartitionPoint};
 ghost use Rattle.hu_kind.specs.Cell.{pairs_of};
 ghost use Rattle.hu_kind.specs.Record.{items_in, absolute_of};
 ghost use Rattle.hu_kind.specs.Order.{Ascend};
 ghost use Rattle.hu_collect.specs.Laws.{SameMembers};
-ghost use Rattle.hu_plain.specs.Row.{earned, grown_row, grown_rows, weight_of, AreRows};
-ghost use Rattle.hu_plain.specs.View.{row_of, rows_of, first_row, numbers_of};
+ghost use Rattle.hu_plain.specs.Row.{earned, grown_row, weight_of, AreRows};
+ghost use Rattle.hu_plain.specs.View.{row_of, rows_of, rows_in, first_row, Appends};
 
 use hu_kind::{Cell, Item, NoMemory, Record};
 use std::alloc::Global;
@@ -26,7 +26,7 @@ impl<'a> Row<'a> {
     pub(crate) fn grown(&self, item: Item) -> Option<Row<'a>>
         requires ascending { Ascend (items_in (pairs_of self.now.tail.now)) }
         requires sum_fits { weight_of (row_of self.now) < 2 ^ 127 }
-        ensures { option_to_list (option_map row_of result) ≡ grown_row item.0 self.now.earned (pairs_of self.now.tail.now) }
+        ensures { rows_in result ≡ grown_row item.0 self.now.earned (pairs_of self.now.tail.now) }
     {
         let place = place_of(self.tail, item);
         let cell = self.tail.get(place)?;
@@ -77,7 +77,7 @@ pub(crate) fn distinct(items: Vec<Item>) -> Vec<Item>
 
 /// Appends the items of cells.
 pub(crate) fn push_items(items: &mut Vec<Item>, cells: &[Cell]) -> Result<(), NoMemory>
-    ensures { OnOk result (numbers_of items.new.items ≡ numbers_of items.old.items ++ items_in (pairs_of cells.now)) }
+    ensures { OnOk result (Appends items.old.items (items_in (pairs_of cells.now)) items.new.items) }
 {
     for cell in cells {
         items.push(cell.item)?;

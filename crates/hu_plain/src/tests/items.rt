@@ -72,41 +72,40 @@ fn mined_top(
 }
 
 #[test]
-fn base_a_at_30(rt: HostRuntime) -> Result<(), Fail> {
-    let text = mined(&rt, rt.alloc(), &BASE_A, 30)?;
-    assert_eq!(rt;
-        text.as_str(),
-        "2 3 4 5 #UTIL: 40 #SUP: 2\n2 3 5 #UTIL: 37 #SUP: 3\n2 4 5 #UTIL: 36 #SUP: 2\n2 3 4 #UTIL: 34 #SUP: 2\n1 3 5 #UTIL: 31 #SUP: 2\n2 5 #UTIL: 31 #SUP: 3\n1 2 3 4 5 6 #UTIL: 30 #SUP: 1\n2 4 #UTIL: 30 #SUP: 2\n"
-    );
+fn all_itemsets(rt: HostRuntime) -> Result<(), Fail> {
+    let cases: [(&[&[(u32, i128)]], i128, &str); 4] = [
+        (
+            &BASE_A,
+            30,
+            "2 3 4 5 #UTIL: 40 #SUP: 2\n2 3 5 #UTIL: 37 #SUP: 3\n2 4 5 #UTIL: 36 #SUP: 2\n2 3 4 #UTIL: 34 #SUP: 2\n1 3 5 #UTIL: 31 #SUP: 2\n2 5 #UTIL: 31 #SUP: 3\n1 2 3 4 5 6 #UTIL: 30 #SUP: 1\n2 4 #UTIL: 30 #SUP: 2\n",
+        ),
+        (
+            &[&[(1, 5), (2, 0)]],
+            5,
+            "1 #UTIL: 5 #SUP: 1\n1 2 #UTIL: 5 #SUP: 1\n",
+        ),
+        (
+            &[
+                &[(1, -10), (2, 3)],
+                &[(1, 4), (2, 1), (3, 6)],
+                &[(2, 2), (3, 3)],
+            ],
+            10,
+            "2 3 #UTIL: 12 #SUP: 2\n1 2 3 #UTIL: 11 #SUP: 1\n1 3 #UTIL: 10 #SUP: 1\n",
+        ),
+        (&[], 1, ""),
+    ];
+    for (records, start, lines) in cases {
+        assert_eq!(rt; mined(&rt, rt.alloc(), records, start)?.as_str(), lines);
+    }
     Ok(())
 }
 
 #[test]
 fn a_tie_at_the_cut(rt: HostRuntime) -> Result<(), Fail> {
-    let text = mined_top(&rt, rt.alloc(), &BASE_A, 5)?;
     assert_eq!(rt;
-        text.as_str(),
+        mined_top(&rt, rt.alloc(), &BASE_A, 5)?.as_str(),
         "2 3 4 5 #UTIL: 40 #SUP: 2\n2 3 5 #UTIL: 37 #SUP: 3\n2 4 5 #UTIL: 36 #SUP: 2\n2 3 4 #UTIL: 34 #SUP: 2\n1 3 5 #UTIL: 31 #SUP: 2\n"
     );
-    Ok(())
-}
-
-#[test]
-fn small_bases(rt: HostRuntime) -> Result<(), Fail> {
-    let zero: [&[(u32, i128)]; 1] = [&[(1, 5), (2, 0)]];
-    assert_eq!(rt;
-        mined(&rt, rt.alloc(), &zero, 5)?.as_str(),
-        "1 #UTIL: 5 #SUP: 1\n1 2 #UTIL: 5 #SUP: 1\n"
-    );
-    let signed: [&[(u32, i128)]; 3] = [
-        &[(1, -10), (2, 3)],
-        &[(1, 4), (2, 1), (3, 6)],
-        &[(2, 2), (3, 3)],
-    ];
-    assert_eq!(rt;
-        mined(&rt, rt.alloc(), &signed, 10)?.as_str(),
-        "2 3 #UTIL: 12 #SUP: 2\n1 2 3 #UTIL: 11 #SUP: 1\n1 3 #UTIL: 10 #SUP: 1\n"
-    );
-    assert_eq!(rt; mined(&rt, rt.alloc(), &[], 1)?.as_str(), "");
     Ok(())
 }

@@ -93,29 +93,36 @@ fn mined_top(
 }
 
 #[test]
-fn one_record(rt: HostRuntime) -> Result<(), Fail> {
-    assert_eq!(rt;
-        mined(&rt, rt.alloc(), &LATER_IS_GREATEST, 7)?.as_str(),
-        "1 -1 1 -1 2 -1 #UTIL: 10 #SUP: 1\n1 -1 2 -1 #UTIL: 8 #SUP: 1\n1 -1 1 -1 #UTIL: 7 #SUP: 1\n"
-    );
-    assert_eq!(rt;
-        mined(&rt, rt.alloc(), &FOUR_PLACES, 17)?.as_str(),
-        "1 -1 2 -1 1 -1 3 -1 #UTIL: 20 #SUP: 1\n1 -1 1 -1 3 -1 #UTIL: 19 #SUP: 1\n1 -1 2 -1 3 -1 #UTIL: 18 #SUP: 1\n1 -1 3 -1 #UTIL: 17 #SUP: 1\n"
-    );
+fn all_sequences(rt: HostRuntime) -> Result<(), Fail> {
+    let cases: [(&[&[&[(u32, i128)]]], i128, &str); 4] = [
+        (
+            &LATER_IS_GREATEST,
+            7,
+            "1 -1 1 -1 2 -1 #UTIL: 10 #SUP: 1\n1 -1 2 -1 #UTIL: 8 #SUP: 1\n1 -1 1 -1 #UTIL: 7 #SUP: 1\n",
+        ),
+        (
+            &FOUR_PLACES,
+            17,
+            "1 -1 2 -1 1 -1 3 -1 #UTIL: 20 #SUP: 1\n1 -1 1 -1 3 -1 #UTIL: 19 #SUP: 1\n1 -1 2 -1 3 -1 #UTIL: 18 #SUP: 1\n1 -1 3 -1 #UTIL: 17 #SUP: 1\n",
+        ),
+        (
+            &FOUR_RECORDS,
+            40,
+            "1 4 -1 3 -1 2 -1 5 7 -1 #UTIL: 40 #SUP: 1\n3 -1 7 -1 #UTIL: 40 #SUP: 3\n",
+        ),
+        (&[], 1, ""),
+    ];
+    for (records, start, lines) in cases {
+        assert_eq!(rt; mined(&rt, rt.alloc(), records, start)?.as_str(), lines);
+    }
     Ok(())
 }
 
 #[test]
-fn more_records(rt: HostRuntime) -> Result<(), Fail> {
-    let alloc = rt.alloc();
+fn the_first_of_a_tie(rt: HostRuntime) -> Result<(), Fail> {
     assert_eq!(rt;
-        mined(&rt, alloc, &FOUR_RECORDS, 40)?.as_str(),
-        "1 4 -1 3 -1 2 -1 5 7 -1 #UTIL: 40 #SUP: 1\n3 -1 7 -1 #UTIL: 40 #SUP: 3\n"
-    );
-    assert_eq!(rt;
-        mined_top(&rt, alloc, &FOUR_RECORDS, 1)?.as_str(),
+        mined_top(&rt, rt.alloc(), &FOUR_RECORDS, 1)?.as_str(),
         "1 4 -1 3 -1 2 -1 5 7 -1 #UTIL: 40 #SUP: 1\n"
     );
-    assert_eq!(rt; mined(&rt, alloc, &[], 1)?.as_str(), "");
     Ok(())
 }
