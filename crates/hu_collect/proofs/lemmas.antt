@@ -3,6 +3,4 @@ pub mod Cutting
 pub mod Entries
 pub mod Floor
 pub mod Made
-pub mod Parted
 pub mod Searching
-pub mod Turns

@@ -2,7 +2,6 @@ pub mod Rule
 pub mod State
 pub mod Ranks
 pub mod Laws
-pub mod Makes
 pub mod Pairs
 pub mod Top
 pub mod Limited

@@ -1,6 +1,6 @@
 //! Which pairs of ranks a search joins.
 
-ghost use Rattle.std.specs.Prelude.{◌≡◌, ◌<◌, ◌<ℤ◌, ℕ, ℤ, false, List};
+ghost use Rattle.std.specs.Prelude.{◌≡◌, ◌<◌, ◌<ℤ◌, ℕ, ℤ, false, true, List};
 ghost use Rattle.std.specs.List.{Contains};
 ghost use Rattle.hu_kind.specs.Order.{Ascend};
 ghost use Rattle.hu_kind.specs.Database.{utility};
@@ -32,7 +32,9 @@ impl Gate for NoGate {
 
     ghost IsRightFor = { λ _ _. ⊤ };
 
-    fn may_join(&self, _a: u32, _b: u32) -> bool {
+    fn may_join(&self, _a: u32, _b: u32) -> bool
+        ensures always { result ≡ true }
+    {
         true
     }
 }

@@ -1,6 +1,6 @@
 //! The laws of what collectors make, for callers to bring into their proofs by a call. They do nothing.
 
-ghost use Rattle.hu_collect.specs.Laws.{MakesInTurn, MakesByMembers, MakesByPassing, MakesByReaching, LeavesBelowFloor, KeepsFloor};
+ghost use Rattle.hu_collect.specs.Laws.{MakesInTurn, MakesByMembers, LeavesBelowFloor, KeepsFloor};
 
 /// Making of one list of entries and then of another is making of both.
 #[tactic(auto, using(crate::proofs::lemmas::Made::makes_in_turn))]
@@ -12,18 +12,6 @@ pub fn law_of_turns()
 #[tactic(auto, using(crate::proofs::lemmas::Made::makes_by_members))]
 pub fn law_of_members()
     ensures { MakesByMembers }
-{}
-
-/// Lists with the same members among those that pass make the same.
-#[tactic(auto, using(crate::proofs::lemmas::Made::makes_by_passing))]
-pub fn law_of_passing()
-    ensures { MakesByPassing }
-{}
-
-/// Where the content is kept, lists with the same members among those that pass and reach the floor make the same.
-#[tactic(auto, using(crate::proofs::lemmas::Made::makes_by_reaching))]
-pub fn law_of_reaching()
-    ensures { MakesByReaching }
 {}
 
 /// An entry below the floor leaves the content.

@@ -16,10 +16,7 @@ mod top;
 pub use all::All;
 pub use collect::Collect;
 pub use gate::{Gate, NoGate};
-pub use laws::{
-    law_of_floors, law_of_low_entries, law_of_members, law_of_passing, law_of_reaching,
-    law_of_turns,
-};
+pub use laws::{law_of_floors, law_of_low_entries, law_of_members, law_of_turns};
 pub use limited::Limited;
 pub use top::Top;
 
