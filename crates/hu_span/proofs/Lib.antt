@@ -4,6 +4,7 @@ mod RowLemmas
 mod MarkLemmas
 mod GatherLemmas
 mod CandidateLemmas
+mod Parted
 mod Turns
 mod SearchLemmas
 mod ReachLemmas

@@ -4,6 +4,7 @@ ghost use Rattle.std.specs.Prelude.{◌≡◌, pos, ◌≤ℤ◌, ◌⊎◌, ◌
 ghost use Rattle.std.specs.List.{sum_by, AllByRecursion};
 ghost use Rattle.hu_kind.specs.Sequence.{best_utility, sequence_entry, sequence_patterns};
 ghost use Rattle.hu_base.specs.Base.{records_of};
+ghost use Rattle.hu_collect.specs.Laws.{MakesByReaching};
 ghost use Rattle.hu_collect.specs.Laws.{SameMembers};
 ghost use Rattle.hu_collect.specs.Rule.{made, floor_of, IsKept, MakesSome};
 ghost use Rattle.hu_collect.specs.State.{Mines};
@@ -23,9 +24,7 @@ use crate::row::{Row, utility_of};
 use crate::step::{Step, key_of};
 use hu_base::Base;
 use hu_chain::{Chain, Growth};
-use hu_collect::{
-    Collect, law_of_floors, law_of_low_entries, law_of_members, law_of_reaching, law_of_turns,
-};
+use hu_collect::{Collect, law_of_floors, law_of_low_entries, law_of_members, law_of_turns};
 use hu_kind::{Entry, Item, NoMemory, SeqRecord};
 use std::alloc::Global;
 
@@ -55,6 +54,12 @@ pub fn mine<C: Collect>(
     let items = items_of(alloc, &marks)?;
     search_items(alloc, base.records(), &marks, &items, collect)
 }
+
+/// Where the content is kept, lists with the same members among those that pass and reach the floor make the same.
+#[tactic(auto, using(hu_collect::proofs::lemmas::Made::makes_by_reaching))]
+fn law_of_reaching()
+    ensures { MakesByReaching }
+{}
 
 /// Offers the sequences that begin with one of the items.
 fn search_items<C: Collect>(

@@ -5,7 +5,7 @@ use Rattle.hu_kind.specs.declared.item.Item.{Item}
 use Rattle.hu_kind.specs.Sequence.{sequence_patterns}
 use Rattle.hu_base.specs.Base.{records_of}
 use Rattle.hu_collect.specs.Laws.{SameMembers}
-use Rattle.hu_collect.proofs.lemmas.Parted.{mines-parts}
+use Rattle.hu_span.proofs.Parted.{mines-parts}
 use Rattle.hu_chain.specs.Bound.{KeepsRules}
 use Rattle.hu_span.specs.declared.mark.Mark.{Mark}
 use Rattle.hu_span.specs.Gather.{all_items, AreMarks}

@@ -6,7 +6,7 @@ use Rattle.hu_kind.specs.Sequence.{sequence_utility, sequence_entry}
 use Rattle.hu_kind.specs.declared.entry.Entry.{Entry}
 use Rattle.hu_collect.specs.Rule.{floor_of}
 use Rattle.hu_collect.proofs.lemmas.Searching.{kept-in_order}
-use Rattle.hu_collect.proofs.lemmas.Parted.{takes-rule, takes-made, takes-kept}
+use Rattle.hu_span.proofs.Parted.{takes-rule, takes-made, takes-kept}
 use Rattle.hu_span.specs.Row.{sequences_of}
 use Rattle.hu_span.specs.Step.{pattern_of}
 use Rattle.hu_span.proofs.SearchLemmas.{offered-entry, utility-rows}
