@@ -1,5 +1,6 @@
 -- A level of a search over projected rows: its children, and the levels below it.
-use Rattle.std.proofs.Common.{◌≡◌, ℕ, ◌<◌, ◌≤◌, ◌+◌, Bool, true, false, cond, nat_lt, ℤ, pos, int_le, ◌≤ℤ◌, ◌<ℤ◌, T, List, [], ◌∷◌, ◌++◌, length, map, sym, refl, ap, ◌∙◌, subst, arith, append_assoc, Contains, inl, inr, ◌⊎◌}
+use Rattle.std.proofs.Common.{◌≡◌, ℕ, ◌<◌, Bool, true, false, cond, nat_lt, ℤ, int_le, ◌≤ℤ◌, T, List, [], ◌∷◌, ◌++◌, length, sym, refl, ap, ◌∙◌}
+use Rattle.std.proofs.Common.{subst, arith, append_assoc, Contains, inl, inr, ◌⊎◌}
 use Rattle.std.specs.List.{AllByRecursion, filter, flat_map}
 use Rattle.std.specs.List.Sorted.{IsPermutation}
 use Rattle.std.proofs.lemmas.Bool.{false≢true, ltb-true, lt-ltb}
@@ -11,24 +12,25 @@ use Rattle.hu_kind.specs.Order.{Ascend}
 use Rattle.hu_kind.specs.Record.{items_in}
 use Rattle.hu_kind.proofs.lemmas.Ascending.{Ascend-right, Ascend-push}
 use Rattle.hu_kind.proofs.lemmas.Each.{each-append, each-right}
-use Rattle.hu_kind.proofs.lemmas.Members.{Member, Member-map, Member-from_map, Member-flat_map, Member-from_flat_map, Member-filter, Member-from_filter, Member-from_contains, Contains-from_member}
+use Rattle.hu_kind.proofs.lemmas.Members.{Member, Member-map, Member-from_map, Member-flat_map, Member-from_flat_map, Member-filter}
+use Rattle.hu_kind.proofs.lemmas.Members.{Member-from_filter, Member-from_contains, Contains-from_member}
 use Rattle.hu_kind.proofs.lemmas.Occurring.{at_member, by_members}
-use Rattle.hu_totals.specs.Ranked.{Ranking, IsRanking}
+use Rattle.hu_totals.specs.Ranked.{Ranking}
 use Rattle.hu_collect.specs.Rule.{passes}
 use Rattle.hu_collect.specs.State.{State, floor_in}
 use Rattle.hu_rows.specs.declared.tally.Tally.{Tally}
-use Rattle.hu_rows.specs.Rows.{RowOf, AreRows, AreCounted, over, count_over}
-use Rattle.hu_rows.specs.Tally.{AreBelow, EachRank, tally_at, told, tail_told, most_over, tail_over, no_tally}
+use Rattle.hu_rows.specs.Rows.{RowOf, AreRows, count_over}
+use Rattle.hu_rows.specs.Tally.{EachRank, tally_at, told, tail_told, most_over, tail_over}
 use Rattle.hu_rows.specs.Handed.{reaches, narrowed, handed}
 use Rattle.hu_rows.proofs.lemmas.Narrowed.{IsPair, over-narrowed, count-narrowed, each-narrowed, AreRows-narrowed}
 use Rattle.hu_rows.proofs.lemmas.Handed.{over-handed, count-handed, each-handed, AreRows-handed}
 use Rattle.hu_rows.proofs.lemmas.Bounded.{over-most, over-tail, count-held}
 use Rattle.hu_rows.proofs.lemmas.Counted.{AreCounted-narrowed, AreCounted-handed, each-held, count-narrower}
 use Rattle.hu_search.specs.declared.child.Child.{Child}
-use Rattle.hu_search.specs.Growth.{rank_entry, Grows, InTable}
+use Rattle.hu_search.specs.Growth.{rank_entry, Grows}
 use Rattle.hu_search.specs.Children.{IsChild, AreChildren, ranks_of, Counts, AreEnough, IsBarren, IsBound, AreOpen}
 use Rattle.hu_project.specs.Children.{child_with, child_if, bounded, open_if}
-use Rattle.hu_project.specs.Level.{IsLater, IsExact, IsLevel, IsNarrow, AreTold, IsAfter}
+use Rattle.hu_project.specs.Level.{IsLater, IsLevel, IsNarrow, AreTold, IsAfter}
 
 -- ---- numbers that reach a floor
 
@@ -69,8 +71,10 @@ enough-after {s} {t} r set ranks after enough more up occurs counts = enough mor
 
 -- ---- the children of a level
 
-module _ {s : State} {r : Ranking} {set : List ℕ} {rows : List RowOf} (level : IsLevel s r set rows) {tallies : List Tally} {met : List ℕ} (is : AreTold rows tallies met) where
-  from-child : (child : Child) → Member child (flat_map (child_if tallies) met) → (0 < count_over rows (child.rank ∷ [])) × (child ≡ child_with child.rank (told rows child.rank))
+module _ {s : State} {r : Ranking} {set : List ℕ} {rows : List RowOf} (level : IsLevel s r set rows) {tallies : List Tally} {met : List ℕ}
+    (is : AreTold rows tallies met) where
+  from-child : (child : Child) → Member child (flat_map (child_if tallies) met)
+      → (0 < count_over rows (child.rank ∷ [])) × (child ≡ child_with child.rank (told rows child.rank))
   from-child child m =
       let from = Member-from_flat_map (child_if tallies) child met m in
       by from.0 (nat_lt 0 (tally_at tallies from.0).count) refl from.2
@@ -90,7 +94,8 @@ module _ {s : State} {r : Ranking} {set : List ℕ} {rows : List RowOf} (level :
     | inl m ↦
         let count : (tally_at tallies rank).count ≡ count_over rows (rank ∷ []) = ap (λ (t : Tally). t.count) (is.told rank) in
         let yes : nat_lt 0 (tally_at tallies rank).count ≡ true = lt-ltb 0 (tally_at tallies rank).count (omega arith) in
-        let one : child_if tallies rank ≡ child_with rank (tally_at tallies rank) ∷ [] = ap (λ b. cond b (child_with rank (tally_at tallies rank) ∷ []) []) yes in
+        let one : child_if tallies rank ≡ child_with rank (tally_at tallies rank) ∷ [] =
+            ap (λ b. cond b (child_with rank (tally_at tallies rank) ∷ []) []) yes in
         Member-flat_map (child_if tallies) rank (child_with rank (told rows rank)) met (Member-from_contains rank met m)
         (subst (Member (child_with rank (told rows rank))) (sym one) (inl (ap (child_with rank) (is.told rank))))
     | inr none ↦
@@ -113,7 +118,8 @@ module _ {s : State} {r : Ranking} {set : List ℕ} {rows : List RowOf} (level :
       })
 
   -- a set that counts has ranks that records hold
-  held-by : (more : List ℕ) → Ascend (set ++ more) → 0 < support r.records (set ++ more) → AllByRecursion (Contains level.taken) more → (z : ℕ) → Member z more → 0 < count_over rows (z ∷ [])
+  held-by : (more : List ℕ) → Ascend (set ++ more) → 0 < support r.records (set ++ more) → AllByRecursion (Contains level.taken) more → (z : ℕ)
+      → Member z more → 0 < count_over rows (z ∷ [])
   held-by [] up occurs all z m = absurd m
   held-by (a ∷ more) up occurs all z m =
       let exact = level.exact a more up all in
@@ -131,26 +137,31 @@ module _ {s : State} {r : Ranking} {set : List ℕ} {rows : List RowOf} (level :
     reaches-is : (rank : ℕ) → reaches tallies floor rank ≡ int_le floor (most_over rows rank)
     reaches-is rank = ap (λ (t : Tally). int_le floor t.bound) (is.told rank)
 
-    from-kept : (rank : ℕ) → Contains (ranks_of (filter (λ child. int_le floor child.bound) (flat_map (child_if tallies) met))) rank → (0 < count_over rows (rank ∷ [])) × (reaches tallies floor rank ≡ true)
+    from-kept : (rank : ℕ) → Contains (ranks_of (filter (λ child. int_le floor child.bound) (flat_map (child_if tallies) met))) rank
+        → (0 < count_over rows (rank ∷ [])) × (reaches tallies floor rank ≡ true)
     from-kept rank c =
-        let one = Member-from_map (λ (child : Child). child.rank) rank (filter (λ child. int_le floor child.bound) (flat_map (child_if tallies) met)) (Member-from_contains rank (ranks_of (filter (λ child. int_le floor child.bound) (flat_map (child_if tallies) met))) c) in
+        let one = Member-from_map (λ (child : Child). child.rank) rank (filter (λ child. int_le floor child.bound) (flat_map (child_if tallies) met))
+            (Member-from_contains rank (ranks_of (filter (λ child. int_le floor child.bound) (flat_map (child_if tallies) met))) c) in
         let both = Member-from_filter (λ (child : Child). int_le floor child.bound) one.0 (flat_map (child_if tallies) met) one.1 in
         let from = from-child one.0 both.0 in
         let bound : one.0.bound ≡ most_over rows one.0.rank = ap (λ (child : Child). child.bound) from.1 in
         let high : reaches tallies floor one.0.rank ≡ true = reaches-is one.0.rank ∙ ap (int_le floor) (sym bound) ∙ both.1 in
         subst (λ n. (0 < count_over rows (n ∷ [])) × (reaches tallies floor n ≡ true)) one.2 (from.0, high)
 
-    to-kept : (rank : ℕ) → 0 < count_over rows (rank ∷ []) → reaches tallies floor rank ≡ true → Contains (ranks_of (filter (λ child. int_le floor child.bound) (flat_map (child_if tallies) met))) rank
+    to-kept : (rank : ℕ) → 0 < count_over rows (rank ∷ []) → reaches tallies floor rank ≡ true
+        → Contains (ranks_of (filter (λ child. int_le floor child.bound) (flat_map (child_if tallies) met))) rank
     to-kept rank held high =
         contains-ranks (child_with rank (told rows rank)) (filter (λ child. int_le floor child.bound) (flat_map (child_if tallies) met))
-        (Member-filter (λ (child : Child). int_le floor child.bound) (child_with rank (told rows rank)) (flat_map (child_if tallies) met) (to-child rank held) (sym (reaches-is rank) ∙ high))
+        (Member-filter (λ (child : Child). int_le floor child.bound) (child_with rank (told rows rank)) (flat_map (child_if tallies) met) (to-child rank held)
+            (sym (reaches-is rank) ∙ high))
 
     -- whether a child is kept
     pub is-kept : (rank : ℕ) → Contains (ranks_of (flat_map (child_if tallies) met)) rank
         → Contains (ranks_of (filter (λ child. int_le floor child.bound) (flat_map (child_if tallies) met))) rank
         ⊎ (Contains (ranks_of (filter (λ child. int_le floor child.bound) (flat_map (child_if tallies) met))) rank → ⊥)
     is-kept rank c =
-        let one = Member-from_map (λ (child : Child). child.rank) rank (flat_map (child_if tallies) met) (Member-from_contains rank (ranks_of (flat_map (child_if tallies) met)) c) in
+        let one = Member-from_map (λ (child : Child). child.rank) rank (flat_map (child_if tallies) met)
+            (Member-from_contains rank (ranks_of (flat_map (child_if tallies) met)) c) in
         let held : 0 < count_over rows (rank ∷ []) = subst (λ n. 0 < count_over rows (n ∷ [])) one.2 (from-child one.0 one.1).0 in
         by (reaches tallies floor rank) refl held
       where
@@ -172,15 +183,18 @@ module _ {s : State} {r : Ranking} {set : List ℕ} {rows : List RowOf} (level :
           let high = counts.high in
           to-kept z (held-by (a ∷ more) up occurs all z m) (reaches-is z ∙ reach floor (most_over rows z) (omega (arith, ints, bound, earned, high, floor_is))))
 
-      taken-kept : (more : List ℕ) → AllByRecursion (Contains (ranks_of (filter (λ child. int_le floor child.bound) (flat_map (child_if tallies) met)))) more → AllByRecursion (Contains level.taken) more
+      taken-kept : (more : List ℕ) → AllByRecursion (Contains (ranks_of (filter (λ child. int_le floor child.bound) (flat_map (child_if tallies) met)))) more
+          → AllByRecursion (Contains level.taken) more
       taken-kept [] all = tt
       taken-kept (z ∷ more) all = (level.met z (from-kept z all.0).0, taken-kept more all.1)
 
-      reach-kept : (more : List ℕ) → AllByRecursion (Contains (ranks_of (filter (λ child. int_le floor child.bound) (flat_map (child_if tallies) met)))) more → AllByRecursion (λ z. reaches tallies floor z ≡ true) more
+      reach-kept : (more : List ℕ) → AllByRecursion (Contains (ranks_of (filter (λ child. int_le floor child.bound) (flat_map (child_if tallies) met)))) more
+          → AllByRecursion (λ z. reaches tallies floor z ≡ true) more
       reach-kept [] all = tt
       reach-kept (z ∷ more) all = ((from-kept z all.0).1, reach-kept more all.1)
 
-      pub IsNarrow-narrowed : IsNarrow t r set (ranks_of (filter (λ child. int_le floor child.bound) (flat_map (child_if tallies) met))) (narrowed (reaches tallies floor) rows)
+      pub IsNarrow-narrowed : IsNarrow t r set (ranks_of (filter (λ child. int_le floor child.bound) (flat_map (child_if tallies) met)))
+          (narrowed (reaches tallies floor) rows)
       IsNarrow-narrowed = record {
         later = λ rank c. level.later rank (level.met rank (from-kept rank c).0);
         exact = λ a b more up all.
@@ -191,12 +205,14 @@ module _ {s : State} {r : Ranking} {set : List ℕ} {rows : List RowOf} (level :
               held = count-narrowed (reaches tallies floor) (a ∷ b ∷ more) pair (reach-kept (a ∷ b ∷ more) all) rows ∙ exact.held;
             };
         met = λ rank held.
-            let both = each-held (λ z. (z < length r.items) × (reaches tallies floor z ≡ true)) rank (narrowed (reaches tallies floor) rows) (each-narrowed (reaches tallies floor) (λ z. z < length r.items) rows level.below) held in
+            let both = each-held (λ z. (z < length r.items) × (reaches tallies floor z ≡ true)) rank (narrowed (reaches tallies floor) rows)
+                (each-narrowed (reaches tallies floor) (λ z. z < length r.items) rows level.below) held in
             to-kept rank (omega (arith, count-narrower (reaches tallies floor) rank rows)) both.1;
         enough = enough-kept;
         rules = AreRows-narrowed (reaches tallies floor) rows rules;
         counted = AreCounted-narrowed (reaches tallies floor) rows level.counted;
-        below = each-first (λ z. z < length r.items) (λ z. reaches tallies floor z ≡ true) (narrowed (reaches tallies floor) rows) (each-narrowed (reaches tallies floor) (λ z. z < length r.items) rows level.below);
+        below = each-first (λ z. z < length r.items) (λ z. reaches tallies floor z ≡ true) (narrowed (reaches tallies floor) rows)
+            (each-narrowed (reaches tallies floor) (λ z. z < length r.items) rows level.below);
       }
 
 -- ---- what is open of narrowed rows
@@ -206,7 +222,8 @@ module _ {s : State} {r : Ranking} {set kept : List ℕ} {rows : List RowOf} (na
   tail-most : (z : ℕ) (entry : Entry) → Grows r (set ++ z ∷ []) entry → Counts s entry → Contains kept z × (entry.utility ≤ℤ tail_over rows z)
   tail-most z entry grows counts = by grows.more grows.some grows.ascending grows.occurs grows.is
     where
-      by : (more : List ℕ) → 0 < length more → Ascend ((set ++ z ∷ []) ++ more) → 0 < support r.records ((set ++ z ∷ []) ++ more) → entry ≡ rank_entry r ((set ++ z ∷ []) ++ more)
+      by : (more : List ℕ) → 0 < length more → Ascend ((set ++ z ∷ []) ++ more) → 0 < support r.records ((set ++ z ∷ []) ++ more)
+          → entry ≡ rank_entry r ((set ++ z ∷ []) ++ more)
           → Contains kept z × (entry.utility ≤ℤ tail_over rows z)
       by [] some up occurs is = absurd (omega arith)
       by (m ∷ ms) some up occurs is =
@@ -226,13 +243,17 @@ module _ {s : State} {r : Ranking} {set kept : List ℕ} {rows : List RowOf} (na
     reaches-tail rank = ap (λ (t : Tally). int_le floor t.bound) (told_is rank)
 
     -- a child that is open
-    pub from-open : (child : Child) → Member child chosen → Contains kept child.rank × (child.bound ≡ tail_over rows child.rank) × (reaches tallies floor child.rank ≡ true)
+    pub from-open : (child : Child) → Member child chosen
+        → Contains kept child.rank × (child.bound ≡ tail_over rows child.rank) × (reaches tallies floor child.rank ≡ true)
     from-open child m =
-        let here = Member-from_contains child (flat_map (open_if tallies floor) children) (Contains-permutation chosen (flat_map (open_if tallies floor) children) child (IsPermutation-sym (flat_map (open_if tallies floor) children) chosen same) (Contains-from_member child chosen m)) in
+        let here = Member-from_contains child (flat_map (open_if tallies floor) children)
+            (Contains-permutation chosen (flat_map (open_if tallies floor) children) child
+            (IsPermutation-sym (flat_map (open_if tallies floor) children) chosen same) (Contains-from_member child chosen m)) in
         let from = Member-from_flat_map (open_if tallies floor) child children here in
         by from.0 from.1 (int_le floor (tally_at tallies from.0.rank).bound) refl from.2
       where
-        by : (child0 : Child) → Member child0 children → (b : Bool) → int_le floor (tally_at tallies child0.rank).bound ≡ b → Member child (cond b (bounded child0 (tally_at tallies child0.rank).bound ∷ []) [])
+        by : (child0 : Child) → Member child0 children → (b : Bool) → int_le floor (tally_at tallies child0.rank).bound ≡ b
+            → Member child (cond b (bounded child0 (tally_at tallies child0.rank).bound ∷ []) [])
             → Contains kept child.rank × (child.bound ≡ tail_over rows child.rank) × (reaches tallies floor child.rank ≡ true)
         by child0 m0 true h (inl e) =
             subst (λ (c : Child). Contains kept c.rank × (c.bound ≡ tail_over rows c.rank) × (reaches tallies floor c.rank ≡ true)) e
@@ -242,12 +263,15 @@ module _ {s : State} {r : Ranking} {set kept : List ℕ} {rows : List RowOf} (na
 
     to-open : (rank : ℕ) → Contains kept rank → reaches tallies floor rank ≡ true → Contains (ranks_of chosen) rank
     to-open rank c high =
-        let one = Member-from_map (λ (child : Child). child.rank) rank children (Member-from_contains rank (ranks_of children) (subst (λ ns. Contains ns rank) (sym kept_is) c)) in
+        let one = Member-from_map (λ (child : Child). child.rank) rank children
+            (Member-from_contains rank (ranks_of children) (subst (λ ns. Contains ns rank) (sym kept_is) c)) in
         let high' : int_le floor (tally_at tallies one.0.rank).bound ≡ true = subst (λ n. reaches tallies floor n ≡ true) (sym one.2) high in
-        let here : open_if tallies floor one.0 ≡ bounded one.0 (tally_at tallies one.0.rank).bound ∷ [] = ap (λ b. cond b (bounded one.0 (tally_at tallies one.0.rank).bound ∷ []) []) high' in
+        let here : open_if tallies floor one.0 ≡ bounded one.0 (tally_at tallies one.0.rank).bound ∷ [] =
+            ap (λ b. cond b (bounded one.0 (tally_at tallies one.0.rank).bound ∷ []) []) high' in
         let new = bounded one.0 (tally_at tallies one.0.rank).bound in
         let m = Member-flat_map (open_if tallies floor) one.0 new children one.1 (subst (Member new) (sym here) (inl refl)) in
-        let n = Member-from_contains new chosen (Contains-permutation (flat_map (open_if tallies floor) children) chosen new same (Contains-from_member new (flat_map (open_if tallies floor) children) m)) in
+        let n = Member-from_contains new chosen (Contains-permutation (flat_map (open_if tallies floor) children) chosen new same
+            (Contains-from_member new (flat_map (open_if tallies floor) children) m)) in
         subst (Contains (ranks_of chosen)) one.2 (contains-ranks new chosen n)
 
     barren-low : (rank : ℕ) → reaches tallies floor rank ≡ false → IsBarren s r (set ++ rank ∷ [])
@@ -285,7 +309,8 @@ module _ {s : State} {r : Ranking} {set kept : List ℕ} {rows : List RowOf} (na
         let second = narrow.later y (Contains-from_member y kept both.0) in
         record {
           ascending = subst Ascend (sym (append_assoc set (z ∷ []) (y ∷ []))) (Ascend-push set z y first.ascending above);
-          in_table = each-append (λ n. n < length r.items) (set ++ z ∷ []) (y ∷ []) first.in_table (each-right (λ n. n < length r.items) set (y ∷ []) second.in_table);
+          in_table = each-append (λ n. n < length r.items) (set ++ z ∷ []) (y ∷ []) first.in_table
+              (each-right (λ n. n < length r.items) set (y ∷ []) second.in_table);
         };
     exact = λ a more up all.
         let same : (set ++ z ∷ []) ++ a ∷ more ≡ set ++ z ∷ a ∷ more = append_assoc set (z ∷ []) (a ∷ more) in
@@ -301,7 +326,8 @@ module _ {s : State} {r : Ranking} {set kept : List ℕ} {rows : List RowOf} (na
         let both = count-handed z y [] (above, tt) rows in
         let two : 0 < count_over rows (z ∷ y ∷ []) = omega arith in
         Contains-from_member y (filter (λ y. nat_lt z y) kept)
-        (Member-filter (λ y. nat_lt z y) y kept (Member-from_contains y kept (narrow.met y (count-held rows (z ∷ y ∷ []) y (inr (inl refl)) two))) (lt-ltb z y above));
+        (Member-filter (λ y. nat_lt z y) y kept (Member-from_contains y kept (narrow.met y (count-held rows (z ∷ y ∷ []) y (inr (inl refl)) two)))
+            (lt-ltb z y above));
     enough = λ more up occurs counts.
         let same : (set ++ z ∷ []) ++ more ≡ set ++ z ∷ more = append_assoc set (z ∷ []) more in
         let up' = subst Ascend same up in
@@ -320,10 +346,12 @@ module _ {s : State} {r : Ranking} {set kept : List ℕ} {rows : List RowOf} (na
         kept-all more all.1,
       )
 
-      later-all : (more : List ℕ) → AllByRecursion (λ y. z < y) more → AllByRecursion (Contains kept) more → AllByRecursion (Contains (filter (λ y. nat_lt z y) kept)) more
+      later-all : (more : List ℕ) → AllByRecursion (λ y. z < y) more → AllByRecursion (Contains kept) more
+          → AllByRecursion (Contains (filter (λ y. nat_lt z y) kept)) more
       later-all [] above all = tt
       later-all (y ∷ more) above all = (
-        Contains-from_member y (filter (λ y. nat_lt z y) kept) (Member-filter (λ y. nat_lt z y) y kept (Member-from_contains y kept all.0) (lt-ltb z y above.0)),
+        Contains-from_member y (filter (λ y. nat_lt z y) kept)
+            (Member-filter (λ y. nat_lt z y) y kept (Member-from_contains y kept all.0) (lt-ltb z y above.0)),
         later-all more above.1 all.1,
       )
 
@@ -339,7 +367,8 @@ short (x ∷ []) a b few c d below = one (Member-from_contains a (x ∷ []) c) (
     one (inr none) m = none
 short (x ∷ y ∷ xs) a b few c d below = absurd (omega arith)
 
-module _ {s : State} {r : Ranking} {set : List ℕ} (kept : List ℕ) (later : (rank : ℕ) → Contains kept rank → IsLater r set rank) (enough : AreEnough s r set kept) (few : length kept < 2) where
+module _ {s : State} {r : Ranking} {set : List ℕ} (kept : List ℕ) (later : (rank : ℕ) → Contains kept rank → IsLater r set rank)
+    (enough : AreEnough s r set kept) (few : length kept < 2) where
   -- nothing is to be entered
   pub IsNarrow-none : IsNarrow s r set kept []
   IsNarrow-none = record {
@@ -358,7 +387,8 @@ module _ {s : State} {r : Ranking} {set : List ℕ} (kept : List ℕ) (later : (
     bounds = tt;
   }
     where
-      none : (rank : ℕ) (entry : Entry) → Counts s entry → (more : List ℕ) → 0 < length more → Ascend ((set ++ rank ∷ []) ++ more) → 0 < support r.records ((set ++ rank ∷ []) ++ more)
+      none : (rank : ℕ) (entry : Entry) → Counts s entry → (more : List ℕ) → 0 < length more → Ascend ((set ++ rank ∷ []) ++ more)
+          → 0 < support r.records ((set ++ rank ∷ []) ++ more)
           → entry ≡ rank_entry r ((set ++ rank ∷ []) ++ more) → ⊥
       none rank entry counts [] some up occurs is = absurd (omega arith)
       none rank entry counts (m ∷ ms) some up occurs is =

@@ -9,7 +9,7 @@ use Rattle.hu_collect.specs.State.{State, floor_in, IsInOrder, Reached, ReachedS
 use Rattle.hu_collect.proofs.lemmas.Searching.{reached-rule, reached-floor}
 use Rattle.hu_rows.specs.declared.tally.Tally.{Tally}
 use Rattle.hu_rows.specs.Rows.{RowOf, count_over}
-use Rattle.hu_rows.specs.Handed.{reaches, narrowed, ArePlaces}
+use Rattle.hu_rows.specs.Handed.{reaches, narrowed}
 use Rattle.hu_rows.specs.Places.{lists_in}
 use Rattle.hu_rows.proofs.lemmas.Counted.{count-narrower}
 use Rattle.hu_search.specs.declared.child.Child.{Child}
@@ -17,7 +17,7 @@ use Rattle.hu_search.specs.Growth.{Grows}
 use Rattle.hu_search.specs.Children.{ranks_of, AreEnough, IsOneOf, AreOpen, Fall}
 use Rattle.hu_search.proofs.lemmas.Children.{upto-none, upto-stopped}
 use Rattle.hu_project.specs.declared.level.Open.{Open}
-use Rattle.hu_project.specs.Children.{child_if, open_if}
+use Rattle.hu_project.specs.Children.{child_if}
 use Rattle.hu_project.specs.Level.{IsAfter, IsLevel, IsNarrow, AreTold, AreHanded, IsChoice, IsPrepared}
 use Rattle.hu_project.proofs.LevelLemmas.{enough-children, is-kept, IsNarrow-narrowed, IsNarrow-none, AreOpen-none, AreOpen-chosen, from-open}
 
@@ -25,8 +25,10 @@ use Rattle.hu_project.proofs.LevelLemmas.{enough-children, is-kept, IsNarrow-nar
 pub some-offers : {s t : State} (r : Ranking) (set ranks : List ℕ) → Reached s (IsOneOf r set ranks) t → ReachedSome s (Grows r set) t
 some-offers r set ranks first = upto-stopped r set ranks [] 0 (upto-none r set ranks [] first)
 
-module _ {s t : State} {r : Ranking} {set : List ℕ} {rows : List RowOf} (level : IsLevel s r set rows) {tallies : List Tally} {met : List ℕ} (is : AreTold rows tallies met)
-    (children kept : List Child) (floor : ℤ) (kids : children ≡ flat_map (child_if tallies) met) (kept_is : kept ≡ filter (λ child. int_le floor child.bound) children)
+module _ {s t : State} {r : Ranking} {set : List ℕ} {rows : List RowOf} (level : IsLevel s r set rows) {tallies : List Tally} {met : List ℕ}
+    (is : AreTold rows tallies met)
+    (children kept : List Child) (floor : ℤ) (kids : children ≡ flat_map (child_if tallies) met)
+        (kept_is : kept ≡ filter (λ child. int_le floor child.bound) children)
     (ordered : IsInOrder s) (first : Reached s (IsOneOf r set (ranks_of children)) t) (floor_is : floor ≡ floor_in t) where
   after : IsAfter s t
   after = record { rule = reached-rule first; rises = reached-floor ordered first }
@@ -35,7 +37,8 @@ module _ {s t : State} {r : Ranking} {set : List ℕ} {rows : List RowOf} (level
   kept_told = kept_is ∙ ap (filter (λ child. int_le floor child.bound)) kids
 
   pub IsNarrow-kept : IsNarrow t r set (ranks_of kept) (narrowed (reaches tallies floor) rows)
-  IsNarrow-kept = subst (λ ks. IsNarrow t r set (ranks_of ks) (narrowed (reaches tallies floor) rows)) (sym kept_told) (IsNarrow-narrowed level is floor after floor_is level.rules)
+  IsNarrow-kept = subst (λ ks. IsNarrow t r set (ranks_of ks) (narrowed (reaches tallies floor) rows)) (sym kept_told)
+      (IsNarrow-narrowed level is floor after floor_is level.rules)
 
   -- ranks that narrowed rows hold were met
   pub noted-kept : (rank : ℕ) → 0 < count_over (narrowed (reaches tallies floor) rows) (rank ∷ []) → Contains met rank
@@ -57,9 +60,11 @@ module _ {s t : State} {r : Ranking} {set : List ℕ} {rows : List RowOf} (level
 
   decide : (rank : ℕ) → Contains (ranks_of children) rank → Contains (ranks_of kept) rank ⊎ (Contains (ranks_of kept) rank → ⊥)
   decide = subst (λ cs. (rank : ℕ) → Contains (ranks_of cs) rank → Contains (ranks_of kept) rank ⊎ (Contains (ranks_of kept) rank → ⊥)) (sym kids)
-      (subst (λ ks. (rank : ℕ) → Contains (ranks_of (flat_map (child_if tallies) met)) rank → Contains (ranks_of ks) rank ⊎ (Contains (ranks_of ks) rank → ⊥)) (sym kept_told) (is-kept level is floor))
+      (subst (λ ks. (rank : ℕ) → Contains (ranks_of (flat_map (child_if tallies) met)) rank → Contains (ranks_of ks) rank ⊎ (Contains (ranks_of ks) rank → ⊥))
+          (sym kept_told) (is-kept level is floor))
 
-  pub prepared-none : length (ranks_of kept) < 2 → (part : Open) → part.rows ≡ [] → part.children.items ≡ [] → part.places.items ≡ [] → IsPrepared s t r set part
+  pub prepared-none : length (ranks_of kept) < 2 → (part : Open) → part.rows ≡ [] → part.children.items ≡ [] → part.places.items ≡ []
+      → IsPrepared s t r set part
   prepared-none few part rows_none children_none places_none =
       let narrow = IsNarrow-kept in
       record {
@@ -67,7 +72,8 @@ module _ {s t : State} {r : Ranking} {set : List ℕ} {rows : List RowOf} (level
         kept = ranks_of kept;
         enough = enough;
         offers = first;
-        opened = subst (AreOpen t r set (ranks_of children)) (sym children_none) (AreOpen-none (ranks_of kept) narrow.later narrow.enough few (ranks_of children));
+        opened = subst (AreOpen t r set (ranks_of children)) (sym children_none)
+            (AreOpen-none (ranks_of kept) narrow.later narrow.enough few (ranks_of children));
         fall = subst Fall (sym children_none) tt;
         narrow = subst (IsNarrow t r set (ranks_of kept)) (sym rows_none) (IsNarrow-none (ranks_of kept) narrow.later narrow.enough few);
         chosen = subst (AllByRecursion (λ (child : Child). Contains (ranks_of kept) child.rank)) (sym children_none) tt;
@@ -77,7 +83,8 @@ module _ {s t : State} {r : Ranking} {set : List ℕ} {rows : List RowOf} (level
         };
       }
 
-  pub prepared-some : (below : List RowOf) → below ≡ narrowed (reaches tallies floor) rows → (part : Open) → IsChoice below kept floor part → IsPrepared s t r set part
+  pub prepared-some : (below : List RowOf) → below ≡ narrowed (reaches tallies floor) rows → (part : Open) → IsChoice below kept floor part
+      → IsPrepared s t r set part
   prepared-some below is_below part choice =
       let narrow : IsNarrow t r set (ranks_of kept) below = subst (IsNarrow t r set (ranks_of kept)) (sym is_below) IsNarrow-kept in
       record {
@@ -85,10 +92,12 @@ module _ {s t : State} {r : Ranking} {set : List ℕ} {rows : List RowOf} (level
         kept = ranks_of kept;
         enough = enough;
         offers = first;
-        opened = AreOpen-chosen narrow narrow.rules choice.tails choice.told floor floor_is (ranks_of children) decide kept part.children.items refl choice.same;
+        opened = AreOpen-chosen narrow narrow.rules choice.tails choice.told floor floor_is
+            (ranks_of children) decide kept part.children.items refl choice.same;
         fall = choice.fall;
         narrow = subst (IsNarrow t r set (ranks_of kept)) (sym choice.rows) narrow;
         chosen = by_members (λ (child : Child). Contains (ranks_of kept) child.rank) part.children.items
-            (λ child m. (from-open narrow narrow.rules choice.tails choice.told floor floor_is (ranks_of children) decide kept part.children.items refl choice.same child m).0);
+            (λ child m. (from-open narrow narrow.rules choice.tails choice.told floor floor_is
+                (ranks_of children) decide kept part.children.items refl choice.same child m).0);
         places = subst (λ rs. AreHanded rs part.children.items (lists_in part.places.items)) (sym choice.rows) choice.places;
       }

@@ -1,5 +1,5 @@
 -- One turn of a search: a child is entered, or the rest is left.
-use Rattle.std.proofs.Common.{◌≡◌, ℕ, ◌<◌, ◌≤◌, ◌+◌, ◌<ℤ◌, ◌≤ℤ◌, List, [], ◌∷◌, ◌++◌, length, get_or, refl, sym, ap, ◌∙◌, subst, arith, Contains, ◌⊎◌}
+use Rattle.std.proofs.Common.{◌≡◌, ℕ, ◌<◌, ◌≤◌, ◌+◌, ◌<ℤ◌, List, [], ◌∷◌, ◌++◌, length, get_or, refl, ◌∙◌, arith, Contains, ◌⊎◌}
 use Rattle.std.specs.List.{AllByRecursion}
 use Rattle.std.proofs.lemmas.Int.{ints}
 use Rattle.hu_kind.specs.Order.{Ascend}
@@ -14,7 +14,7 @@ use Rattle.hu_search.specs.Growth.{Grows}
 use Rattle.hu_search.specs.Children.{IsBarren}
 use Rattle.hu_search.proofs.lemmas.Children.{upto-none, upto-next, upto-some, upto-all}
 use Rattle.hu_project.specs.declared.level.Open.{Open}
-use Rattle.hu_project.specs.Level.{IsLater, IsLevel, IsAfter, IsPrepared, IsSoFar}
+use Rattle.hu_project.specs.Level.{IsLater, IsLevel, IsPrepared, IsSoFar}
 use Rattle.hu_project.proofs.LevelLemmas.{IsLevel-handed}
 
 pub so_far-none : {old mid : State} {r : Ranking} {set : List ℕ} {part : Open} → IsPrepared old mid r set part → IsSoFar old mid r set part 0
@@ -25,7 +25,8 @@ so_far-none {mid = mid} {r} {set} {part} prepared = record {
   made = upto-none r set prepared.ranks part.children.items prepared.offers;
 }
 
-module _ {old now : State} {r : Ranking} {set : List ℕ} {part : Open} {at : ℕ} (so_far : IsSoFar old now r set part at) (ordered : IsInOrder old) (d : Child) where
+module _ {old now : State} {r : Ranking} {set : List ℕ} {part : Open} {at : ℕ} (so_far : IsSoFar old now r set part at) (ordered : IsInOrder old)
+    (d : Child) where
   pub so_far-ordered : IsInOrder now
   so_far-ordered = reached-in_order so_far.made
 

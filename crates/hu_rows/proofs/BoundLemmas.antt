@@ -1,5 +1,6 @@
 -- No set of kept ranks earns more over rows than the bounds, and bounds grow row by row.
-use Rattle.std.proofs.Common.{◌≡◌, ℕ, ◌<◌, ◌≤◌, Bool, true, false, cond, eqb, ◌&&◌, IsTrue, ℤ, pos, negsuc, unsigned_abs, ◌+ℤ◌, ◌≤ℤ◌, List, [], ◌∷◌, ◌++◌, inl, inr, refl, sym, ap, ◌∙◌, subst, arith, sum_by}
+use Rattle.std.proofs.Common.{◌≡◌, ℕ, ◌<◌, ◌≤◌, Bool, true, false, cond, eqb, ◌&&◌, IsTrue, ℤ, pos, negsuc, unsigned_abs, ◌+ℤ◌, ◌≤ℤ◌, List, [], ◌∷◌}
+use Rattle.std.proofs.Common.{◌++◌, inl, inr, refl, sym, ap, ◌∙◌, subst, arith, sum_by}
 use Rattle.std.specs.List.{AllByRecursion}
 use Rattle.std.proofs.lemmas.Bool.{ne_eqb, eq-eqb, eqb-true, and_parts, or_cases, cases_eq}
 use Rattle.std.proofs.lemmas.Int.{ints}
@@ -40,12 +41,14 @@ kept_gain-least keep (cell ∷ cells) = omega (arith, ints, part-least (among ce
 
 pub kept_gain-within : (keep : List ℕ) (cells : List (ℕ × ℤ)) → unsigned_abs (kept_gain keep cells) ≤ absolute_of cells
 kept_gain-within keep [] = omega arith
-kept_gain-within keep (cell ∷ cells) = omega (arith, ints, sum_by-cons (λ (c : ℕ × ℤ). unsigned_abs c.1) cell cells, part-within (among cell.0 keep) cell.1, kept_gain-within keep cells)
+kept_gain-within keep (cell ∷ cells) =
+    omega (arith, ints, sum_by-cons (λ (c : ℕ × ℤ). unsigned_abs c.1) cell cells, part-within (among cell.0 keep) cell.1, kept_gain-within keep cells)
 
 -- ---- what a set of kept ranks earns in a row is within the row's share
 
 -- ranks above that of the first cell stand among the others
-values_of-skip : (set : List ℕ) (cell : ℕ × ℤ) (cells : List (ℕ × ℤ)) → AllByRecursion (λ rank. cell.0 < rank) set → values_of set (cell ∷ cells) ≡ values_of set cells
+values_of-skip : (set : List ℕ) (cell : ℕ × ℤ) (cells : List (ℕ × ℤ)) → AllByRecursion (λ rank. cell.0 < rank) set
+    → values_of set (cell ∷ cells) ≡ values_of set cells
 values_of-skip [] cell cells above = refl
 values_of-skip (s ∷ set) cell cells above =
     let other : eqb s cell.0 ≡ false = ne_eqb s cell.0 (λ e. absurd (omega arith)) in
@@ -68,7 +71,8 @@ true_from : (b : Bool) → IsTrue b → b ≡ true
 true_from true h = refl
 true_from false h = cc
 
-values_of-kept : (keep : List ℕ) (cells : List (ℕ × ℤ)) (set : List ℕ) → Ascend (items_in cells) → Ascend set → AllByRecursion (λ rank. IsTrue (among rank keep)) set → holds set cells ≡ true
+values_of-kept : (keep : List ℕ) (cells : List (ℕ × ℤ)) (set : List ℕ) → Ascend (items_in cells) → Ascend set
+    → AllByRecursion (λ rank. IsTrue (among rank keep)) set → holds set cells ≡ true
     → values_of set cells ≤ℤ kept_gain keep cells
 values_of-kept keep cells [] up rise kept h = kept_gain-least keep cells
 values_of-kept keep [] (s ∷ set) up rise kept h = cc
@@ -102,31 +106,43 @@ has-among z (s ∷ set) cells m h =
       | inr later ↦ has-among z set cells later both.1
     ]
 
-over_row-local : (keep set : List ℕ) (z : ℕ) (row : RowOf) → Ascend (ranks_of row) → IsKeptSet keep set → among z set ≡ true → over_row set row ≤ℤ cond (has z row.cells) (local_share keep row) (pos 0)
+over_row-local : (keep set : List ℕ) (z : ℕ) (row : RowOf) → Ascend (ranks_of row) → IsKeptSet keep set → among z set ≡ true
+    → over_row set row ≤ℤ cond (has z row.cells) (local_share keep row) (pos 0)
 over_row-local keep set z row up is m = by (holds set row.cells) (has z row.cells) refl refl
   where
-    by : (b c : Bool) → holds set row.cells ≡ b → has z row.cells ≡ c → cond b (row.before +ℤ values_of set row.cells) (pos 0) ≤ℤ cond c (local_share keep row) (pos 0)
+    by : (b c : Bool) → holds set row.cells ≡ b → has z row.cells ≡ c → cond b (row.before +ℤ values_of set row.cells) (pos 0)
+        ≤ℤ cond c (local_share keep row) (pos 0)
     by true true h k = omega (arith, ints, positive-above (row.before +ℤ kept_gain keep row.cells), values_of-kept keep row.cells set up is.ascending is.kept h)
     by true false h k = let there = has-among z set row.cells m h in cc
     by false true h k = positive-least (row.before +ℤ kept_gain keep row.cells)
     by false false h k = omega (arith, ints)
 
-pub over_row-subtree : (keep set : List ℕ) (z : ℕ) (row : RowOf) → Ascend (ranks_of row) → IsKeptSet keep (z ∷ set) → over_row (z ∷ set) row ≤ℤ cond (has z row.cells) (subtree_share keep z row) (pos 0)
+pub over_row-subtree : (keep set : List ℕ) (z : ℕ) (row : RowOf) → Ascend (ranks_of row) → IsKeptSet keep (z ∷ set)
+    → over_row (z ∷ set) row ≤ℤ cond (has z row.cells) (subtree_share keep z row) (pos 0)
 over_row-subtree keep set z row up is = by (has z row.cells) (holds set row.cells) refl
   where
-    by : (b c : Bool) → holds set row.cells ≡ c → cond (b && c) (row.before +ℤ (value_of z row.cells +ℤ values_of set row.cells)) (pos 0) ≤ℤ cond b (subtree_share keep z row) (pos 0)
+    by : (b c : Bool) → holds set row.cells ≡ c → cond (b && c) (row.before +ℤ (value_of z row.cells +ℤ values_of set row.cells)) (pos 0)
+        ≤ℤ cond b (subtree_share keep z row) (pos 0)
     by true true h =
         let above = is.ascending.0 in
         let kept = values_of-kept keep (after z row.cells) set (Ascend-after z row.cells up) is.ascending.1 is.kept.1 (holds-after z set row.cells above ∙ h) in
-        omega (arith, ints, positive-above (row.before +ℤ value_of z row.cells +ℤ kept_gain keep (after z row.cells)), kept, values_of-after z set row.cells above)
+        omega (
+          arith,
+          ints,
+          positive-above (row.before +ℤ value_of z row.cells +ℤ kept_gain keep (after z row.cells)),
+          kept,
+          values_of-after z set row.cells above,
+        )
     by true false h = positive-least (row.before +ℤ value_of z row.cells +ℤ kept_gain keep (after z row.cells))
     by false c h = omega (arith, ints)
 
-pub over-local : (keep set : List ℕ) (z : ℕ) (rows : List RowOf) → AllByRecursion (λ row. Ascend (ranks_of row)) rows → IsKeptSet keep set → among z set ≡ true → over rows set ≤ℤ local_bound rows keep z
+pub over-local : (keep set : List ℕ) (z : ℕ) (rows : List RowOf) → AllByRecursion (λ row. Ascend (ranks_of row)) rows → IsKeptSet keep set
+    → among z set ≡ true → over rows set ≤ℤ local_bound rows keep z
 over-local keep set z [] up is m = omega (arith, ints)
 over-local keep set z (row ∷ rows) up is m = omega (arith, ints, over_row-local keep set z row up.0 is m, over-local keep set z rows up.1 is m)
 
-over-subtree : (keep set : List ℕ) (z : ℕ) (rows : List RowOf) → AllByRecursion (λ row. Ascend (ranks_of row)) rows → IsKeptSet keep (z ∷ set) → over rows (z ∷ set) ≤ℤ subtree_bound rows keep z
+over-subtree : (keep set : List ℕ) (z : ℕ) (rows : List RowOf) → AllByRecursion (λ row. Ascend (ranks_of row)) rows → IsKeptSet keep (z ∷ set)
+    → over rows (z ∷ set) ≤ℤ subtree_bound rows keep z
 over-subtree keep set z [] up is = omega (arith, ints)
 over-subtree keep set z (row ∷ rows) up is = omega (arith, ints, over_row-subtree keep set z row up.0 is, over-subtree keep set z rows up.1 is)
 
@@ -137,13 +153,15 @@ among-kept keep z (s ∷ set) kept m = elim (or_cases (eqb z s) (among z set) m)
   | inr later ↦ among-kept keep z set kept.1 later
 ]
 
-pub BoundsEach-local : (rows : List RowOf) (keep : List ℕ) (setting : ℕ → ℤ) → AreRows rows → ((rank : ℕ) → setting rank ≡ set_to (local_bound rows keep) keep rank) → BoundsEach rows keep setting
+pub BoundsEach-local : (rows : List RowOf) (keep : List ℕ) (setting : ℕ → ℤ) → AreRows rows
+    → ((rank : ℕ) → setting rank ≡ set_to (local_bound rows keep) keep rank) → BoundsEach rows keep setting
 BoundsEach-local rows keep setting rules is set kept z m =
     let inside : among z set ≡ true = true_from (among z set) m in
     let here : setting z ≡ local_bound rows keep z = is z ∙ ap (λ b. cond b (local_bound rows keep z) (pos 0)) (among-kept keep z set kept.kept inside) in
     subst (λ v. over rows set ≤ℤ v) (sym here) (over-local keep set z rows rules.ascending kept inside)
 
-pub BoundsLeast-subtree : (rows : List RowOf) (keep : List ℕ) (setting : ℕ → ℤ) → AreRows rows → ((rank : ℕ) → setting rank ≡ set_to (subtree_bound rows keep) keep rank) → BoundsLeast rows keep setting
+pub BoundsLeast-subtree : (rows : List RowOf) (keep : List ℕ) (setting : ℕ → ℤ) → AreRows rows
+    → ((rank : ℕ) → setting rank ≡ set_to (subtree_bound rows keep) keep rank) → BoundsLeast rows keep setting
 BoundsLeast-subtree rows keep setting rules is z set kept =
     let here : setting z ≡ subtree_bound rows keep z = is z ∙ ap (λ b. cond b (subtree_bound rows keep z) (pos 0)) (true_from (among z keep) kept.kept.0) in
     subst (λ v. over rows (z ∷ set) ≤ℤ v) (sym here) (over-subtree keep set z rows rules.ascending kept)
@@ -188,10 +206,12 @@ subtree_bound-within (row ∷ rows) keep z = omega (
 
 -- ---- one row more
 
-pub local_bound-push : (rows : List RowOf) (row : RowOf) (keep : List ℕ) (z : ℕ) → local_bound (rows ++ row ∷ []) keep z ≡ local_bound rows keep z +ℤ cond (has z row.cells) (local_share keep row) (pos 0)
+pub local_bound-push : (rows : List RowOf) (row : RowOf) (keep : List ℕ) (z : ℕ)
+    → local_bound (rows ++ row ∷ []) keep z ≡ local_bound rows keep z +ℤ cond (has z row.cells) (local_share keep row) (pos 0)
 local_bound-push [] row keep z = omega (arith, ints)
 local_bound-push (r ∷ rows) row keep z = omega (arith, ints, local_bound-push rows row keep z)
 
-pub subtree_bound-push : (rows : List RowOf) (row : RowOf) (keep : List ℕ) (z : ℕ) → subtree_bound (rows ++ row ∷ []) keep z ≡ subtree_bound rows keep z +ℤ cond (has z row.cells) (subtree_share keep z row) (pos 0)
+pub subtree_bound-push : (rows : List RowOf) (row : RowOf) (keep : List ℕ) (z : ℕ)
+    → subtree_bound (rows ++ row ∷ []) keep z ≡ subtree_bound rows keep z +ℤ cond (has z row.cells) (subtree_share keep z row) (pos 0)
 subtree_bound-push [] row keep z = omega (arith, ints)
 subtree_bound-push (r ∷ rows) row keep z = omega (arith, ints, subtree_bound-push rows row keep z)

@@ -1,5 +1,7 @@
 -- Cells as they lie in memory: whether their ranks ascend, and where a rank stands.
-use Rattle.std.proofs.Common.{◌≡◌, ◌≢◌, ◌↔◌, ℕ, zero, suc, ◌+◌, ◌-◌, ◌<◌, ◌≤◌, Bool, true, false, cond, ◌^◌, eqb, inl, inr, ℤ, pos, ◌+ℤ◌, List, [], ◌∷◌, map, length, get_or, take, drop, refl, sym, ap, ◌∙◌, subst, arith, nat_cmp, Less, Greater, Result, Ok, Err, MatchOption, sum_by}
+use Rattle.std.proofs.Common.{◌≡◌, ◌≢◌, ◌↔◌, ℕ, zero, suc, ◌+◌, ◌-◌, ◌<◌, ◌≤◌, Bool, true, false, cond, ◌^◌, eqb, inl, inr, ℤ, pos, ◌+ℤ◌, List, []}
+use Rattle.std.proofs.Common.{◌∷◌, map, length, get_or, take, drop, refl, sym, ap, ◌∙◌, subst, arith, nat_cmp, Less, Greater, Result, Ok, Err}
+use Rattle.std.proofs.Common.{MatchOption, sum_by}
 use Rattle.std.specs.List.{All, AllByRecursion, AllAdjacentBelow}
 use Rattle.std.specs.List.Sorted.{IsBinarySearchResult, IsSearchInRange}
 use Rattle.std.specs.Ordering.{ordering_index}
@@ -24,10 +26,14 @@ use Rattle.hu_rows.specs.View.{cells_of, row_of, rows_of, row_with, KeepRules}
 use Rattle.hu_rows.proofs.CellLemmas.{IsPlace, IsPlace-at}
 use Rattle.hu_rows.proofs.AddedCells.{get_or-cells_of, drop-cells_of}
 use Rattle.hu_rows.proofs.RankOrder.{ranks, length-ranks, get_or-ranks}
+use Rattle.hu_kind.proofs.lemmas.Each.{each-from_all, each-get}
+use Rattle.hu_kind.proofs.lemmas.Ascending.{each-ascending}
+use Rattle.hu_rows.specs.Tally.{AreBelow}
 
 -- ---- ranks that ascend
 
-ascend-tail : (first : Dense) (cells : List Dense) → AllAdjacentBelow (λ (a b : Dense). a.rank < b.rank) (first ∷ cells) (length (first ∷ cells)) → AllAdjacentBelow (λ (a b : Dense). a.rank < b.rank) cells (length cells)
+ascend-tail : (first : Dense) (cells : List Dense) → AllAdjacentBelow (λ (a b : Dense). a.rank < b.rank) (first ∷ cells) (length (first ∷ cells))
+    → AllAdjacentBelow (λ (a b : Dense). a.rank < b.rank) cells (length cells)
 ascend-tail first cells up k d within =
     let e : suc k + 1 ≡ suc (k + 1) = omega arith in
     subst (λ j. (get_or cells k d).rank < (get_or (first ∷ cells) j d).rank) e (up (suc k) d (omega arith))
@@ -51,16 +57,7 @@ adjacent-ascend cells up k d within =
     let e : k + 1 ≡ suc k = omega arith in
     subst (λ j. (get_or cells k d).rank < (get_or cells j d).rank) (sym e) (adjacent cells k d up (omega arith))
 
--- what holds at each place holds of each element, and back
-pub each-places : {A : Type 0} (P : A → Type 0) (xs : List A) → All P xs → AllByRecursion P xs
-each-places P [] all = tt
-each-places P (x ∷ xs) all = (all 0 x (omega arith), each-places P xs (λ k d within. all (suc k) d (omega arith)))
-
-pub places-each : {A : Type 0} (P : A → Type 0) (xs : List A) → AllByRecursion P xs → All P xs
-places-each P [] all k d within = absurd (omega arith)
-places-each P (x ∷ xs) all zero d within = all.0
-places-each P (x ∷ xs) all (suc k) d within = places-each P xs all.1 k d (omega arith)
-
+-- what holds of each row holds of each without lives, and back
 pub each-rows : (P : RowOf → Type 0) (rows : List Row) → AllByRecursion (λ row. P (row_of row)) rows → AllByRecursion P (rows_of rows)
 each-rows P [] all = tt
 each-rows P (row ∷ rows) all = (all.0, each-rows P rows all.1)
@@ -69,10 +66,27 @@ pub rows-each : (P : RowOf → Type 0) (rows : List Row) → AllByRecursion P (r
 rows-each P [] all = tt
 rows-each P (row ∷ rows) all = (all.0, rows-each P rows all.1)
 
-pub all-ascend : (rows : List Row) → All (λ (row : Row). AllAdjacentBelow (λ (a b : Dense). a.rank < b.rank) row.cells.now (length row.cells.now)) rows ↔ AllByRecursion (λ row. Ascend (ranks_of row)) (rows_of rows)
+-- what holds of each row holds of that at a place
+pub row-at : (P : RowOf → Type 0) (rows : List Row) (i : ℕ) (d : Row) → AllByRecursion P (rows_of rows) → i < length rows → P (row_of (get_or rows i d))
+row-at P rows i d all within = each-get (λ row. P (row_of row)) rows i d (rows-each P rows all) within
+
+pub ascends-at : (rows : List Row) (i : ℕ) (d : Row) → AllByRecursion (λ row. Ascend (ranks_of row)) (rows_of rows) → i < length rows
+    → Ascend (ranks_of (row_of (get_or rows i d)))
+ascends-at rows i d all within = row-at (λ row. Ascend (ranks_of row)) rows i d all within
+
+pub below-at : (m n : ℕ) (rows : List Row) (i : ℕ) (d : Row) → AreBelow n (rows_of rows) → m ≡ n → i < length rows
+    → AllByRecursion (λ rank. rank < m) (ranks_of (row_of (get_or rows i d)))
+below-at m n rows i d below is within =
+    subst (λ k. AllByRecursion (λ rank. rank < k) (ranks_of (row_of (get_or rows i d)))) (sym is)
+    (row-at (λ row. AllByRecursion (λ rank. rank < n) (ranks_of row)) rows i d below within)
+
+pub all-ascend : (rows : List Row) → All (λ (row : Row). AllAdjacentBelow (λ (a b : Dense). a.rank < b.rank) row.cells.now (length row.cells.now)) rows
+    ↔ AllByRecursion (λ row. Ascend (ranks_of row)) (rows_of rows)
 all-ascend rows = (
-  λ all. each-rows (λ row. Ascend (ranks_of row)) rows (each-places (λ row. Ascend (ranks_of (row_of row))) rows (λ k d within. Ascend-adjacent (get_or rows k d).cells.now (all k d within))),
-  λ all k d within. adjacent-ascend (get_or rows k d).cells.now (places-each (λ row. Ascend (ranks_of (row_of row))) rows (rows-each (λ row. Ascend (ranks_of row)) rows all) k d within),
+  λ all. each-rows (λ row. Ascend (ranks_of row)) rows
+      (each-from_all (λ row. Ascend (ranks_of (row_of row))) rows (λ k d within. Ascend-adjacent (get_or rows k d).cells.now (all k d within))),
+  λ all k d within. adjacent-ascend (get_or rows k d).cells.now
+      (each-get (λ row. Ascend (ranks_of (row_of row))) rows k d (rows-each (λ row. Ascend (ranks_of row)) rows all) within),
 )
 
 pub AreRows-rules : (rows : List Row) → KeepRules rows → AreRows (rows_of rows)
@@ -93,7 +107,7 @@ rank-far : (cells : List Dense) (i j : ℕ) (d : Dense) → Ascend (ranks cells)
 rank-far [] i j d up before within = absurd (omega arith)
 rank-far (cell ∷ cells) zero zero d up before within = omega arith
 rank-far (cell ∷ cells) zero (suc j) d up before within =
-    let low : cell.rank < get_or (ranks cells) j 0 = places-each (λ r. cell.rank < r) (ranks cells) up.0 j 0 (omega (arith, length-ranks cells)) in
+    let low : cell.rank < get_or (ranks cells) j 0 = each-get (λ r. cell.rank < r) (ranks cells) j 0 up.0 (omega (arith, length-ranks cells)) in
     omega (arith, get_or-ranks cells j d (omega arith))
 rank-far (cell ∷ cells) (suc i) zero d up before within = absurd (omega arith)
 rank-far (cell ∷ cells) (suc i) (suc j) d up before within = rank-far cells i j d up.1 (omega arith) (omega arith)
@@ -107,7 +121,8 @@ not_less a z e same = let le : a < z = grind (arith, nat_tests) in omega arith
 not_greater : (a z : ℕ) → nat_cmp a z ≡ Greater → a ≢ z
 not_greater a z e same = let le : z < a = grind (arith, nat_tests) in omega arith
 
-pub place-searched : (z : ℕ) (cells : List Dense) (r : Result ℕ ℕ) → Ascend (ranks cells) → IsSearchInRange r (length cells) → IsBinarySearchResult (λ (c : Dense). nat_cmp c.rank z) cells r
+pub place-searched : (z : ℕ) (cells : List Dense) (r : Result ℕ ℕ) → Ascend (ranks cells) → IsSearchInRange r (length cells)
+    → IsBinarySearchResult (λ (c : Dense). nat_cmp c.rank z) cells r
     → MatchOption (result_ok r) (has z (cells_of cells) ≡ false) (λ i. (i < length cells) × (get_or (ranks cells) i 0 ≡ z))
 place-searched z cells (Ok i) up bound found =
     let none : Dense = record { rank = 0; value = pos 0 } in
@@ -119,22 +134,35 @@ place-searched z cells (Err i) up bound found =
       | inr l ↦ not_greater (get_or cells k d).rank z (parted.1 k d l within)
     ])
 
+-- ---- a cell by its place
+
+pub IsPlace-cells : (cells : List Dense) (i : ℕ) (d : Dense) → Ascend (items_in (cells_of cells)) → i < length cells
+    → IsPlace (get_or cells i d).rank (cells_of cells) (get_or cells i d).value (cells_of (drop (i + 1) cells))
+IsPlace-cells cells i d up within =
+    let place = IsPlace-at (cells_of cells) i (dense_pair d) up (omega (arith, length-map cells dense_pair)) in
+    let place' : IsPlace (get_or cells i d).rank (cells_of cells) (get_or cells i d).value (drop (suc i) (cells_of cells)) =
+    subst (λ (c : ℕ × ℤ). IsPlace c.0 (cells_of cells) c.1 (drop (suc i) (cells_of cells))) (get_or-cells_of cells i d within) place in
+    let one : i + 1 ≡ suc i = omega arith in
+    record {
+      found = place'.found;
+      worth = place'.worth;
+      tail = place'.tail ∙ ap (λ n. drop n (cells_of cells)) (sym one) ∙ sym (drop-cells_of cells (i + 1));
+    }
+
 -- ---- a row projected
 
-pub projected_row-at : (z : ℕ) (before : ℤ) (count : ℕ) (cells : List Dense) (i : ℕ) (d : Dense) → Ascend (ranks cells) → i < length cells → get_or (ranks cells) i 0 ≡ z
-    → row_with (before +ℤ (get_or cells i d).value) count (take (length cells - (i + 1)) (drop (i + 1) cells)) ∷ [] ≡ projected_row z (row_with before count cells)
+pub projected_row-at : (z : ℕ) (before : ℤ) (count : ℕ) (cells : List Dense) (i : ℕ) (d : Dense) → Ascend (ranks cells) → i < length cells
+    → get_or (ranks cells) i 0 ≡ z
+    → row_with (before +ℤ (get_or cells i d).value) count (take (length cells - (i + 1)) (drop (i + 1) cells)) ∷ []
+    ≡ projected_row z (row_with before count cells)
 projected_row-at z before count cells i d up within at =
-    let pair : get_or (cells_of cells) i (dense_pair d) ≡ dense_pair (get_or cells i d) = get_or-cells_of cells i d within in
-    let place = IsPlace-at (cells_of cells) i (dense_pair d) up (omega (arith, length-map cells dense_pair)) in
-    let rank : (get_or (cells_of cells) i (dense_pair d)).0 ≡ z = ap (λ (c : ℕ × ℤ). c.0) pair ∙ sym (get_or-ranks cells i d within) ∙ at in
-    let place' : IsPlace z (cells_of cells) (get_or cells i d).value (drop (suc i) (cells_of cells)) =
-    subst (λ v. IsPlace z (cells_of cells) v (drop (suc i) (cells_of cells))) (ap (λ (c : ℕ × ℤ). c.1) pair) (subst (λ r. IsPlace r (cells_of cells) (get_or (cells_of cells) i (dense_pair d)).1 (drop (suc i) (cells_of cells))) rank place) in
+    let place = IsPlace-cells cells i d up within in
+    let rank : (get_or cells i d).rank ≡ z = sym (get_or-ranks cells i d within) ∙ at in
+    let place' : IsPlace z (cells_of cells) (get_or cells i d).value (cells_of (drop (i + 1) cells)) =
+    subst (λ r. IsPlace r (cells_of cells) (get_or cells i d).value (cells_of (drop (i + 1) cells))) rank place in
     let tail : cells_of (take (length cells - (i + 1)) (drop (i + 1) cells)) ≡ after z (cells_of cells) =
-    ap cells_of (take_rest cells (i + 1)) ∙ drop-cells_of cells (i + 1) ∙ ap (λ n. drop n (cells_of cells)) one ∙ sym place'.tail in
+    ap cells_of (take_rest cells (i + 1)) ∙ sym place'.tail in
     rw place'.found (λ j. record { before = before +ℤ sym place'.worth j; count = count; cells = tail j } ∷ [])
-  where
-    one : i + 1 ≡ suc i
-    one = omega arith
 
 -- ---- records as rows
 
@@ -158,26 +186,14 @@ counts-unmerged : (records : List (List (ℕ × ℤ))) → sum_by count_of (map 
 counts-unmerged [] = refl
 counts-unmerged (r ∷ rs) = omega (arith, sum_by-cons count_of (unmerged r) (map unmerged rs), counts-unmerged rs)
 
-pairs-tail : (first : ℕ × ℤ) (cells : List (ℕ × ℤ)) → AllAdjacentBelow (λ (a b : ℕ × ℤ). a.0 < b.0) (first ∷ cells) (length (first ∷ cells)) → AllAdjacentBelow (λ (a b : ℕ × ℤ). a.0 < b.0) cells (length cells)
-pairs-tail first cells up k d within =
-    let e : suc k + 1 ≡ suc (k + 1) = omega arith in
-    subst (λ j. (get_or cells k d).0 < (get_or (first ∷ cells) j d).0) e (up (suc k) d (omega arith))
-
-Ascend-pairs : (cells : List (ℕ × ℤ)) → AllAdjacentBelow (λ (a b : ℕ × ℤ). a.0 < b.0) cells (length cells) → Ascend (items_in cells)
-Ascend-pairs [] up = tt
-Ascend-pairs (first ∷ []) up = (tt, tt)
-Ascend-pairs (first ∷ next ∷ cells) up =
-    let rest = Ascend-pairs (next ∷ cells) (pairs-tail first (next ∷ cells) up) in
-    let before : first.0 < next.0 = up 0 first (omega arith) in
-    ((before, above_all first.0 next.0 (items_in cells) before rest.0), rest)
-
-ascending-unmerged : (records : List (List (ℕ × ℤ))) → AllByRecursion (λ cells. AllAdjacentBelow (λ (a b : ℕ × ℤ). a.0 < b.0) cells (length cells)) records → AllByRecursion (λ row. Ascend (ranks_of row)) (map unmerged records)
+ascending-unmerged : (records : List (List (ℕ × ℤ))) → AllByRecursion (λ cells. Ascend (items_in cells)) records
+    → AllByRecursion (λ row. Ascend (ranks_of row)) (map unmerged records)
 ascending-unmerged [] all = tt
-ascending-unmerged (r ∷ rs) all = (Ascend-pairs r all.0, ascending-unmerged rs all.1)
+ascending-unmerged (r ∷ rs) all = (all.0, ascending-unmerged rs all.1)
 
 pub AreRows-unmerged : (r : Ranking) → IsRanking r → length r.records < 2 ^ 64 → AreRows (map unmerged r.records)
 AreRows-unmerged r rules few = record {
-  ascending = ascending-unmerged r.records (each-places (λ cells. AllAdjacentBelow (λ (a b : ℕ × ℤ). a.0 < b.0) cells (length cells)) r.records rules.ascending);
+  ascending = ascending-unmerged r.records (each-ascending r.records rules.ascending);
   sizes = omega (arith, sizes-unmerged r.records, rules.sum_fits);
   counts = omega (arith, counts-unmerged r.records, few);
 }

@@ -1,5 +1,6 @@
 -- Cells after a rank.
-use Rattle.std.proofs.Common.{◌≡◌, ℕ, zero, suc, ◌+◌, ◌<◌, ◌≤◌, Bool, true, false, cond, eqb, nat_lt, ◌&&◌, ◌||◌, ℤ, unsigned_abs, ◌+ℤ◌, List, [], ◌∷◌, length, get_or, drop, inl, inr, refl, ap, arith}
+use Rattle.std.proofs.Common.{◌≡◌, ℕ, zero, suc, ◌+◌, ◌<◌, ◌≤◌, Bool, true, false, cond, eqb, nat_lt, ◌&&◌, ◌||◌, ℤ, unsigned_abs, ◌+ℤ◌, List, []}
+use Rattle.std.proofs.Common.{◌∷◌, length, get_or, drop, inl, inr, refl, ap, arith}
 use Rattle.std.specs.List.{AllByRecursion}
 use Rattle.std.proofs.lemmas.Bool.{ne_eqb, eq-eqb, eqb-true, ltb-true, ltb-false, lt-ltb, le-ltb}
 use Rattle.std.proofs.lemmas.List.Sums.{sum_by-cons}
@@ -24,7 +25,8 @@ pub value_of-after : (z s : ℕ) (cells : List (ℕ × ℤ)) → z < s → value
 value_of-after z s [] above = refl
 value_of-after z s (cell ∷ cells) above = by (nat_lt z cell.0) refl (value_of-after z s cells above)
   where
-    by : (b : Bool) → nat_lt z cell.0 ≡ b → value_of s (after z cells) ≡ value_of s cells → value_of s (cond b (cell ∷ after z cells) (after z cells)) ≡ value_of s (cell ∷ cells)
+    by : (b : Bool) → nat_lt z cell.0 ≡ b → value_of s (after z cells) ≡ value_of s cells
+        → value_of s (cond b (cell ∷ after z cells) (after z cells)) ≡ value_of s (cell ∷ cells)
     by true h ih = ap (λ r. cond (eqb s cell.0) cell.1 r) ih
     by false h ih = let no : eqb s cell.0 ≡ false = other z s cell above h in rw no ih
 
@@ -32,7 +34,8 @@ pub holds-after : (z : ℕ) (set : List ℕ) (cells : List (ℕ × ℤ)) → All
 holds-after z [] cells above = refl
 holds-after z (s ∷ set) cells above = λ j. has-after z s cells above.0 j && holds-after z set cells above.1 j
 
-pub values_of-after : (z : ℕ) (set : List ℕ) (cells : List (ℕ × ℤ)) → AllByRecursion (λ rank. z < rank) set → values_of set (after z cells) ≡ values_of set cells
+pub values_of-after : (z : ℕ) (set : List ℕ) (cells : List (ℕ × ℤ)) → AllByRecursion (λ rank. z < rank) set
+    → values_of set (after z cells) ≡ values_of set cells
 values_of-after z [] cells above = refl
 values_of-after z (s ∷ set) cells above = λ j. value_of-after z s cells above.0 j +ℤ values_of-after z set cells above.1 j
 
@@ -58,13 +61,20 @@ pub after-all : (z : ℕ) (cells : List (ℕ × ℤ)) → AllByRecursion (λ y. 
 after-all z [] all = refl
 after-all z (cell ∷ cells) all = let yes : nat_lt z cell.0 ≡ true = lt-ltb z cell.0 all.0 in rw yes (ap (λ rest. cell ∷ rest) (after-all z cells all.1))
 
+-- a rank that is less than each is less than that at a place
+pub rank-above : (z : ℕ) (cells : List (ℕ × ℤ)) (i : ℕ) (d : ℕ × ℤ) → AllByRecursion (λ y. z < y) (items_in cells) → i < length cells → z < (get_or cells i d).0
+rank-above z [] i d all within = absurd (omega arith)
+rank-above z (cell ∷ cells) zero d all within = all.0
+rank-above z (cell ∷ cells) (suc i) d all within = rank-above z cells i d all.1 (omega arith)
+
 -- the cell at a place, by its rank
 pub record IsPlace (z : ℕ) (cells : List (ℕ × ℤ)) (value : ℤ) (rest : List (ℕ × ℤ)) : Type 0 where
   pub found : has z cells ≡ true
   pub worth : value_of z cells ≡ value
   pub tail : after z cells ≡ rest
 
-pub IsPlace-at : (cells : List (ℕ × ℤ)) (i : ℕ) (d : ℕ × ℤ) → Ascend (items_in cells) → i < length cells → IsPlace (get_or cells i d).0 cells (get_or cells i d).1 (drop (suc i) cells)
+pub IsPlace-at : (cells : List (ℕ × ℤ)) (i : ℕ) (d : ℕ × ℤ) → Ascend (items_in cells) → i < length cells
+    → IsPlace (get_or cells i d).0 cells (get_or cells i d).1 (drop (suc i) cells)
 IsPlace-at [] i d up within = absurd (omega arith)
 IsPlace-at (cell ∷ cells) zero d up within =
     let here : eqb cell.0 cell.0 ≡ true = eq-eqb cell.0 cell.0 refl in
@@ -73,15 +83,10 @@ IsPlace-at (cell ∷ cells) zero d up within =
 IsPlace-at (cell ∷ cells) (suc i) d up within =
     let z = (get_or cells i d).0 in
     let ih = IsPlace-at cells i d up.1 (omega arith) in
-    let before : cell.0 < z = above-at cells i up.0 (omega arith) in
+    let before : cell.0 < z = rank-above cell.0 cells i d up.0 (omega arith) in
     let no : eqb z cell.0 ≡ false = ne_eqb z cell.0 (λ e. absurd (omega arith)) in
     let not_after : nat_lt z cell.0 ≡ false = le-ltb z cell.0 (omega arith) in
     record { found = rw no ih.found; worth = rw no ih.worth; tail = rw not_after ih.tail }
-  where
-    above-at : (cells : List (ℕ × ℤ)) (i : ℕ) → AllByRecursion (λ y. cell.0 < y) (items_in cells) → i < length cells → cell.0 < (get_or cells i d).0
-    above-at [] i all within = absurd (omega arith)
-    above-at (c ∷ cs) zero all within = all.0
-    above-at (c ∷ cs) (suc i) all within = above-at cs i all.1 (omega arith)
 
 -- the absolute values after z are within all of them, with that of z
 pub absolute_of-after : (z : ℕ) (cells : List (ℕ × ℤ)) → absolute_of (after z cells) + unsigned_abs (value_of z cells) ≤ absolute_of cells
@@ -91,7 +96,8 @@ absolute_of-after z (cell ∷ cells) = by (nat_lt z cell.0) (eqb z cell.0) refl 
     by : (b c : Bool) → nat_lt z cell.0 ≡ b → eqb z cell.0 ≡ c → absolute_of (after z cells) + unsigned_abs (value_of z cells) ≤ absolute_of cells
         → absolute_of (cond b (cell ∷ after z cells) (after z cells)) + unsigned_abs (cond c cell.1 (value_of z cells)) ≤ absolute_of (cell ∷ cells)
     by true true h e ih = let low = ltb-true z cell.0 h in let same = eqb-true z cell.0 e in absurd (omega arith)
-    by true false h e ih = omega (arith, sum_by-cons (λ (c : ℕ × ℤ). unsigned_abs c.1) cell (after z cells), sum_by-cons (λ (c : ℕ × ℤ). unsigned_abs c.1) cell cells)
+    by true false h e ih =
+        omega (arith, sum_by-cons (λ (c : ℕ × ℤ). unsigned_abs c.1) cell (after z cells), sum_by-cons (λ (c : ℕ × ℤ). unsigned_abs c.1) cell cells)
     by false true h e ih = omega (arith, sum_by-cons (λ (c : ℕ × ℤ). unsigned_abs c.1) cell cells)
     by false false h e ih = omega (arith, sum_by-cons (λ (c : ℕ × ℤ). unsigned_abs c.1) cell cells)
 
@@ -107,10 +113,12 @@ Member-after z rank (cell ∷ cells) m = by (nat_lt z cell.0) refl (Member-after
     by false h ih n = let r = ih n in (r.0, inr r.1)
 
 -- and these are after z
-pub each-after-both : (P : ℕ → Type 0) (z : ℕ) (cells : List (ℕ × ℤ)) → AllByRecursion P (items_in cells) → AllByRecursion (λ rank. P rank × (z < rank)) (items_in (after z cells))
+pub each-after-both : (P : ℕ → Type 0) (z : ℕ) (cells : List (ℕ × ℤ)) → AllByRecursion P (items_in cells)
+    → AllByRecursion (λ rank. P rank × (z < rank)) (items_in (after z cells))
 each-after-both P z [] all = tt
 each-after-both P z (cell ∷ cells) all = by (nat_lt z cell.0) refl (each-after-both P z cells all.1)
   where
-    by : (b : Bool) → nat_lt z cell.0 ≡ b → AllByRecursion (λ rank. P rank × (z < rank)) (items_in (after z cells)) → AllByRecursion (λ rank. P rank × (z < rank)) (items_in (cond b (cell ∷ after z cells) (after z cells)))
+    by : (b : Bool) → nat_lt z cell.0 ≡ b → AllByRecursion (λ rank. P rank × (z < rank)) (items_in (after z cells))
+        → AllByRecursion (λ rank. P rank × (z < rank)) (items_in (cond b (cell ∷ after z cells) (after z cells)))
     by true h ih = ((all.0, ltb-true z cell.0 h), ih)
     by false h ih = ih

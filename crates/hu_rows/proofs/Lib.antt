@@ -1,4 +1,5 @@
 pub mod lemmas
+pub mod PastEnd
 pub mod CellLemmas
 pub mod ProjectionLemmas
 pub mod AddedCells

@@ -1,5 +1,6 @@
 -- Rows of the same ranks made one: what they add stays, and in order no two have the same ranks.
-use Rattle.std.proofs.Common.{◌≡◌, ◌<◌, ◌≢◌, ℕ, suc, ◌+◌, ◌≤◌, Bool, true, false, cond, ◌||◌, ℤ, ◌+ℤ◌, List, [], ◌∷◌, take, drop, reverse, refl, sym, ap, ◌∙◌, subst, arith, sum_by, nat_cmp, Ordering, Less, Equal, Greater}
+use Rattle.std.proofs.Common.{◌≡◌, ◌<◌, ◌≢◌, ℕ, suc, ◌+◌, ◌≤◌, Bool, true, false, cond, ◌||◌, ℤ, ◌+ℤ◌, List, [], ◌∷◌, take, drop, reverse, refl, sym}
+use Rattle.std.proofs.Common.{ap, ◌∙◌, subst, arith, sum_by, nat_cmp, Ordering, Less, Equal, Greater}
 use Rattle.std.specs.List.{AllByRecursion, fold, prefix_len, list_any}
 use Rattle.std.specs.Ordering.{is_lt, is_eq, ordering_reverse}
 use Rattle.std.specs.Cmp.{IsTotalOrder}
@@ -116,7 +117,8 @@ each-merged_from P =
     (λ row next rows answer same ih here all. ih (subst P (sym (items_in-added_cells row.cells next.cells)) here) all.1)
     (λ row next rows h ih here all. (here, ih all.0 all.1))
 
-pub each-merged : (P : List ℕ → Type 0) (rows : List RowOf) → AllByRecursion (λ row. P (ranks_of row)) rows → AllByRecursion (λ row. P (ranks_of row)) (merged rows)
+pub each-merged : (P : List ℕ → Type 0) (rows : List RowOf) → AllByRecursion (λ row. P (ranks_of row)) rows
+    → AllByRecursion (λ row. P (ranks_of row)) (merged rows)
 each-merged P [] all = tt
 each-merged P (row ∷ rows) all = each-merged_from P row rows all.0 all.1
 
@@ -177,12 +179,14 @@ apart-above row next other less high same =
     let never : is_lt (row_cmp other next) ≡ true = ap is_lt same_cmp in
     cc
 
-all_apart : (row next : RowOf) (rows : List RowOf) → row_cmp row next ≡ Less → AllByRecursion (λ other. is_lt (row_cmp other next) ≡ false) rows → AllByRecursion (λ other. ranks_of row ≢ ranks_of other) rows
+all_apart : (row next : RowOf) (rows : List RowOf) → row_cmp row next ≡ Less → AllByRecursion (λ other. is_lt (row_cmp other next) ≡ false) rows
+    → AllByRecursion (λ other. ranks_of row ≢ ranks_of other) rows
 all_apart row next [] less high = tt
 all_apart row next (other ∷ rows) less high = (apart-above row next other less high.0, all_apart row next rows less high.1)
 
 -- a row in front that takes on another keeps its place
-rising-added : (row next : RowOf) (rows : List RowOf) → AllByRecursion (λ other. is_lt (row_cmp other row) ≡ false) rows → AllByRecursion (λ other. is_lt (row_cmp other (added row next)) ≡ false) rows
+rising-added : (row next : RowOf) (rows : List RowOf) → AllByRecursion (λ other. is_lt (row_cmp other row) ≡ false) rows
+    → AllByRecursion (λ other. is_lt (row_cmp other (added row next)) ≡ false) rows
 rising-added row next [] high = tt
 rising-added row next (other ∷ rows) high =
     let keeps : ranks_of row ≡ ranks_of (added row next) = sym (items_in-added_cells row.cells next.cells) in
@@ -202,16 +206,20 @@ AreApart-merged (row ∷ rows) rise =
 -- ---- merging run by run
 
 fold-run : (first row : RowOf) (rest : List Row) → ranks_of row ≡ ranks_of first
-    → merged_from row (rows_of rest) ≡ fold added row (rows_of (take (prefix_len (same_ranks first) rest) rest)) ∷ merged (rows_of (drop (prefix_len (same_ranks first) rest) rest))
+    → merged_from row (rows_of rest) ≡ fold added row (rows_of (take (prefix_len (same_ranks first) rest) rest))
+    ∷ merged (rows_of (drop (prefix_len (same_ranks first) rest) rest))
 fold-run first row [] same = refl
 fold-run first row (next ∷ rest) same =
-    by (is_eq (row_cmp row (row_of next))) (is_eq (row_cmp first (row_of next))) (ap (λ ranks. is_eq (slice_cmp nat_cmp (reverse ranks) (reverse (ranks_of (row_of next))))) same)
+    by (is_eq (row_cmp row (row_of next))) (is_eq (row_cmp first (row_of next)))
+    (ap (λ ranks. is_eq (slice_cmp nat_cmp (reverse ranks) (reverse (ranks_of (row_of next))))) same)
     (fold-run first (added row (row_of next)) rest (items_in-added_cells row.cells (row_of next).cells ∙ same))
   where
     by : (b c : Bool) → b ≡ c
-        → merged_from (added row (row_of next)) (rows_of rest) ≡ fold added (added row (row_of next)) (rows_of (take (prefix_len (same_ranks first) rest) rest)) ∷ merged (rows_of (drop (prefix_len (same_ranks first) rest) rest))
+        → merged_from (added row (row_of next)) (rows_of rest) ≡ fold added (added row (row_of next))
+        (rows_of (take (prefix_len (same_ranks first) rest) rest)) ∷ merged (rows_of (drop (prefix_len (same_ranks first) rest) rest))
         → cond b (merged_from (added row (row_of next)) (rows_of rest)) (row ∷ merged_from (row_of next) (rows_of rest))
-        ≡ fold added row (rows_of (take (cond c (1 + prefix_len (same_ranks first) rest) 0) (next ∷ rest))) ∷ merged (rows_of (drop (cond c (1 + prefix_len (same_ranks first) rest) 0) (next ∷ rest)))
+        ≡ fold added row (rows_of (take (cond c (1 + prefix_len (same_ranks first) rest) 0) (next ∷ rest)))
+        ∷ merged (rows_of (drop (cond c (1 + prefix_len (same_ranks first) rest) 0) (next ∷ rest)))
     by true true e ih =
         let n = prefix_len (same_ranks first) rest in
         let one : 1 + n ≡ suc n = omega arith in
@@ -222,7 +230,8 @@ fold-run first row (next ∷ rest) same =
 
 -- the rows at the front that have the ranks of the first become one row
 pub merged-run : (first : Row) (rest : List Row)
-    → merged (rows_of (first ∷ rest)) ≡ fold added (row_of first) (rows_of (take (prefix_len (same_ranks (row_of first)) rest) rest)) ∷ merged (rows_of (drop (prefix_len (same_ranks (row_of first)) rest) rest))
+    → merged (rows_of (first ∷ rest)) ≡ fold added (row_of first) (rows_of (take (prefix_len (same_ranks (row_of first)) rest) rest))
+    ∷ merged (rows_of (drop (prefix_len (same_ranks (row_of first)) rest) rest))
 merged-run first rest = fold-run (row_of first) (row_of first) rest refl
 
 -- the size and the count of rows added

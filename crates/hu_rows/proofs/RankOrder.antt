@@ -1,5 +1,6 @@
 -- Ranks compared from the last backwards.
-use Rattle.std.proofs.Common.{◌≡◌, ℕ, zero, suc, ◌+◌, ◌-◌, ◌<◌, ◌≤◌, pos, List, [], ◌∷◌, length, get_or, take, reverse, ◌⊎◌, inl, inr, refl, sym, ap, ◌∙◌, arith, nat_cmp, Ordering, Less, Equal, Greater}
+use Rattle.std.proofs.Common.{◌≡◌, ℕ, zero, suc, ◌+◌, ◌-◌, ◌<◌, ◌≤◌, pos, List, [], ◌∷◌, length, get_or, take, reverse, ◌⊎◌, inl, inr, refl, sym, ap}
+use Rattle.std.proofs.Common.{◌∙◌, arith, nat_cmp, Ordering, Less, Equal, Greater}
 use Rattle.std.specs.Ordering.{ordering_then}
 use Rattle.std.specs.Cmp.Lexicographic.{slice_cmp}
 use Rattle.std.proofs.lemmas.List.{take_more, reverse-append}
@@ -24,7 +25,8 @@ get_or-ranks (cell ∷ cells) (suc i) d within = get_or-ranks cells i d (omega a
 reverse-more : (xs : List ℕ) (i : ℕ) → i < length xs → reverse (take (i + 1) xs) ≡ get_or xs i 0 ∷ reverse (take i xs)
 reverse-more xs i within = ap reverse (take_more xs i 0 within) ∙ reverse-append (take i xs) (get_or xs i 0 ∷ [])
 
-last-first : (cells : List Dense) (i : ℕ) (d : Dense) → 0 < i → i ≤ length cells → reverse (take i (ranks cells)) ≡ (get_or cells (i - 1) d).rank ∷ reverse (take (i - 1) (ranks cells))
+last-first : (cells : List Dense) (i : ℕ) (d : Dense) → 0 < i → i ≤ length cells
+    → reverse (take i (ranks cells)) ≡ (get_or cells (i - 1) d).rank ∷ reverse (take (i - 1) (ranks cells))
 last-first cells i d some within =
     let e : i - 1 + 1 ≡ i = omega arith in
     ap (λ n. reverse (take n (ranks cells))) (sym e)
@@ -33,7 +35,8 @@ last-first cells i d some within =
 
 pub compare-step : (a b : List Dense) (i j : ℕ) (c d : Dense) → 0 < i → i ≤ length a → 0 < j → j ≤ length b
     → slice_cmp nat_cmp (reverse (take i (ranks a))) (reverse (take j (ranks b)))
-    ≡ ordering_then (nat_cmp (get_or a (i - 1) c).rank (get_or b (j - 1) d).rank) (slice_cmp nat_cmp (reverse (take (i - 1) (ranks a))) (reverse (take (j - 1) (ranks b))))
+    ≡ ordering_then (nat_cmp (get_or a (i - 1) c).rank (get_or b (j - 1) d).rank)
+    (slice_cmp nat_cmp (reverse (take (i - 1) (ranks a))) (reverse (take (j - 1) (ranks b))))
 compare-step a b i j c d p q r s = λ k. slice_cmp nat_cmp (last-first a i c p q k) (last-first b j d r s k)
 
 -- the ranks of two places are the same
@@ -52,7 +55,8 @@ no_cell : Dense
 no_cell = record { rank = 0; value = pos 0 }
 
 -- one of the lists is at its end
-pub compare-ends : (a b : List Dense) (i j : ℕ) → i ≤ length a → j ≤ length b → (i ≡ 0) ⊎ (j ≡ 0) → slice_cmp nat_cmp (reverse (take i (ranks a))) (reverse (take j (ranks b))) ≡ nat_cmp i j
+pub compare-ends : (a b : List Dense) (i j : ℕ) → i ≤ length a → j ≤ length b → (i ≡ 0) ⊎ (j ≡ 0)
+    → slice_cmp nat_cmp (reverse (take i (ranks a))) (reverse (take j (ranks b))) ≡ nat_cmp i j
 compare-ends a b zero zero p q e = refl
 compare-ends a b zero (suc j) p q e =
     let less : nat_cmp 0 (suc j) ≡ Less = grind (arith, nat_tests) in

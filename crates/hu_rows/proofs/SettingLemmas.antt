@@ -1,25 +1,26 @@
 -- Settings of bins as they are written: one rank, one cell and one row more.
-use Rattle.std.proofs.Common.{◌≡◌, ℕ, zero, suc, ◌+◌, ◌^◌, ◌<◌, ◌≤◌, Bool, true, false, cond, eqb, ◌&&◌, ◌||◌, ℤ, pos, unsigned_abs, ◌+ℤ◌, ◌-ℤ◌, List, [], ◌∷◌, ◌++◌, length, get_or, set, take, drop, to_z, of_z, inl, inr, refl, sym, ap, ◌∙◌, subst, arith, sum_by}
+use Rattle.std.proofs.Common.{◌≡◌, ℕ, zero, suc, ◌+◌, ◌^◌, ◌<◌, ◌≤◌, Bool, true, false, cond, eqb, ◌&&◌, ◌||◌, ℤ, pos, unsigned_abs, ◌+ℤ◌, ◌-ℤ◌, List}
+use Rattle.std.proofs.Common.{[], ◌∷◌, ◌++◌, length, get_or, set, take, drop, to_z, of_z, inl, inr, refl, sym, ap, ◌∙◌, subst, arith, sum_by}
 use Rattle.std.specs.Int.{w128}
 use Rattle.std.specs.List.{AllByRecursion}
 use Rattle.std.proofs.lemmas.Bool.{ne_eqb, eq-eqb, eqb-true, or_cases, cases_eq}
 use Rattle.std.proofs.lemmas.Int.{ints}
 use Rattle.std.proofs.lemmas.List.{length-map, length-set, get_or-set_same, get_or-set_other, take_more, drop_more, map-append, take-map}
-use Rattle.std.proofs.lemmas.List.Sums.{sum_by-cons, sum_by-take-le, sum_by_more_le}
+use Rattle.std.proofs.lemmas.List.Sums.{sum_by-cons, sum_by-take-le}
 use Rattle.hu_kind.specs.Order.{Ascend}
 use Rattle.hu_kind.specs.Record.{has, items_in, absolute_of, positive_part}
 use Rattle.hu_totals.specs.declared.ranked.Dense.{Dense}
 use Rattle.hu_totals.specs.View.{dense_pair}
 use Rattle.hu_rows.specs.declared.rows.Row.{Row}
 use Rattle.hu_rows.specs.Rows.{RowOf, size_of}
-use Rattle.hu_rows.specs.Projection.{after}
 use Rattle.hu_rows.specs.Bounds.{among, value_at, kept_gain, local_share, subtree_share, local_bound, subtree_bound, set_to, AreKept}
 use Rattle.hu_rows.specs.Setting.{IsSetting, kept_part, local_part, subtree_part}
 use Rattle.hu_rows.specs.View.{cells_of, row_of, rows_of}
-use Rattle.hu_rows.proofs.AddedCells.{get_or-cells_of, drop-cells_of}
-use Rattle.hu_rows.proofs.CellLemmas.{IsPlace, IsPlace-at}
+use Rattle.hu_rows.proofs.AddedCells.{get_or-cells_of}
+use Rattle.hu_rows.proofs.CellChecks.{IsPlace-cells}
 use Rattle.hu_rows.proofs.BoundLemmas.{kept_gain-within, local_bound-within, subtree_bound-within, local_bound-push, subtree_bound-push, local_share-within}
-use Rattle.hu_rows.proofs.RunLemmas.{sum_by-rows_of}
+use Rattle.hu_rows.proofs.RunLemmas.{rows_of-more, sum_by-more}
+use Rattle.hu_rows.proofs.CellLemmas.{rank-above}
 
 -- ---- a setting
 
@@ -31,46 +32,47 @@ among-below n rank (r ∷ kept) below m = elim (or_cases (eqb rank r) (among ran
 ]
 
 -- a kept rank gets another value
-pub IsSetting-set : (kept : List ℕ) (values : List ℤ) (flags : List Bool) (rank : ℕ) (v : ℤ) → IsSetting kept values flags → among rank kept ≡ true → IsSetting kept (set values rank v) flags
+pub IsSetting-set : (kept : List ℕ) (values : List ℤ) (flags : List Bool) (rank : ℕ) (v : ℤ) → IsSetting kept values flags → among rank kept ≡ true
+    → IsSetting kept (set values rank v) flags
 IsSetting-set kept values flags rank v is m = record {
   below = subst (λ n. AllByRecursion (λ r. r < n) kept) (sym (length-set values rank v)) is.below;
   marked = is.marked ∙ sym (length-set values rank v);
   marks = is.marks;
-  zero = λ other out. get_or-set_other values rank other v (pos 0) (λ e. let there : among other kept ≡ true = subst (λ r. among r kept ≡ true) (sym e) m in cc) ∙ is.zero other out;
+  zero = λ other out. get_or-set_other values rank other v (pos 0) (λ e. let there : among other kept ≡ true =
+      subst (λ r. among r kept ≡ true) (sym e) m in cc) ∙ is.zero other out;
 }
 
-pub value_at-set : (kept : List ℕ) (values : List ℤ) (flags : List Bool) (rank : ℕ) (v share : ℤ) → IsSetting kept values flags → among rank kept ≡ true → v ≡ value_at values rank +ℤ share
+plus-nothing : (b : Bool) (share x : ℤ) → x ≡ x +ℤ cond (b && false) share (pos 0)
+plus-nothing true share x = omega (arith, ints)
+plus-nothing false share x = omega (arith, ints)
+
+pub value_at-set : (kept : List ℕ) (values : List ℤ) (flags : List Bool) (rank : ℕ) (v share : ℤ) → IsSetting kept values flags → among rank kept ≡ true
+    → v ≡ value_at values rank +ℤ share
     → (other : ℕ) → value_at (set values rank v) other ≡ value_at values other +ℤ cond (among other kept && eqb other rank) share (pos 0)
 value_at-set kept values flags rank v share is m worth other = elim (cases_eq other rank) [
   | inl e ↦
       let here : eqb other rank ≡ true = eq-eqb other rank e in
       let there : among other kept ≡ true = subst (λ r. among r kept ≡ true) (sym e) m in
-      let written : get_or (set values rank v) other (pos 0) ≡ v = ap (λ r. get_or (set values rank v) r (pos 0)) e ∙ get_or-set_same values rank v (pos 0) (among-below (length values) rank kept is.below m) in
+      let written : get_or (set values rank v) other (pos 0) ≡ v = ap (λ r. get_or (set values rank v) r (pos 0)) e
+      ∙ get_or-set_same values rank v (pos 0) (among-below (length values) rank kept is.below m) in
       rw (here, there) (written ∙ worth ∙ ap (λ r. value_at values r +ℤ share) (sym e))
   | inr ne ↦
       let no_match : eqb other rank ≡ false = ne_eqb other rank ne in
       let written : get_or (set values rank v) other (pos 0) ≡ get_or values other (pos 0) = get_or-set_other values rank other v (pos 0) ne in
-      rw no_match (written ∙ none (among other kept) (value_at values other))
+      rw no_match (written ∙ plus-nothing (among other kept) share (value_at values other))
 ]
-  where
-    none : (b : Bool) (x : ℤ) → x ≡ x +ℤ cond (b && false) share (pos 0)
-    none true x = omega (arith, ints)
-    none false x = omega (arith, ints)
 
 -- ranks that aren't kept get nothing
-pub value_at-out : (kept : List ℕ) (values : List ℤ) (rank : ℕ) (share : ℤ) → among rank kept ≡ false → (other : ℕ) → value_at values other ≡ value_at values other +ℤ cond (among other kept && eqb other rank) share (pos 0)
+pub value_at-out : (kept : List ℕ) (values : List ℤ) (rank : ℕ) (share : ℤ) → among rank kept ≡ false → (other : ℕ)
+    → value_at values other ≡ value_at values other +ℤ cond (among other kept && eqb other rank) share (pos 0)
 value_at-out kept values rank share out other = elim (cases_eq other rank) [
   | inl e ↦
       let there : among other kept ≡ false = subst (λ r. among r kept ≡ false) (sym e) out in
       rw there (omega (arith, ints))
   | inr ne ↦
       let no_match : eqb other rank ≡ false = ne_eqb other rank ne in
-      rw no_match (none (among other kept) (value_at values other))
+      rw no_match (plus-nothing (among other kept) share (value_at values other))
 ]
-  where
-    none : (b : Bool) (x : ℤ) → x ≡ x +ℤ cond (b && false) share (pos 0)
-    none true x = omega (arith, ints)
-    none false x = omega (arith, ints)
 
 -- ---- a setting begun anew
 
@@ -85,7 +87,8 @@ pub few-kept : (n : ℕ) (keep : List ℕ) → AreKept n keep → length keep �
 few-kept n [] kept = omega arith
 few-kept n (r ∷ keep) kept = omega (arith, few-from n r keep kept.ascending.1 kept.below.1 kept.ascending.0 kept.below.0)
 
-module _ (kept keep : List ℕ) (values values' : List ℤ) (flags flags' flags'' : List Bool) (is : IsSetting kept values flags) (is_kept : AreKept (length values) keep)
+module _ (kept keep : List ℕ) (values values' : List ℤ) (flags flags' flags'' : List Bool) (is : IsSetting kept values flags)
+    (is_kept : AreKept (length values) keep)
     (len : length values' ≡ length values) (marked : length flags' ≡ length flags) (marked' : length flags'' ≡ length flags')
     (cleared : (rank : ℕ) → value_at values' rank ≡ cond (among rank kept) (pos 0) (value_at values rank))
     (unmarked : (rank : ℕ) → get_or flags' rank false ≡ cond (among rank kept) false (get_or flags rank false))
@@ -101,7 +104,8 @@ module _ (kept keep : List ℕ) (values values' : List ℤ) (flags flags' flags'
   IsSetting-anew = record {
     below = subst (λ n. AllByRecursion (λ r. r < n) keep) (sym len) is_kept.below;
     marked = marked' ∙ marked ∙ is.marked ∙ sym len;
-    marks = λ rank. marks rank ∙ ap (λ b. among rank keep || b) (unmarked rank ∙ ap (cond (among rank kept) false) (is.marks rank) ∙ none (among rank kept)) ∙ or-false (among rank keep);
+    marks = λ rank. marks rank ∙ ap (λ b. among rank keep || b) (unmarked rank ∙ ap (cond (among rank kept) false) (is.marks rank) ∙ none (among rank kept))
+        ∙ or-false (among rank keep);
     zero = λ rank out. zero-anew rank;
   }
     where
@@ -132,14 +136,9 @@ has-before : (cells : List (ℕ × ℤ)) (i : ℕ) (d : ℕ × ℤ) → Ascend (
 has-before [] i d up within = absurd (omega arith)
 has-before (cell ∷ cells) zero d up within = refl
 has-before (cell ∷ cells) (suc i) d up within =
-    let later : cell.0 < (get_or cells i d).0 = at cells i up.0 (omega arith) in
+    let later : cell.0 < (get_or cells i d).0 = rank-above cell.0 cells i d up.0 (omega arith) in
     let other : eqb (get_or cells i d).0 cell.0 ≡ false = ne_eqb (get_or cells i d).0 cell.0 (λ e. absurd (omega arith)) in
     rw other (has-before cells i d up.1 (omega arith))
-  where
-    at : (cells : List (ℕ × ℤ)) (i : ℕ) → AllByRecursion (λ y. cell.0 < y) (items_in cells) → i < length cells → cell.0 < (get_or cells i d).0
-    at [] i all within = absurd (omega arith)
-    at (c ∷ cs) zero all within = all.0
-    at (c ∷ cs) (suc i) all within = at cs i all.1 (omega arith)
 
 -- what a rank has been given
 abbrev pub given : List ℕ → (ℕ → ℤ) → List (ℕ × ℤ) → ℕ → ℤ
@@ -157,7 +156,8 @@ given-push kept share cells cell rank fresh = elim (cases_eq rank cell.0) [
       rw (has-push rank cells cell) (rw other (two (among rank kept) (has rank cells)))
 ]
   where
-    one : (a : Bool) → share rank ≡ share cell.0 → cond (a && true) (share rank) (pos 0) ≡ cond (a && false) (share rank) (pos 0) +ℤ cond (a && true) (share cell.0) (pos 0)
+    one : (a : Bool) → share rank ≡ share cell.0 → cond (a && true) (share rank) (pos 0)
+        ≡ cond (a && false) (share rank) (pos 0) +ℤ cond (a && true) (share cell.0) (pos 0)
     one true e = omega (arith, ints)
     one false e = omega (arith, ints)
 
@@ -166,18 +166,23 @@ given-push kept share cells cell rank fresh = elim (cases_eq rank cell.0) [
     two true false = omega (arith, ints)
     two false h = omega (arith, ints)
 
-cells_of-more : (cells : List Dense) (i : ℕ) (d : Dense) → i < length cells → cells_of (take (i + 1) cells) ≡ cells_of (take i cells) ++ dense_pair (get_or cells i d) ∷ []
+cells_of-more : (cells : List Dense) (i : ℕ) (d : Dense) → i < length cells
+    → cells_of (take (i + 1) cells) ≡ cells_of (take i cells) ++ dense_pair (get_or cells i d) ∷ []
 cells_of-more cells i d within = ap cells_of (take_more cells i d within) ∙ map-append dense_pair (take i cells) (get_or cells i d ∷ [])
 
-pub fresh-at : (cells : List Dense) (i : ℕ) (d : Dense) → Ascend (items_in (cells_of cells)) → i < length cells → has (get_or cells i d).rank (cells_of (take i cells)) ≡ false
+pub fresh-at : (cells : List Dense) (i : ℕ) (d : Dense) → Ascend (items_in (cells_of cells)) → i < length cells
+    → has (get_or cells i d).rank (cells_of (take i cells)) ≡ false
 fresh-at cells i d up within =
     let before = has-before (cells_of cells) i (dense_pair d) up (omega (arith, length-map cells dense_pair)) in
-    ap (has (get_or cells i d).rank) (sym (take-map dense_pair i cells)) ∙ ap (λ (c : ℕ × ℤ). has c.0 (take i (cells_of cells))) (sym (get_or-cells_of cells i d within)) ∙ before
+    ap (has (get_or cells i d).rank) (sym (take-map dense_pair i cells))
+    ∙ ap (λ (c : ℕ × ℤ). has c.0 (take i (cells_of cells))) (sym (get_or-cells_of cells i d within)) ∙ before
 
 -- the value of each rank with one cell more
-pub given-more : (kept : List ℕ) (share : ℕ → ℤ) (cells : List Dense) (i : ℕ) (d : Dense) (first now then : List ℤ) → Ascend (items_in (cells_of cells)) → i < length cells
+pub given-more : (kept : List ℕ) (share : ℕ → ℤ) (cells : List Dense) (i : ℕ) (d : Dense) (first now then : List ℤ) → Ascend (items_in (cells_of cells))
+    → i < length cells
     → ((rank : ℕ) → value_at now rank ≡ value_at first rank +ℤ given kept share (cells_of (take i cells)) rank)
-    → ((rank : ℕ) → value_at then rank ≡ value_at now rank +ℤ cond (among rank kept && eqb rank (get_or cells i d).rank) (share (get_or cells i d).rank) (pos 0))
+    → ((rank : ℕ) → value_at then rank ≡ value_at now rank +ℤ cond (among rank kept && eqb rank (get_or cells i d).rank) (share (get_or cells i d).rank)
+    (pos 0))
     → (rank : ℕ) → value_at then rank ≡ value_at first rank +ℤ given kept share (cells_of (take (i + 1) cells)) rank
 given-more kept share cells i d first now then up within before added rank =
     let push = given-push kept share (cells_of (take i cells)) (dense_pair (get_or cells i d)) rank (fresh-at cells i d up within) in
@@ -185,7 +190,8 @@ given-more kept share cells i d first now then up within before added rank =
     omega (arith, ints, before rank, added rank, push, more)
 
 -- a rank that is met for the first time was given nothing so far
-pub given-fresh : (kept : List ℕ) (share : ℕ → ℤ) (cells : List Dense) (i : ℕ) (d : Dense) → Ascend (items_in (cells_of cells)) → i < length cells → given kept share (cells_of (take i cells)) (get_or cells i d).rank ≡ pos 0
+pub given-fresh : (kept : List ℕ) (share : ℕ → ℤ) (cells : List Dense) (i : ℕ) (d : Dense) → Ascend (items_in (cells_of cells)) → i < length cells
+    → given kept share (cells_of (take i cells)) (get_or cells i d).rank ≡ pos 0
 given-fresh kept share cells i d up within = rw (fresh-at cells i d up within) (none (among (get_or cells i d).rank kept))
   where
     none : (b : Bool) → cond (b && false) (share (get_or cells i d).rank) (pos 0) ≡ pos 0
@@ -198,12 +204,14 @@ kept_gain-append : (keep : List ℕ) (cells others : List (ℕ × ℤ)) → kept
 kept_gain-append keep [] others = omega (arith, ints)
 kept_gain-append keep (cell ∷ cells) others = omega (arith, ints, kept_gain-append keep cells others)
 
-pub kept_gain-more : (keep : List ℕ) (cells : List Dense) (i : ℕ) (d : Dense) → i < length cells → kept_gain keep (cells_of (take (i + 1) cells)) ≡ kept_gain keep (cells_of (take i cells)) +ℤ kept_part keep (dense_pair (get_or cells i d))
+pub kept_gain-more : (keep : List ℕ) (cells : List Dense) (i : ℕ) (d : Dense) → i < length cells
+    → kept_gain keep (cells_of (take (i + 1) cells)) ≡ kept_gain keep (cells_of (take i cells)) +ℤ kept_part keep (dense_pair (get_or cells i d))
 kept_gain-more keep cells i d within =
     let more = ap (kept_gain keep) (cells_of-more cells i d within) in
     omega (arith, ints, more, kept_gain-append keep (cells_of (take i cells)) (dense_pair (get_or cells i d) ∷ []))
 
-pub kept_gain-rest : (keep : List ℕ) (cells : List Dense) (i : ℕ) (d : Dense) → i < length cells → kept_gain keep (cells_of (drop i cells)) ≡ kept_part keep (dense_pair (get_or cells i d)) +ℤ kept_gain keep (cells_of (drop (i + 1) cells))
+pub kept_gain-rest : (keep : List ℕ) (cells : List Dense) (i : ℕ) (d : Dense) → i < length cells
+    → kept_gain keep (cells_of (drop i cells)) ≡ kept_part keep (dense_pair (get_or cells i d)) +ℤ kept_gain keep (cells_of (drop (i + 1) cells))
 kept_gain-rest keep cells i d within = ap (λ cs. kept_gain keep (cells_of cs)) (drop_more cells i d within)
 
 absolute-take : (cells : List Dense) (i : ℕ) → absolute_of (cells_of (take i cells)) ≤ absolute_of (cells_of cells)
@@ -216,32 +224,25 @@ kept_gain-take keep cells i = omega (arith, kept_gain-within keep (cells_of (tak
 
 -- the subtree share at a place
 pub subtree_share-at : (keep : List ℕ) (row : Row) (i : ℕ) (d : Dense) → Ascend (items_in (cells_of row.cells.now)) → i < length row.cells.now
-    → subtree_share keep (get_or row.cells.now i d).rank (row_of row) ≡ positive_part (row.before +ℤ (get_or row.cells.now i d).value +ℤ kept_gain keep (cells_of (drop (i + 1) row.cells.now)))
+    → subtree_share keep (get_or row.cells.now i d).rank (row_of row)
+    ≡ positive_part (row.before +ℤ (get_or row.cells.now i d).value +ℤ kept_gain keep (cells_of (drop (i + 1) row.cells.now)))
 subtree_share-at keep row i d up within =
-    let cells = row.cells.now in
-    let place = IsPlace-at (cells_of cells) i (dense_pair d) up (omega (arith, length-map cells dense_pair)) in
-    let pair = get_or-cells_of cells i d within in
-    let place' : IsPlace (get_or cells i d).rank (cells_of cells) (get_or cells i d).value (drop (suc i) (cells_of cells)) = subst (λ (c : ℕ × ℤ). IsPlace c.0 (cells_of cells) c.1 (drop (suc i) (cells_of cells))) pair place in
-    let tail : after (get_or cells i d).rank (cells_of cells) ≡ cells_of (drop (i + 1) cells) = place'.tail ∙ ap (λ n. drop n (cells_of cells)) (sym one) ∙ sym (drop-cells_of cells (i + 1)) in
-    λ j. positive_part (row.before +ℤ place'.worth j +ℤ kept_gain keep (tail j))
-  where
-    one : i + 1 ≡ suc i
-    one = omega arith
+    let place = IsPlace-cells row.cells.now i d up within in
+    λ j. positive_part (row.before +ℤ place.worth j +ℤ kept_gain keep (place.tail j))
 
 -- ---- one row more
 
-set_to-more : (keep : List ℕ) (rank : ℕ) (bound share : ℤ) (h : Bool) → cond (among rank keep) (bound +ℤ cond h share (pos 0)) (pos 0) ≡ cond (among rank keep) bound (pos 0) +ℤ cond (among rank keep && h) share (pos 0)
+set_to-more : (keep : List ℕ) (rank : ℕ) (bound share : ℤ) (h : Bool) → cond (among rank keep) (bound +ℤ cond h share (pos 0)) (pos 0)
+    ≡ cond (among rank keep) bound (pos 0) +ℤ cond (among rank keep && h) share (pos 0)
 set_to-more keep rank bound share h = by (among rank keep) h
   where
     by : (a b : Bool) → cond a (bound +ℤ cond b share (pos 0)) (pos 0) ≡ cond a bound (pos 0) +ℤ cond (a && b) share (pos 0)
     by true b = refl
     by false b = omega (arith, ints)
 
-rows_of-more : (rows : List Row) (i : ℕ) (d : Row) → i < length rows → rows_of (take (i + 1) rows) ≡ rows_of (take i rows) ++ row_of (get_or rows i d) ∷ []
-rows_of-more rows i d within = ap rows_of (take_more rows i d within) ∙ map-append row_of (take i rows) (get_or rows i d ∷ [])
-
 pub local-more : (rows : List Row) (keep : List ℕ) (i : ℕ) (d : Row) (rank : ℕ) → i < length rows
-    → set_to (local_bound (rows_of (take (i + 1) rows)) keep) keep rank ≡ set_to (local_bound (rows_of (take i rows)) keep) keep rank +ℤ local_part keep (row_of (get_or rows i d)) rank
+    → set_to (local_bound (rows_of (take (i + 1) rows)) keep) keep rank
+    ≡ set_to (local_bound (rows_of (take i rows)) keep) keep rank +ℤ local_part keep (row_of (get_or rows i d)) rank
 local-more rows keep i d rank within =
     let row = row_of (get_or rows i d) in
     ap (λ rs. set_to (local_bound rs keep) keep rank) (rows_of-more rows i d within)
@@ -249,7 +250,8 @@ local-more rows keep i d rank within =
     ∙ set_to-more keep rank (local_bound (rows_of (take i rows)) keep rank) (local_share keep row) (has rank row.cells)
 
 pub subtree-more : (rows : List Row) (keep : List ℕ) (i : ℕ) (d : Row) (rank : ℕ) → i < length rows
-    → set_to (subtree_bound (rows_of (take (i + 1) rows)) keep) keep rank ≡ set_to (subtree_bound (rows_of (take i rows)) keep) keep rank +ℤ subtree_part keep (row_of (get_or rows i d)) rank
+    → set_to (subtree_bound (rows_of (take (i + 1) rows)) keep) keep rank
+    ≡ set_to (subtree_bound (rows_of (take i rows)) keep) keep rank +ℤ subtree_part keep (row_of (get_or rows i d)) rank
 subtree-more rows keep i d rank within =
     let row = row_of (get_or rows i d) in
     ap (λ rs. set_to (subtree_bound rs keep) keep rank) (rows_of-more rows i d within)
@@ -263,20 +265,29 @@ set_to-within keep rank bound size h = by (among rank keep)
     by true = h
     by false = omega arith
 
-room : (rows : List Row) (i : ℕ) (d : Row) → i < length rows → sum_by size_of (rows_of (take i rows)) + size_of (row_of (get_or rows i d)) ≤ sum_by size_of (rows_of rows)
-room rows i d within = omega (arith, sum_by-rows_of size_of (take i rows), sum_by-rows_of size_of rows, sum_by_more_le (λ (r : Row). size_of (row_of r)) rows i d within)
-
-pub local-room : (rows : List Row) (keep : List ℕ) (i : ℕ) (d : Row) (rank : ℕ) (value : ℤ) → i < length rows → value ≡ set_to (local_bound (rows_of (take i rows)) keep) keep rank → sum_by size_of (rows_of rows) < 2 ^ 127
+pub local-room : (rows : List Row) (keep : List ℕ) (i : ℕ) (d : Row) (rank : ℕ) (value : ℤ) → i < length rows
+    → value ≡ set_to (local_bound (rows_of (take i rows)) keep) keep rank → sum_by size_of (rows_of rows) < 2 ^ 127
     → unsigned_abs value + size_of (row_of (get_or rows i d)) < 2 ^ 127
 local-room rows keep i d rank value within is fits =
     let all = rows_of (take i rows) in
-    omega (arith, ap unsigned_abs is, set_to-within keep rank (local_bound all keep rank) (sum_by size_of all) (local_bound-within all keep rank), room rows i d within)
+    omega (
+      arith,
+      ap unsigned_abs is,
+      set_to-within keep rank (local_bound all keep rank) (sum_by size_of all) (local_bound-within all keep rank),
+      sum_by-more size_of rows i d within,
+    )
 
-pub subtree-room : (rows : List Row) (keep : List ℕ) (i : ℕ) (d : Row) (rank : ℕ) (value : ℤ) → i < length rows → value ≡ set_to (subtree_bound (rows_of (take i rows)) keep) keep rank → sum_by size_of (rows_of rows) < 2 ^ 127
+pub subtree-room : (rows : List Row) (keep : List ℕ) (i : ℕ) (d : Row) (rank : ℕ) (value : ℤ) → i < length rows
+    → value ≡ set_to (subtree_bound (rows_of (take i rows)) keep) keep rank → sum_by size_of (rows_of rows) < 2 ^ 127
     → unsigned_abs value + size_of (row_of (get_or rows i d)) < 2 ^ 127
 subtree-room rows keep i d rank value within is fits =
     let all = rows_of (take i rows) in
-    omega (arith, ap unsigned_abs is, set_to-within keep rank (subtree_bound all keep rank) (sum_by size_of all) (subtree_bound-within all keep rank), room rows i d within)
+    omega (
+      arith,
+      ap unsigned_abs is,
+      set_to-within keep rank (subtree_bound all keep rank) (sum_by size_of all) (subtree_bound-within all keep rank),
+      sum_by-more size_of rows i d within,
+    )
 
 -- ---- the cells from a place on
 
@@ -286,7 +297,8 @@ absolute-drop [] (suc i) = omega arith
 absolute-drop (cell ∷ cells) (suc i) = omega (arith, sum_by-cons (λ (c : ℕ × ℤ). unsigned_abs c.1) (dense_pair cell) (cells_of cells), absolute-drop cells i)
 
 -- a value and the gain after it are within all values
-pub place-within : (keep : List ℕ) (cells : List Dense) (i : ℕ) (d : Dense) → i < length cells → unsigned_abs (get_or cells i d).value + unsigned_abs (kept_gain keep (cells_of (drop (i + 1) cells))) ≤ absolute_of (cells_of cells)
+pub place-within : (keep : List ℕ) (cells : List Dense) (i : ℕ) (d : Dense) → i < length cells
+    → unsigned_abs (get_or cells i d).value + unsigned_abs (kept_gain keep (cells_of (drop (i + 1) cells))) ≤ absolute_of (cells_of cells)
 place-within keep cells i d within =
     let rest = cells_of (drop (i + 1) cells) in
     let split = ap (λ cs. absolute_of (cells_of cs)) (drop_more cells i d within) in
@@ -301,14 +313,17 @@ pub same-fit : (z : ℤ) → unsigned_abs z < 2 ^ 127 → to_z w128 (of_z w128 z
 same-fit z fits = omega (arith, ints)
 
 -- what is left of the gain where a cell's part is taken
-pub rest-is : (keep : List ℕ) (cells : List Dense) (i : ℕ) (d : Dense) (rest part : ℤ) → i < length cells → absolute_of (cells_of cells) < 2 ^ 127 → rest ≡ kept_gain keep (cells_of (drop i cells)) → part ≡ kept_part keep (dense_pair (get_or cells i d))
+pub rest-is : (keep : List ℕ) (cells : List Dense) (i : ℕ) (d : Dense) (rest part : ℤ) → i < length cells → absolute_of (cells_of cells) < 2 ^ 127
+    → rest ≡ kept_gain keep (cells_of (drop i cells)) → part ≡ kept_part keep (dense_pair (get_or cells i d))
     → rest -ℤ part ≡ kept_gain keep (cells_of (drop (i + 1) cells))
 rest-is keep cells i d rest part within fits is e = omega (arith, ints, kept_gain-rest keep cells i d within)
 
 pub local_share-is : (kept : List ℕ) (row : RowOf) (gain r : ℤ) → gain ≡ kept_gain kept row.cells → size_of row < 2 ^ 127
-    → r ≡ positive_part (to_z w128 (of_z w128 (to_z w128 (of_z w128 row.before) +ℤ to_z w128 (of_z w128 gain)))) → to_z w128 (of_z w128 r) ≡ local_share kept row
+    → r ≡ positive_part (to_z w128 (of_z w128 (to_z w128 (of_z w128 row.before) +ℤ to_z w128 (of_z w128 gain))))
+    → to_z w128 (of_z w128 r) ≡ local_share kept row
 local_share-is kept row gain r is fits e =
     let within = kept_gain-within kept row.cells in
-    let worth : to_z w128 (of_z w128 (to_z w128 (of_z w128 row.before) +ℤ to_z w128 (of_z w128 gain))) ≡ row.before +ℤ kept_gain kept row.cells = omega (arith, ints) in
+    let worth : to_z w128 (of_z w128 (to_z w128 (of_z w128 row.before) +ℤ to_z w128 (of_z w128 gain))) ≡ row.before +ℤ kept_gain kept row.cells =
+    omega (arith, ints) in
     let share : r ≡ local_share kept row = e ∙ ap positive_part worth in
     omega (arith, ints, share, local_share-within kept row)

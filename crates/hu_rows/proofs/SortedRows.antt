@@ -6,7 +6,8 @@ use Rattle.std.specs.Ordering.{is_lt}
 use Rattle.std.proofs.lemmas.Int.{ints}
 use Rattle.std.proofs.lemmas.List.Sums.{sum_by-cons}
 use Rattle.std.proofs.lemmas.Result.{IfOk-weaker}
-use Rattle.std.proofs.lemmas.List.Sorted.{sum_by-IsPermutation, list_any-IsPermutation, Contains-permutation, IsPermutation-map, IsPermutation-sym, sorted_far, ranks_by}
+use Rattle.std.proofs.lemmas.List.Sorted.{sum_by-IsPermutation, list_any-IsPermutation, Contains-permutation, IsPermutation-map, IsPermutation-sym}
+use Rattle.std.proofs.lemmas.List.Sorted.{sorted_far, ranks_by}
 use borrow.Author.Differences.{up, down}
 use Rattle.hu_kind.specs.Order.{Ascend}
 use Rattle.hu_kind.proofs.lemmas.Members.{Member, Contains-from_member, Member-from_contains, Member-flat_map, Member-from_flat_map}
@@ -17,13 +18,15 @@ use Rattle.hu_rows.specs.Merging.{row_cmp, merged, IsMerging}
 use Rattle.hu_rows.specs.View.{row_of, rows_of, row_below}
 use Rattle.hu_rows.proofs.CellChecks.{each-rows}
 use Rattle.hu_rows.proofs.AddedCells.{over_row-added, count_in-added}
-use Rattle.hu_rows.proofs.MergingLemmas.{row_cmp_total, Rising, sum_over-merged, sum_by-merged, list_any-merged, each-merged, AreApart-merged, AreRows-merged, counted-merged}
+use Rattle.hu_rows.proofs.MergingLemmas.{row_cmp_total, Rising, sum_over-merged, sum_by-merged, list_any-merged, each-merged, AreApart-merged}
+use Rattle.hu_rows.proofs.MergingLemmas.{AreRows-merged, counted-merged}
 use Rattle.hu_rows.proofs.SumLemmas.{SameSums, AreSums-same}
 use Rattle.hu_rows.specs.Sums.{sum_over}
 
 -- ---- what rows add, in another order and merged
 
-sum_over-parts : (f : RowOf → ℤ) (rows : List RowOf) → up (sum_over f rows) + sum_by (λ row. down (f row)) rows ≡ down (sum_over f rows) + sum_by (λ row. up (f row)) rows
+sum_over-parts : (f : RowOf → ℤ) (rows : List RowOf) → up (sum_over f rows) + sum_by (λ row. down (f row)) rows
+    ≡ down (sum_over f rows) + sum_by (λ row. up (f row)) rows
 sum_over-parts f [] = refl
 sum_over-parts f (row ∷ rows) = omega (arith, ints, sum_by-cons (λ r. down (f r)) row rows, sum_by-cons (λ r. up (f r)) row rows, sum_over-parts f rows)
 
@@ -59,7 +62,8 @@ Member-permutation xs ys x same m = Member-from_contains x xs (Contains-permutat
 
 pub AreRows-permutation : (rows others : List RowOf) → IsPermutation rows others → AreRows rows → AreRows others
 AreRows-permutation rows others same rules = record {
-  ascending = by_members (λ row. Ascend (ranks_of row)) others (λ row m. at_member (λ r. Ascend (ranks_of r)) row rows rules.ascending (Member-permutation rows others row same m));
+  ascending = by_members (λ row. Ascend (ranks_of row)) others
+      (λ row m. at_member (λ r. Ascend (ranks_of r)) row rows rules.ascending (Member-permutation rows others row same m));
   sizes = omega (arith, sum_by-IsPermutation size_of rows others same, rules.sizes);
   counts = omega (arith, sum_by-IsPermutation count_of rows others same, rules.counts);
 }
@@ -84,10 +88,12 @@ by_places : {A : Type 0} (P : A → Type 0) (xs : List A) (d : A) → ((k : ℕ)
 by_places P [] d each = tt
 by_places P (x ∷ xs) d each = (each 0 (omega arith), by_places P xs d (λ k within. each (suc k) (omega arith)))
 
-Rising-places : (rows : List Row) → ((i j : ℕ) (d : Row) → i ≤ j → j < length rows → row_below (get_or rows j d) (get_or rows i d) ≡ false) → Rising (rows_of rows)
+Rising-places : (rows : List Row) → ((i j : ℕ) (d : Row) → i ≤ j → j < length rows → row_below (get_or rows j d) (get_or rows i d) ≡ false)
+    → Rising (rows_of rows)
 Rising-places [] far = tt
 Rising-places (row ∷ rows) far = (
-  each-rows (λ other. is_lt (row_cmp other (row_of row)) ≡ false) rows (by_places (λ other. is_lt (row_cmp (row_of other) (row_of row)) ≡ false) rows row (λ k within. far 0 (suc k) row (omega arith) (omega arith))),
+  each-rows (λ other. is_lt (row_cmp other (row_of row)) ≡ false) rows
+      (by_places (λ other. is_lt (row_cmp (row_of other) (row_of row)) ≡ false) rows row (λ k within. far 0 (suc k) row (omega arith) (omega arith))),
   Rising-places rows (λ i j d before within. far (suc i) (suc j) d (omega arith) (omega arith)),
 )
 

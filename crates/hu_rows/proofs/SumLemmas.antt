@@ -9,7 +9,7 @@ use Rattle.std.proofs.lemmas.List.Sums.{sum_by-cons}
 use Rattle.std.proofs.lemmas.Slice.Eq.{bytes_eq-Decides}
 use Rattle.hu_kind.specs.Order.{Ascend}
 use Rattle.hu_kind.specs.Record.{value_of, items_in}
-use Rattle.hu_kind.proofs.lemmas.Members.{Member, Member-map, Member-from_filter}
+use Rattle.hu_kind.proofs.lemmas.Members.{Member-map, Member-from_filter}
 use Rattle.hu_kind.proofs.lemmas.Occurring.{at_member, by_members}
 use Rattle.hu_rows.specs.Rows.{RowOf, AreApart, ranks_of, count_of}
 use Rattle.hu_rows.specs.Sums.{has_ranks, with_ranks, sum_over, sum_row, summed, AreSums}
@@ -146,7 +146,8 @@ apart-filter p (row ∷ rows) apart = by (p row) (apart-filter p rows apart.1)
     by false ih = ih
 
 -- of rows of these ranks that are apart there is one at most
-one-row : (ranks : List ℕ) (xs ys : List RowOf) → list_any (λ (row : RowOf). true) xs ≡ list_any (λ (row : RowOf). true) ys → AreApart xs → AllByRecursion (IsOf ranks) xs
+one-row : (ranks : List ℕ) (xs ys : List RowOf) → list_any (λ (row : RowOf). true) xs ≡ list_any (λ (row : RowOf). true) ys → AreApart xs
+    → AllByRecursion (IsOf ranks) xs
     → ((row : RowOf) → xs ≡ row ∷ [] → HasSums row ys) → xs ≡ summed ranks ys
 one-row ranks [] [] some apart of sums = refl
 one-row ranks [] (y ∷ ys) some apart of sums = cc
@@ -154,7 +155,8 @@ one-row ranks (x ∷ xs) [] some apart of sums = cc
 one-row ranks (x ∷ []) (y ∷ ys) some apart of sums = ap (λ row. row ∷ []) (sum_row-is ranks x (y ∷ ys) of.0 (sums x refl))
 one-row ranks (x ∷ next ∷ xs) (y ∷ ys) some apart of sums = absurd (apart.0.0 (of.0.is ∙ sym of.1.0.is))
 
-pub AreSums-same : (rows answer : List RowOf) → SameSums rows answer → AreApart answer → AllByRecursion (λ row. Ascend (ranks_of row)) answer → AreSums rows answer
+pub AreSums-same : (rows answer : List RowOf) → SameSums rows answer → AreApart answer → AllByRecursion (λ row. Ascend (ranks_of row)) answer
+    → AreSums rows answer
 AreSums-same rows answer same apart up ranks =
     one-row ranks (with_ranks ranks answer) (with_ranks ranks rows)
     (with-some ranks rows answer same)

@@ -1,27 +1,32 @@
 -- What rows tell of ranks, cell by cell and row by row.
-use Rattle.std.proofs.Common.{◌≡◌, ℕ, zero, suc, ◌+◌, ◌-◌, ◌^◌, ◌<◌, ◌≤◌, Bool, true, false, cond, eqb, ◌&&◌, ◌||◌, ℤ, pos, unsigned_abs, ◌+ℤ◌, ◌≤ℤ◌, List, [], ◌∷◌, ◌++◌, length, get_or, set, take, drop, inl, inr, ◌⊎◌, refl, sym, ap, ◌∙◌, subst, to_z, of_z, arith, sum_by, Contains}
+use Rattle.std.proofs.Common.{◌≡◌, ℕ, zero, suc, ◌+◌, ◌-◌, ◌^◌, ◌<◌, ◌≤◌, Bool, true, false, cond, eqb, ◌&&◌, ◌||◌, ℤ, pos, unsigned_abs, ◌+ℤ◌}
+use Rattle.std.proofs.Common.{List, [], ◌∷◌, ◌++◌, length, get_or, set, take, drop, inl, inr, refl, sym, ap, ◌∙◌, subst, to_z, of_z, arith}
+use Rattle.std.proofs.Common.{sum_by, Contains}
 use Rattle.std.specs.Int.{w128}
 use Rattle.std.specs.List.{AllByRecursion}
 use Rattle.std.proofs.lemmas.Bool.{ne_eqb, eq-eqb, cases_eq}
 use Rattle.std.proofs.lemmas.Int.{ints}
-use Rattle.std.proofs.lemmas.List.{length-map, length-set, get_or-set_same, get_or-set_other, take_more, drop_more, map-append}
-use Rattle.std.proofs.lemmas.List.Sums.{sum_by-cons, sum_by_more_le}
+use Rattle.std.proofs.lemmas.List.{take_rest, get_or-set_same, get_or-set_other, drop_more}
+use Rattle.std.proofs.lemmas.List.Sums.{sum_by-cons}
 use Rattle.hu_kind.specs.Order.{Ascend}
 use Rattle.hu_kind.specs.Record.{has, value_of, gain, items_in, absolute_of, positive_part}
 use Rattle.hu_totals.specs.declared.ranked.Dense.{Dense}
 use Rattle.hu_totals.specs.View.{dense_pair}
 use Rattle.hu_rows.specs.declared.rows.Row.{Row}
 use Rattle.hu_rows.specs.declared.tally.Tally.{Tally}
-use Rattle.hu_rows.specs.Rows.{RowOf, AreRows, over, count_over, ranks_of, size_of, count_of}
+use Rattle.hu_rows.specs.Rows.{RowOf, AreRows, ranks_of, size_of, count_of}
 use Rattle.hu_rows.specs.Projection.{after}
-use Rattle.hu_rows.specs.Tally.{tally_with, no_tally, plus, tally_at, share_if, row_share, most, most_with, tail_most, tail_share, most_over, tail_over, told, tail_told, Fits, HasRoom, AreNoted, Adds}
+use Rattle.hu_rows.specs.Tally.{tally_with, no_tally, plus, tally_at, share_if, row_share, most, most_with, tail_most, tail_share, most_over}
+use Rattle.hu_rows.specs.Tally.{tail_over, told, tail_told, Fits, HasRoom, AreNoted, Adds}
 use Rattle.hu_rows.specs.View.{cells_of, row_of, rows_of}
-use Rattle.hu_rows.proofs.AddedCells.{get_or-cells_of, drop-cells_of}
-use Rattle.hu_rows.proofs.CellLemmas.{IsPlace, IsPlace-at, absolute_of-after}
-use Rattle.hu_rows.proofs.BoundLemmas.{positive-within, positive-least}
+use Rattle.hu_rows.proofs.CellLemmas.{IsPlace, absolute_of-after}
+use Rattle.hu_rows.proofs.CellChecks.{IsPlace-cells}
+use Rattle.hu_rows.proofs.RankOrder.{length-ranks, get_or-ranks}
 use Rattle.hu_rows.proofs.ProjectionLemmas.{over-append, count_over-append}
-use Rattle.hu_rows.proofs.RunLemmas.{sum_by-rows_of}
+use Rattle.hu_rows.proofs.RunLemmas.{rows_of-more, sum_by-more}
 use Rattle.hu_rows.proofs.SettingLemmas.{same-fit}
+use Rattle.hu_kind.proofs.lemmas.Earned.{gain-within, positive_part-within}
+use Rattle.hu_kind.proofs.lemmas.Each.{each-get}
 
 -- ---- sums of tallies
 
@@ -39,18 +44,21 @@ plus-assoc a b c = tally-equal (plus (plus a b) c) (plus a (plus b c)) (omega (a
 
 -- ---- one rank's tally written
 
-pub adds-set : (tallies : List Tally) (rank : ℕ) (share v : Tally) → rank < length tallies → v ≡ plus (tally_at tallies rank) share → Adds (λ other. share_if (eqb other rank) share) tallies (set tallies rank v)
+pub adds-set : (tallies : List Tally) (rank : ℕ) (share v : Tally) → rank < length tallies → v ≡ plus (tally_at tallies rank) share
+    → Adds (λ other. share_if (eqb other rank) share) tallies (set tallies rank v)
 adds-set tallies rank share v within is other = elim (cases_eq other rank) [
   | inl e ↦
       let here : eqb other rank ≡ true = eq-eqb other rank e in
-      let written : get_or (set tallies rank v) other no_tally ≡ v = ap (λ r. get_or (set tallies rank v) r no_tally) e ∙ get_or-set_same tallies rank v no_tally within in
+      let written : get_or (set tallies rank v) other no_tally ≡ v = ap (λ r. get_or (set tallies rank v) r no_tally) e
+      ∙ get_or-set_same tallies rank v no_tally within in
       rw here (written ∙ is ∙ ap (λ r. plus (tally_at tallies r) share) (sym e))
   | inr ne ↦
       let no : eqb other rank ≡ false = ne_eqb other rank ne in
       rw no (get_or-set_other tallies rank other v no_tally ne ∙ sym (plus-none (tally_at tallies other)))
 ]
 
-pub taken-set : (tallies : List Tally) (rank : ℕ) → rank < length tallies → (other : ℕ) → tally_at (set tallies rank no_tally) other ≡ cond (eqb other rank) no_tally (tally_at tallies other)
+pub taken-set : (tallies : List Tally) (rank : ℕ) → rank < length tallies → (other : ℕ)
+    → tally_at (set tallies rank no_tally) other ≡ cond (eqb other rank) no_tally (tally_at tallies other)
 taken-set tallies rank within other = elim (cases_eq other rank) [
   | inl e ↦
       let here : eqb other rank ≡ true = eq-eqb other rank e in
@@ -89,10 +97,12 @@ module _ (share : ℕ → Tally) (cells : List Dense) (i : ℕ) (d : Dense) (up 
   pub told_by-fresh : told_by share (drop (i + 1) cells) (get_or cells i d).rank ≡ no_tally
   told_by-fresh = ap (λ b. share_if b (share (get_or cells i d).rank)) fresh
 
-  pub told_by-more : (rank : ℕ) → told_by share (drop i cells) rank ≡ plus (told_by share (drop (i + 1) cells) rank) (share_if (eqb rank (get_or cells i d).rank) (share (get_or cells i d).rank))
+  pub told_by-more : (rank : ℕ) → told_by share (drop i cells) rank
+      ≡ plus (told_by share (drop (i + 1) cells) rank) (share_if (eqb rank (get_or cells i d).rank) (share (get_or cells i d).rank))
   told_by-more rank =
       let z = (get_or cells i d).rank in
-      let split : told_by share (drop i cells) rank ≡ share_if (eqb rank z || has rank (cells_of (drop (i + 1) cells))) (share rank) = ap (λ cs. told_by share cs rank) (drop_more cells i d within) in
+      let split : told_by share (drop i cells) rank ≡ share_if (eqb rank z || has rank (cells_of (drop (i + 1) cells))) (share rank) =
+      ap (λ cs. told_by share cs rank) (drop_more cells i d within) in
       split ∙ elim (cases_eq rank z) [
         | inl e ↦
             let here : eqb rank z ≡ true = eq-eqb rank z e in
@@ -104,8 +114,10 @@ module _ (share : ℕ → Tally) (cells : List Dense) (i : ℕ) (d : Dense) (up 
       ]
 
 -- the tallies with one cell more
-pub adds-more : (share : ℕ → Tally) (cells : List Dense) (i : ℕ) (d : Dense) (first now then : List Tally) (one : Tally) → Ascend (items_in (cells_of cells)) → i < length cells
-    → Adds (told_by share (drop (i + 1) cells)) first now → one ≡ share (get_or cells i d).rank → Adds (λ other. share_if (eqb other (get_or cells i d).rank) one) now then → Adds (told_by share (drop i cells)) first then
+pub adds-more : (share : ℕ → Tally) (cells : List Dense) (i : ℕ) (d : Dense) (first now then : List Tally) (one : Tally) → Ascend (items_in (cells_of cells))
+    → i < length cells
+    → Adds (told_by share (drop (i + 1) cells)) first now → one ≡ share (get_or cells i d).rank
+    → Adds (λ other. share_if (eqb other (get_or cells i d).rank) one) now then → Adds (told_by share (drop i cells)) first then
 adds-more share cells i d first now then one up within before is added rank =
     added rank
     ∙ (λ j. plus (before rank j) (share_if (eqb rank (get_or cells i d).rank) (is j)))
@@ -126,35 +138,14 @@ adds-none share [] (suc i) first end = λ rank. sym (plus-none (tally_at first r
 adds-none share (cell ∷ cells) zero first end = absurd (omega arith)
 adds-none share (cell ∷ cells) (suc i) first end = adds-none share cells i first (omega arith)
 
--- ---- what a row tells at a place
-
-pub place-at : (row : Row) (i : ℕ) (d : Dense) → Ascend (ranks_of (row_of row)) → i < length row.cells.now
-    → IsPlace (get_or row.cells.now i d).rank (cells_of row.cells.now) (get_or row.cells.now i d).value (cells_of (drop (i + 1) row.cells.now))
-place-at row i d up within =
-    let cells = row.cells.now in
-    let place = IsPlace-at (cells_of cells) i (dense_pair d) up (omega (arith, length-map cells dense_pair)) in
-    let pair = get_or-cells_of cells i d within in
-    let place' : IsPlace (get_or cells i d).rank (cells_of cells) (get_or cells i d).value (drop (suc i) (cells_of cells)) =
-    subst (λ (c : ℕ × ℤ). IsPlace c.0 (cells_of cells) c.1 (drop (suc i) (cells_of cells))) pair place in
-    let one : i + 1 ≡ suc i = omega arith in
-    record {
-      found = place'.found;
-      worth = place'.worth;
-      tail = place'.tail ∙ ap (λ n. drop n (cells_of cells)) (sym one) ∙ sym (drop-cells_of cells (i + 1));
-    }
-
 -- ---- sizes
 
-pub gain-within : (cells : List (ℕ × ℤ)) → unsigned_abs (gain cells) ≤ absolute_of cells
-gain-within [] = omega arith
-gain-within (cell ∷ cells) = omega (arith, ints, sum_by-cons (λ (c : ℕ × ℤ). unsigned_abs c.1) cell cells, positive-within cell.1, gain-within cells)
-
 pub most-within : (row : RowOf) → unsigned_abs (most row) ≤ size_of row
-most-within row = omega (arith, ints, positive-within (row.before +ℤ gain row.cells), gain-within row.cells)
+most-within row = omega (arith, ints, positive_part-within (row.before +ℤ gain row.cells), gain-within row.cells)
 
 most_with-within : (earned : ℤ) (cells : List (ℕ × ℤ)) → unsigned_abs (most_with earned cells) ≤ unsigned_abs earned + absolute_of cells
 most_with-within earned [] = omega arith
-most_with-within earned (cell ∷ cells) = omega (arith, ints, positive-within (earned +ℤ gain (cell ∷ cells)), gain-within (cell ∷ cells))
+most_with-within earned (cell ∷ cells) = omega (arith, ints, positive_part-within (earned +ℤ gain (cell ∷ cells)), gain-within (cell ∷ cells))
 
 pub tail_most-within : (row : RowOf) (z : ℕ) → unsigned_abs (tail_most row z) ≤ size_of row
 tail_most-within row z = omega (arith, ints, most_with-within (row.before +ℤ value_of z row.cells) (after z row.cells), absolute_of-after z row.cells)
@@ -162,47 +153,42 @@ tail_most-within row z = omega (arith, ints, most_with-within (row.before +ℤ v
 pub value-size : (row : RowOf) (z : ℕ) → unsigned_abs (row.before +ℤ value_of z row.cells) ≤ size_of row
 value-size row z = omega (arith, ints, absolute_of-after z row.cells)
 
-pub rest-within : (cells : List Dense) (i : ℕ) (d : Dense) → i < length cells → unsigned_abs (gain (cells_of (drop (i + 1) cells))) + unsigned_abs (get_or cells i d).value ≤ absolute_of (cells_of cells)
+pub rest-within : (cells : List Dense) (i : ℕ) (d : Dense) → i < length cells
+    → unsigned_abs (gain (cells_of (drop (i + 1) cells))) + unsigned_abs (get_or cells i d).value ≤ absolute_of (cells_of cells)
 rest-within [] i d within = absurd (omega arith)
-rest-within (cell ∷ cells) zero d within = omega (arith, sum_by-cons (λ (c : ℕ × ℤ). unsigned_abs c.1) (dense_pair cell) (cells_of cells), gain-within (cells_of cells))
+rest-within (cell ∷ cells) zero d within =
+    omega (arith, sum_by-cons (λ (c : ℕ × ℤ). unsigned_abs c.1) (dense_pair cell) (cells_of cells), gain-within (cells_of cells))
 rest-within (cell ∷ cells) (suc i) d within =
     let next : suc i + 1 ≡ suc (i + 1) = omega arith in
-    let later : unsigned_abs (gain (cells_of (drop (suc i + 1) (cell ∷ cells)))) ≡ unsigned_abs (gain (cells_of (drop (i + 1) cells))) = ap (λ n. unsigned_abs (gain (cells_of (drop n (cell ∷ cells))))) next in
+    let later : unsigned_abs (gain (cells_of (drop (suc i + 1) (cell ∷ cells)))) ≡ unsigned_abs (gain (cells_of (drop (i + 1) cells))) =
+    ap (λ n. unsigned_abs (gain (cells_of (drop n (cell ∷ cells))))) next in
     omega (arith, later, sum_by-cons (λ (c : ℕ × ℤ). unsigned_abs c.1) (dense_pair cell) (cells_of cells), rest-within cells i d (omega arith))
-
-length-ranks : (cells : List Dense) → length (items_in (cells_of cells)) ≡ length cells
-length-ranks [] = refl
-length-ranks (cell ∷ cells) = ap suc (length-ranks cells)
-
-rank-get : (cells : List Dense) (i : ℕ) (d : Dense) → i < length cells → get_or (items_in (cells_of cells)) i 0 ≡ (get_or cells i d).rank
-rank-get [] i d within = absurd (omega arith)
-rank-get (cell ∷ cells) zero d within = refl
-rank-get (cell ∷ cells) (suc i) d within = rank-get cells i d (omega arith)
-
-each-get : (P : ℕ → Type 0) (xs : List ℕ) (i d : ℕ) → AllByRecursion P xs → i < length xs → P (get_or xs i d)
-each-get P [] i d all within = absurd (omega arith)
-each-get P (x ∷ xs) zero d all within = all.0
-each-get P (x ∷ xs) (suc i) d all within = each-get P xs i d all.1 (omega arith)
 
 pub gain-drop-within : (cells : List Dense) (i : ℕ) → unsigned_abs (gain (cells_of (drop i cells))) ≤ absolute_of (cells_of cells)
 gain-drop-within cells zero = gain-within (cells_of cells)
 gain-drop-within [] (suc i) = omega arith
-gain-drop-within (cell ∷ cells) (suc i) = omega (arith, sum_by-cons (λ (c : ℕ × ℤ). unsigned_abs c.1) (dense_pair cell) (cells_of cells), gain-drop-within cells i)
+gain-drop-within (cell ∷ cells) (suc i) =
+    omega (arith, sum_by-cons (λ (c : ℕ × ℤ). unsigned_abs c.1) (dense_pair cell) (cells_of cells), gain-drop-within cells i)
 
 -- the gain of the cells from a place on with the cell before it
-pub gain-room : (cells : List Dense) (place : ℕ) (d : Dense) → 0 < place → place ≤ length cells → unsigned_abs (gain (cells_of (drop place cells))) + unsigned_abs (get_or cells (place - 1) d).value ≤ absolute_of (cells_of cells)
+pub gain-room : (cells : List Dense) (place : ℕ) (d : Dense) → 0 < place → place ≤ length cells
+    → unsigned_abs (gain (cells_of (drop place cells))) + unsigned_abs (get_or cells (place - 1) d).value ≤ absolute_of (cells_of cells)
 gain-room cells place d some within =
     let one : place - 1 + 1 ≡ place = omega arith in
-    let rest : unsigned_abs (gain (cells_of (drop (place - 1 + 1) cells))) ≡ unsigned_abs (gain (cells_of (drop place cells))) = ap (λ m. unsigned_abs (gain (cells_of (drop m cells)))) one in
+    let rest : unsigned_abs (gain (cells_of (drop (place - 1 + 1) cells))) ≡ unsigned_abs (gain (cells_of (drop place cells))) =
+    ap (λ m. unsigned_abs (gain (cells_of (drop m cells)))) one in
     omega (arith, rest, rest-within cells (place - 1) d (omega arith))
 
-pub gain-more : (cells : List Dense) (place : ℕ) (d : Dense) → 0 < place → place ≤ length cells → gain (cells_of (drop (place - 1) cells)) ≡ positive_part (get_or cells (place - 1) d).value +ℤ gain (cells_of (drop place cells))
+pub gain-more : (cells : List Dense) (place : ℕ) (d : Dense) → 0 < place → place ≤ length cells
+    → gain (cells_of (drop (place - 1) cells)) ≡ positive_part (get_or cells (place - 1) d).value +ℤ gain (cells_of (drop place cells))
 gain-more cells place d some within =
     let one : place - 1 + 1 ≡ place = omega arith in
-    ap (λ cs. gain (cells_of cs)) (drop_more cells (place - 1) d (omega arith)) ∙ ap (λ m. positive_part (get_or cells (place - 1) d).value +ℤ gain (cells_of (drop m cells))) one
+    ap (λ cs. gain (cells_of cs)) (drop_more cells (place - 1) d (omega arith))
+    ∙ ap (λ m. positive_part (get_or cells (place - 1) d).value +ℤ gain (cells_of (drop m cells))) one
 
 -- the gain with the value before it, as it is summed
-pub gain-step : (cells : List Dense) (place : ℕ) (d : Dense) → 0 < place → place ≤ length cells → (value sum : ℤ) {r : ℤ} → sum ≡ gain (cells_of (drop place cells)) → value ≡ (get_or cells (place - 1) d).value
+pub gain-step : (cells : List Dense) (place : ℕ) (d : Dense) → 0 < place → place ≤ length cells → (value sum : ℤ) {r : ℤ}
+    → sum ≡ gain (cells_of (drop place cells)) → value ≡ (get_or cells (place - 1) d).value
     → absolute_of (cells_of cells) < 2 ^ 127 → r ≡ positive_part value +ℤ sum → to_z w128 (of_z w128 r) ≡ gain (cells_of (drop (place - 1) cells))
 gain-step cells place d some within value sum {r = r} is worth fits e =
     let all : r ≡ gain (cells_of (drop (place - 1) cells)) = e ∙ (λ j. positive_part (worth j) +ℤ is j) ∙ sym (gain-more cells place d some within) in
@@ -231,6 +217,10 @@ pub record Turn (row : Row) (n place : ℕ) : Type 0 where
   pub some : 0 < place
   pub within : place ≤ length row.cells.now
 
+pub Turn-at : (row : Row) (n place : ℕ) → Ascend (ranks_of (row_of row)) → AllByRecursion (λ rank. rank < n) (ranks_of (row_of row))
+    → 0 < place → place ≤ length row.cells.now → Turn row n place
+Turn-at row n place up below some within = record { ascending = up; below = below; some = some; within = within }
+
 -- the cell before a place
 abbrev pub cell_before : Row → ℕ → Dense → Dense
 cell_before row place d = get_or row.cells.now (place - 1) d
@@ -245,14 +235,16 @@ module _ {row : Row} {n place : ℕ} (turn : Turn row n place) (d : Dense) where
   pub turn-rank : (cell_before row place d).rank < n
   turn-rank =
       let at = each-get (λ rank. rank < n) (items_in (cells_of row.cells.now)) (place - 1) 0 turn.below (omega (arith, inside, length-ranks row.cells.now)) in
-      subst (λ rank. rank < n) (rank-get row.cells.now (place - 1) d inside) at
+      subst (λ rank. rank < n) (get_or-ranks row.cells.now (place - 1) d inside) at
 
   pub turn-value : unsigned_abs row.before + unsigned_abs (cell_before row place d).value ≤ size_of (row_of row)
   turn-value = omega (arith, rest-within row.cells.now (place - 1) d inside)
 
-  pub turn-earned : unsigned_abs (row.before +ℤ (cell_before row place d).value) + unsigned_abs (gain (cells_of (drop place row.cells.now))) ≤ size_of (row_of row)
+  pub turn-earned : unsigned_abs (row.before +ℤ (cell_before row place d).value) + unsigned_abs (gain (cells_of (drop place row.cells.now))) ≤ size_of
+      (row_of row)
   turn-earned =
-      let rest : unsigned_abs (gain (cells_of (drop (place - 1 + 1) row.cells.now))) ≡ unsigned_abs (gain (cells_of (drop place row.cells.now))) = ap (λ m. unsigned_abs (gain (cells_of (drop m row.cells.now)))) one in
+      let rest : unsigned_abs (gain (cells_of (drop (place - 1 + 1) row.cells.now))) ≡ unsigned_abs (gain (cells_of (drop place row.cells.now))) =
+      ap (λ m. unsigned_abs (gain (cells_of (drop m row.cells.now)))) one in
       omega (arith, ints, rest, rest-within row.cells.now (place - 1) d inside)
 
   module _ (share : ℕ → Tally) (first now : List Tally) (before : Adds (told_by share (drop place row.cells.now)) first now) where
@@ -271,21 +263,46 @@ module _ {row : Row} {n place : ℕ} (turn : Turn row n place) (d : Dense) where
       bound = let r = room.bound in omega (arith, r, b);
     })
 
-    pub turn-adds : (then : List Tally) (given : Tally) → given ≡ share (cell_before row place d).rank → Adds (λ other. share_if (eqb other (cell_before row place d).rank) given) now then
+    pub turn-adds : (then : List Tally) (given : Tally) → given ≡ share (cell_before row place d).rank
+        → Adds (λ other. share_if (eqb other (cell_before row place d).rank) given) now then
         → Adds (told_by share (drop (place - 1) row.cells.now)) first then
     turn-adds then given is added = adds-more share row.cells.now (place - 1) d first now then given turn.ascending inside before' is added
 
   pub turn-place : IsPlace (cell_before row place d).rank (cells_of row.cells.now) (cell_before row place d).value (cells_of (drop place row.cells.now))
-  turn-place = subst (λ m. IsPlace (cell_before row place d).rank (cells_of row.cells.now) (cell_before row place d).value (cells_of (drop m row.cells.now))) one
-      (place-at row (place - 1) d turn.ascending inside)
+  turn-place =
+      subst (λ m. IsPlace (cell_before row place d).rank (cells_of row.cells.now) (cell_before row place d).value (cells_of (drop m row.cells.now))) one
+      (IsPlace-cells row.cells.now (place - 1) d turn.ascending inside)
 
   -- what the row tells of the cell's rank
-  pub turn-share : (bound : ℤ) → bound ≡ most (row_of row) → tally_with (row.before +ℤ (cell_before row place d).value) row.count bound ≡ row_share (row_of row) (cell_before row place d).rank
+  pub turn-share : (bound : ℤ) → bound ≡ most (row_of row) → tally_with (row.before +ℤ (cell_before row place d).value) row.count bound
+      ≡ row_share (row_of row) (cell_before row place d).rank
   turn-share bound is = λ j. tally_with (row.before +ℤ sym turn-place.worth j) row.count (is j)
 
   pub turn-tail : tally_with (pos 0) 0 (most_with (row.before +ℤ (cell_before row place d).value) (cells_of (drop place row.cells.now)))
       ≡ tail_share (row_of row) (cell_before row place d).rank
   turn-tail = λ j. tally_with (pos 0) 0 (most_with (row.before +ℤ sym turn-place.worth j) (sym turn-place.tail j))
+
+  -- what the prefix earned with the cell, as it is summed
+  pub turn-sum : (earned : ℤ) → size_of (row_of row) < 2 ^ 127
+      → earned ≡ to_z w128 (of_z w128 row.before) +ℤ to_z w128 (of_z w128 (cell_before row place d).value)
+      → to_z w128 (of_z w128 earned) ≡ row.before +ℤ (cell_before row place d).value
+  turn-sum earned size is =
+      let before : to_z w128 (of_z w128 row.before) ≡ row.before = same-fit row.before (omega (arith, turn-value)) in
+      let value = same-fit (cell_before row place d).value (omega (arith, turn-value)) in
+      ap (λ z. to_z w128 (of_z w128 z)) (is ∙ (λ j. before j +ℤ value j))
+      ∙ same-fit (row.before +ℤ (cell_before row place d).value) (omega (arith, turn-earned))
+
+  -- the cells after a place, as they are sliced
+  pub turn-rest : take (length row.cells.now - (place - 1 + 1)) (drop (place - 1 + 1) row.cells.now) ≡ drop place row.cells.now
+  turn-rest = take_rest row.cells.now (place - 1 + 1) ∙ ap (λ n. drop n row.cells.now) one
+
+  pub turn-given : (earned : ℤ) (given : Tally) → size_of (row_of row) < 2 ^ 127
+      → earned ≡ to_z w128 (of_z w128 row.before) +ℤ to_z w128 (of_z w128 (cell_before row place d).value)
+      → given ≡ tally_with (pos 0) 0 (most_with (to_z w128 (of_z w128 earned))
+      (cells_of (take (length row.cells.now - (place - 1 + 1)) (drop (place - 1 + 1) row.cells.now))))
+      → given ≡ tail_share (row_of row) (cell_before row place d).rank
+  turn-given earned given size is told =
+      told ∙ (λ j. tally_with (pos 0) 0 (most_with (turn-sum earned size is j) (cells_of (turn-rest j)))) ∙ turn-tail
 
 -- ---- row by row
 
@@ -312,7 +329,8 @@ told-push rows row z =
     most-push [] = omega (arith, ints)
     most-push (r ∷ rs) = omega (arith, ints, most-push rs)
 
-tail_told-push : (rows : List RowOf) (row : RowOf) (z : ℕ) → tail_told (rows ++ row ∷ []) z ≡ plus (tail_told rows z) (share_if (has z row.cells) (tail_share row z))
+tail_told-push : (rows : List RowOf) (row : RowOf) (z : ℕ) → tail_told (rows ++ row ∷ []) z
+    ≡ plus (tail_told rows z) (share_if (has z row.cells) (tail_share row z))
 tail_told-push rows row z =
     tally-equal (tail_told (rows ++ row ∷ []) z) (plus (tail_told rows z) (share_if (has z row.cells) (tail_share row z)))
     (none (has z row.cells))
@@ -335,16 +353,16 @@ tail_told-push rows row z =
     tail-push [] = omega (arith, ints)
     tail-push (r ∷ rs) = omega (arith, ints, tail-push rs)
 
-rows_of-more : (rows : List Row) (i : ℕ) (d : Row) → i < length rows → rows_of (take (i + 1) rows) ≡ rows_of (take i rows) ++ row_of (get_or rows i d) ∷ []
-rows_of-more rows i d within = ap rows_of (take_more rows i d within) ∙ map-append row_of (take i rows) (get_or rows i d ∷ [])
-
 pub told-more : (rows : List Row) (i : ℕ) (d : Row) (z : ℕ) → i < length rows
-    → told (rows_of (take (i + 1) rows)) z ≡ plus (told (rows_of (take i rows)) z) (share_if (has z (row_of (get_or rows i d)).cells) (row_share (row_of (get_or rows i d)) z))
+    → told (rows_of (take (i + 1) rows)) z ≡ plus (told (rows_of (take i rows)) z)
+    (share_if (has z (row_of (get_or rows i d)).cells) (row_share (row_of (get_or rows i d)) z))
 told-more rows i d z within = ap (λ rs. told rs z) (rows_of-more rows i d within) ∙ told-push (rows_of (take i rows)) (row_of (get_or rows i d)) z
 
 pub tail_told-more : (rows : List Row) (i : ℕ) (d : Row) (z : ℕ) → i < length rows
-    → tail_told (rows_of (take (i + 1) rows)) z ≡ plus (tail_told (rows_of (take i rows)) z) (share_if (has z (row_of (get_or rows i d)).cells) (tail_share (row_of (get_or rows i d)) z))
-tail_told-more rows i d z within = ap (λ rs. tail_told rs z) (rows_of-more rows i d within) ∙ tail_told-push (rows_of (take i rows)) (row_of (get_or rows i d)) z
+    → tail_told (rows_of (take (i + 1) rows)) z ≡ plus (tail_told (rows_of (take i rows)) z)
+    (share_if (has z (row_of (get_or rows i d)).cells) (tail_share (row_of (get_or rows i d)) z))
+tail_told-more rows i d z within = ap (λ rs. tail_told rs z) (rows_of-more rows i d within)
+    ∙ tail_told-push (rows_of (take i rows)) (row_of (get_or rows i d)) z
 
 -- ---- room for the next row
 
@@ -369,27 +387,33 @@ told-count (row ∷ rows) z = omega (arith, by (has z row.cells), sum_by-cons co
 
 most_over-within : (rows : List RowOf) (z : ℕ) → unsigned_abs (most_over rows z) ≤ sum_by size_of rows
 most_over-within [] z = omega arith
-most_over-within (row ∷ rows) z = omega (arith, ints, cond-within (has z row.cells) (most row) (size_of row) (most-within row), sum_by-cons size_of row rows, most_over-within rows z)
+most_over-within (row ∷ rows) z =
+    omega (arith, ints, cond-within (has z row.cells) (most row) (size_of row) (most-within row), sum_by-cons size_of row rows, most_over-within rows z)
 
 tail_over-within : (rows : List RowOf) (z : ℕ) → unsigned_abs (tail_over rows z) ≤ sum_by size_of rows
 tail_over-within [] z = omega arith
-tail_over-within (row ∷ rows) z = omega (arith, ints, cond-within (has z row.cells) (tail_most row z) (size_of row) (tail_most-within row z), sum_by-cons size_of row rows, tail_over-within rows z)
+tail_over-within (row ∷ rows) z = omega (
+  arith,
+  ints,
+  cond-within (has z row.cells) (tail_most row z) (size_of row) (tail_most-within row z),
+  sum_by-cons size_of row rows,
+  tail_over-within rows z,
+)
 
-sizes-more : (f : RowOf → ℕ) (rows : List Row) (i : ℕ) (d : Row) → i < length rows → sum_by f (rows_of (take i rows)) + f (row_of (get_or rows i d)) ≤ sum_by f (rows_of rows)
-sizes-more f rows i d within = omega (arith, sum_by-rows_of f (take i rows), sum_by-rows_of f rows, sum_by_more_le (λ (r : Row). f (row_of r)) rows i d within)
-
-pub told-room : (rows : List Row) (i : ℕ) (d : Row) (z : ℕ) (tally : Tally) → AreRows (rows_of rows) → i < length rows → tally ≡ told (rows_of (take i rows)) z → HasRoom tally (row_of (get_or rows i d))
+pub told-room : (rows : List Row) (i : ℕ) (d : Row) (z : ℕ) (tally : Tally) → AreRows (rows_of rows) → i < length rows
+    → tally ≡ told (rows_of (take i rows)) z → HasRoom tally (row_of (get_or rows i d))
 told-room rows i d z tally rules within is = subst (λ t. HasRoom t (row_of (get_or rows i d))) (sym is) (record {
-  utility = omega (arith, told-within (rows_of (take i rows)) z, sizes-more size_of rows i d within, rules.sizes);
-  count = omega (arith, told-count (rows_of (take i rows)) z, sizes-more count_of rows i d within, rules.counts);
-  bound = omega (arith, most_over-within (rows_of (take i rows)) z, sizes-more size_of rows i d within, rules.sizes);
+  utility = omega (arith, told-within (rows_of (take i rows)) z, sum_by-more size_of rows i d within, rules.sizes);
+  count = omega (arith, told-count (rows_of (take i rows)) z, sum_by-more count_of rows i d within, rules.counts);
+  bound = omega (arith, most_over-within (rows_of (take i rows)) z, sum_by-more size_of rows i d within, rules.sizes);
 })
 
-pub tail-room : (rows : List Row) (i : ℕ) (d : Row) (z : ℕ) (tally : Tally) → AreRows (rows_of rows) → i < length rows → tally ≡ tail_told (rows_of (take i rows)) z → HasRoom tally (row_of (get_or rows i d))
+pub tail-room : (rows : List Row) (i : ℕ) (d : Row) (z : ℕ) (tally : Tally) → AreRows (rows_of rows) → i < length rows
+    → tally ≡ tail_told (rows_of (take i rows)) z → HasRoom tally (row_of (get_or rows i d))
 tail-room rows i d z tally rules within is = subst (λ t. HasRoom t (row_of (get_or rows i d))) (sym is) (record {
-  utility = omega (arith, sizes-more size_of rows i d within, rules.sizes);
-  count = omega (arith, sizes-more count_of rows i d within, rules.counts);
-  bound = omega (arith, tail_over-within (rows_of (take i rows)) z, sizes-more size_of rows i d within, rules.sizes);
+  utility = omega (arith, sum_by-more size_of rows i d within, rules.sizes);
+  count = omega (arith, sum_by-more count_of rows i d within, rules.counts);
+  bound = omega (arith, tail_over-within (rows_of (take i rows)) z, sum_by-more size_of rows i d within, rules.sizes);
 })
 
 -- ---- ranks that are met
@@ -403,7 +427,8 @@ noted-add tallies then met rank share noted here len added = record {
     | inl e ↦ inl (subst (Contains met) (sym e) here)
     | inr ne ↦
         let no : eqb other rank ≡ false = ne_eqb other rank ne in
-        let same : tally_at then other ≡ tally_at tallies other = added other ∙ ap (λ b. plus (tally_at tallies other) (share_if b share)) no ∙ plus-none (tally_at tallies other) in
+        let same : tally_at then other ≡ tally_at tallies other = added other ∙ ap (λ b. plus (tally_at tallies other) (share_if b share)) no
+        ∙ plus-none (tally_at tallies other) in
         elim (noted.each other) [ inl m ↦ inl m | inr none ↦ inr (same ∙ none) ]
   ];
 }

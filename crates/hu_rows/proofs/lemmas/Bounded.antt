@@ -1,14 +1,15 @@
 -- What rows tell of ranks bounds what sets of their ranks earn.
-use Rattle.std.proofs.Common.{◌≡◌, ℕ, zero, suc, ◌+◌, ◌<◌, ◌≤◌, Bool, true, false, cond, eqb, ◌&&◌, ◌||◌, IsTrue, ℤ, pos, negsuc, ◌+ℤ◌, ◌≤ℤ◌, List, [], ◌∷◌, length, inl, inr, refl, sym, ap, ◌∙◌, subst, arith, ◌⊎◌}
+use Rattle.std.proofs.Common.{◌≡◌, ℕ, ◌<◌, ◌≤◌, Bool, true, false, cond, eqb, ◌&&◌, ◌||◌, IsTrue, ℤ, pos, negsuc, ◌+ℤ◌, ◌≤ℤ◌, List}
+use Rattle.std.proofs.Common.{[], ◌∷◌, inl, inr, refl, sym, ap, ◌∙◌, subst, arith}
 use Rattle.std.specs.List.{AllByRecursion}
-use Rattle.std.proofs.lemmas.Bool.{and_parts, eq-eqb, or_cases}
+use Rattle.std.proofs.lemmas.Bool.{and_parts, eq-eqb}
 use Rattle.std.proofs.lemmas.Int.{ints}
 use Rattle.hu_kind.specs.Order.{Ascend}
 use Rattle.hu_kind.specs.Record.{has, holds, value_of, values_of, gain, positive_part}
 use Rattle.hu_kind.proofs.lemmas.Members.{Member}
-use Rattle.hu_rows.specs.Rows.{RowOf, AreRows, over, over_row, count_over, count_in, ranks_of}
+use Rattle.hu_rows.specs.Rows.{RowOf, AreRows, over, over_row, count_over, ranks_of}
 use Rattle.hu_rows.specs.Projection.{after}
-use Rattle.hu_rows.specs.Bounds.{among, kept_gain, local_share, local_bound, subtree_share, subtree_bound, IsKeptSet}
+use Rattle.hu_rows.specs.Bounds.{among, kept_gain, local_share, local_bound, subtree_share, IsKeptSet}
 use Rattle.hu_rows.specs.Tally.{most, most_with, tail_most, most_over, tail_over}
 use Rattle.hu_rows.proofs.BoundLemmas.{positive-least, over-local, over_row-subtree}
 use Rattle.hu_rows.proofs.CellLemmas.{holds-after}
@@ -58,17 +59,20 @@ local-below (row ∷ rows) keep z = omega (arith, ints, by (has z row.cells), lo
 
 -- no set earns more than any of its ranks is told
 pub over-most : (rows : List RowOf) (set : List ℕ) (z : ℕ) → AreRows rows → Ascend set → Member z set → over rows set ≤ℤ most_over rows z
-over-most rows set z rules up m = omega (arith, ints, over-local set set z rows rules.ascending (kept-itself set up) (among-itself z set m), local-below rows set z)
+over-most rows set z rules up m =
+    omega (arith, ints, over-local set set z rows rules.ascending (kept-itself set up) (among-itself z set m), local-below rows set z)
 
 -- ---- the bound of the least rank
 
-over_row-tail : (z s : ℕ) (set : List ℕ) (row : RowOf) → Ascend (ranks_of row) → Ascend (z ∷ s ∷ set) → over_row (z ∷ s ∷ set) row ≤ℤ cond (has z row.cells) (tail_most row z) (pos 0)
+over_row-tail : (z s : ℕ) (set : List ℕ) (row : RowOf) → Ascend (ranks_of row) → Ascend (z ∷ s ∷ set)
+    → over_row (z ∷ s ∷ set) row ≤ℤ cond (has z row.cells) (tail_most row z) (pos 0)
 over_row-tail z s set row up rise = by (after z row.cells) refl
   where
     all : over_row (z ∷ s ∷ set) row ≤ℤ cond (has z row.cells) (subtree_share (z ∷ s ∷ set) z row) (pos 0)
     all = over_row-subtree (z ∷ s ∷ set) (s ∷ set) z row up (kept-itself (z ∷ s ∷ set) rise)
 
-    none : (b c : Bool) → holds (s ∷ set) row.cells ≡ false → cond (b && holds (s ∷ set) row.cells) (row.before +ℤ (value_of z row.cells +ℤ values_of (s ∷ set) row.cells)) (pos 0) ≤ℤ cond c (pos 0) (pos 0)
+    none : (b c : Bool) → holds (s ∷ set) row.cells ≡ false
+        → cond (b && holds (s ∷ set) row.cells) (row.before +ℤ (value_of z row.cells +ℤ values_of (s ∷ set) row.cells)) (pos 0) ≤ℤ cond c (pos 0) (pos 0)
     none true true h = rw h (omega (arith, ints))
     none true false h = rw h (omega (arith, ints))
     none false true h = omega (arith, ints)
@@ -76,15 +80,19 @@ over_row-tail z s set row up rise = by (after z row.cells) refl
 
     some : (b : Bool) (rest : ℤ) → kept_gain (z ∷ s ∷ set) (after z row.cells) ≤ℤ rest
         → cond b (subtree_share (z ∷ s ∷ set) z row) (pos 0) ≤ℤ cond b (positive_part (row.before +ℤ value_of z row.cells +ℤ rest)) (pos 0)
-    some true rest h = positive-rises (row.before +ℤ value_of z row.cells +ℤ kept_gain (z ∷ s ∷ set) (after z row.cells)) (row.before +ℤ value_of z row.cells +ℤ rest) (omega (arith, ints))
+    some true rest h = positive-rises (row.before +ℤ value_of z row.cells +ℤ kept_gain (z ∷ s ∷ set) (after z row.cells))
+        (row.before +ℤ value_of z row.cells +ℤ rest) (omega (arith, ints))
     some false rest h = omega (arith, ints)
 
-    by : (tail : List (ℕ × ℤ)) → after z row.cells ≡ tail → over_row (z ∷ s ∷ set) row ≤ℤ cond (has z row.cells) (most_with (row.before +ℤ value_of z row.cells) (after z row.cells)) (pos 0)
+    by : (tail : List (ℕ × ℤ)) → after z row.cells ≡ tail → over_row (z ∷ s ∷ set) row
+        ≤ℤ cond (has z row.cells) (most_with (row.before +ℤ value_of z row.cells) (after z row.cells)) (pos 0)
     by [] e = rw e (none (has z row.cells) (has z row.cells) (sym (holds-after z (s ∷ set) row.cells rise.0) ∙ ap (holds (s ∷ set)) e))
     by (cell ∷ cells) e =
-        let within : kept_gain (z ∷ s ∷ set) (after z row.cells) ≤ℤ gain (cell ∷ cells) = subst (λ cs. kept_gain (z ∷ s ∷ set) (after z row.cells) ≤ℤ gain cs) e (kept_gain-below (z ∷ s ∷ set) (after z row.cells)) in
+        let within : kept_gain (z ∷ s ∷ set) (after z row.cells) ≤ℤ gain (cell ∷ cells) =
+        subst (λ cs. kept_gain (z ∷ s ∷ set) (after z row.cells) ≤ℤ gain cs) e (kept_gain-below (z ∷ s ∷ set) (after z row.cells)) in
         let more = some (has z row.cells) (gain (cell ∷ cells)) within in
-        subst (λ cs. over_row (z ∷ s ∷ set) row ≤ℤ cond (has z row.cells) (most_with (row.before +ℤ value_of z row.cells) cs) (pos 0)) (sym e) (omega (arith, ints, all, more))
+        subst (λ cs. over_row (z ∷ s ∷ set) row ≤ℤ cond (has z row.cells) (most_with (row.before +ℤ value_of z row.cells) cs) (pos 0)) (sym e)
+        (omega (arith, ints, all, more))
 
 -- no set of two or more earns more than its least rank is told of its tails
 pub over-tail : (rows : List RowOf) (z s : ℕ) (set : List ℕ) → AreRows rows → Ascend (z ∷ s ∷ set) → over rows (z ∷ s ∷ set) ≤ℤ tail_over rows z

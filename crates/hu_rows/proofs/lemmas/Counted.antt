@@ -1,13 +1,14 @@
 -- Rows that stand for records: what is told of a rank tells whether they hold it.
-use Rattle.std.proofs.Common.{◌≡◌, ℕ, ◌+◌, ◌<◌, ◌≤◌, Bool, true, false, cond, eqb, nat_lt, ◌&&◌, ◌||◌, ℤ, pos, ◌+ℤ◌, List, [], ◌∷◌, ◌++◌, length, refl, sym, ap, ◌∙◌, subst, arith, inl, inr, ◌⊎◌}
+use Rattle.std.proofs.Common.{◌≡◌, ℕ, ◌+◌, ◌<◌, ◌≤◌, Bool, true, false, cond, eqb, nat_lt, ◌&&◌, ◌||◌, ℤ, pos, ◌+ℤ◌, List, [], ◌∷◌, ◌++◌, length}
+use Rattle.std.proofs.Common.{refl, sym, ap, subst, arith, inl, inr, ◌⊎◌}
 use Rattle.std.specs.List.{AllByRecursion}
 use Rattle.std.proofs.lemmas.Bool.{eqb-true, or_cases}
 use Rattle.std.proofs.lemmas.Int.{ints}
 use Rattle.hu_kind.specs.Record.{has, value_of, items_in}
-use Rattle.hu_rows.specs.Rows.{RowOf, AreCounted, count_over, ranks_of}
+use Rattle.hu_rows.specs.Rows.{RowOf, AreCounted, count_over}
 use Rattle.hu_rows.specs.Projection.{after}
 use Rattle.hu_rows.specs.Tally.{EachRank, tail_most, tail_over, tail_told, no_tally, tally_with}
-use Rattle.hu_rows.specs.Handed.{only, row_if_two, narrowed_row, narrowed, row_if_some, handed_row, handed}
+use Rattle.hu_rows.specs.Handed.{only, narrowed_row, narrowed, row_if_some, handed_row, handed}
 use Rattle.hu_rows.proofs.ProjectionLemmas.{count_over-append}
 
 each-joined : {A : Type 0} (P : A → Type 0) (xs ys : List A) → AllByRecursion P xs → AllByRecursion P ys → AllByRecursion P (xs ++ ys)
@@ -16,7 +17,8 @@ each-joined P (x ∷ xs) ys all more = (all.0, each-joined P xs ys all.1 more)
 
 pub AreCounted-narrowed : (p : ℕ → Bool) (rows : List RowOf) → AreCounted rows → AreCounted (narrowed p rows)
 AreCounted-narrowed p [] all = tt
-AreCounted-narrowed p (row ∷ rows) all = each-joined (λ (r : RowOf). 0 < r.count) (narrowed_row p row) (narrowed p rows) (by (nat_lt 1 (length (only p row.cells)))) (AreCounted-narrowed p rows all.1)
+AreCounted-narrowed p (row ∷ rows) all = each-joined (λ (r : RowOf). 0 < r.count) (narrowed_row p row) (narrowed p rows)
+    (by (nat_lt 1 (length (only p row.cells)))) (AreCounted-narrowed p rows all.1)
   where
     by : (b : Bool) → AreCounted (cond b (record { before = row.before; count = row.count; cells = only p row.cells } ∷ []) [])
     by true = (all.0, tt)
@@ -24,7 +26,8 @@ AreCounted-narrowed p (row ∷ rows) all = each-joined (λ (r : RowOf). 0 < r.co
 
 pub AreCounted-handed : (z : ℕ) (rows : List RowOf) → AreCounted rows → AreCounted (handed z rows)
 AreCounted-handed z [] all = tt
-AreCounted-handed z (row ∷ rows) all = each-joined (λ (r : RowOf). 0 < r.count) (handed_row z row) (handed z rows) (by (has z row.cells)) (AreCounted-handed z rows all.1)
+AreCounted-handed z (row ∷ rows) all = each-joined (λ (r : RowOf). 0 < r.count) (handed_row z row) (handed z rows) (by (has z row.cells))
+    (AreCounted-handed z rows all.1)
   where
     some : (before : ℤ) (cells : List (ℕ × ℤ)) → AreCounted (row_if_some before row.count cells)
     some before [] = tt
@@ -58,7 +61,8 @@ tail-held z rows counted = elim (by rows counted) [ inl e ↦ inl (ap (λ b. tal
     by [] all = inl refl
     by (row ∷ rows) all = one (has z row.cells) refl (by rows all.1)
       where
-        one : (b : Bool) → has z row.cells ≡ b → (tail_over rows z ≡ pos 0) ⊎ (0 < count_over rows (z ∷ [])) → (tail_over (row ∷ rows) z ≡ pos 0) ⊎ (0 < count_over (row ∷ rows) (z ∷ []))
+        one : (b : Bool) → has z row.cells ≡ b → (tail_over rows z ≡ pos 0) ⊎ (0 < count_over rows (z ∷ []))
+            → (tail_over (row ∷ rows) z ≡ pos 0) ⊎ (0 < count_over (row ∷ rows) (z ∷ []))
         one true h rest =
             let here : cond (has z row.cells && true) row.count 0 ≡ row.count = ap (λ b. cond (b && true) row.count 0) h in
             let some = all.0 in
@@ -75,13 +79,15 @@ or-right false c k = k
 -- narrowed rows hold what the rows hold
 pub count-narrower : (p : ℕ → Bool) (z : ℕ) (rows : List RowOf) → count_over (narrowed p rows) (z ∷ []) ≤ count_over rows (z ∷ [])
 count-narrower p z [] = omega arith
-count-narrower p z (row ∷ rows) = omega (arith, count_over-append (narrowed_row p row) (narrowed p rows) (z ∷ []), count-narrower p z rows, by (nat_lt 1 (length (only p row.cells))))
+count-narrower p z (row ∷ rows) =
+    omega (arith, count_over-append (narrowed_row p row) (narrowed p rows) (z ∷ []), count-narrower p z rows, by (nat_lt 1 (length (only p row.cells))))
   where
     has-only : (cells : List (ℕ × ℤ)) → has z (only p cells) ≡ true → has z cells ≡ true
     has-only [] h = h
     has-only (cell ∷ cells) h = kept (p cell.0) h (λ k. has-only cells k)
       where
-        kept : (b : Bool) → has z (cond b (cell ∷ only p cells) (only p cells)) ≡ true → (has z (only p cells) ≡ true → has z cells ≡ true) → eqb z cell.0 || has z cells ≡ true
+        kept : (b : Bool) → has z (cond b (cell ∷ only p cells) (only p cells)) ≡ true → (has z (only p cells) ≡ true → has z cells ≡ true)
+            → eqb z cell.0 || has z cells ≡ true
         kept true k ih = elim (or_cases (eqb z cell.0) (has z (only p cells)) k) [
           | inl e ↦ rw e refl
           | inr later ↦ or-right (eqb z cell.0) (has z cells) (ih later)
@@ -93,6 +99,7 @@ count-narrower p z (row ∷ rows) = omega (arith, count_over-append (narrowed_ro
     part true false i = let e = i refl in cc
     part false c i = omega arith
 
-    by : (b : Bool) → count_over (cond b (record { before = row.before; count = row.count; cells = only p row.cells } ∷ []) []) (z ∷ []) ≤ cond (has z row.cells && true) row.count 0
+    by : (b : Bool) → count_over (cond b (record { before = row.before; count = row.count; cells = only p row.cells } ∷ []) []) (z ∷ []) ≤ cond
+        (has z row.cells && true) row.count 0
     by true = part (has z (only p row.cells)) (has z row.cells) (has-only row.cells)
     by false = omega arith

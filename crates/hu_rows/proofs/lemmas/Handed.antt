@@ -1,10 +1,11 @@
 -- The rows that a rank is handed: sets of later ranks earn over them what they and the rank earn together.
-use Rattle.std.proofs.Common.{◌≡◌, ℕ, ◌+◌, ◌<◌, ◌≤◌, Bool, true, false, cond, ◌&&◌, ℤ, pos, unsigned_abs, ◌+ℤ◌, List, [], ◌∷◌, ◌++◌, length, refl, sym, ap, ◌∙◌, subst, arith, sum_by}
+use Rattle.std.proofs.Common.{◌≡◌, ℕ, ◌+◌, ◌<◌, ◌≤◌, Bool, true, false, cond, ◌&&◌, ℤ, pos, unsigned_abs, ◌+ℤ◌, List, [], ◌∷◌, ◌++◌, refl}
+use Rattle.std.proofs.Common.{◌∙◌, arith, sum_by}
 use Rattle.std.specs.List.{AllByRecursion}
 use Rattle.std.proofs.lemmas.Int.{ints}
 use Rattle.std.proofs.lemmas.List.Sums.{sum_by-cons, sum_by-append}
 use Rattle.hu_kind.specs.Order.{Ascend}
-use Rattle.hu_kind.specs.Record.{has, holds, value_of, values_of, items_in, absolute_of}
+use Rattle.hu_kind.specs.Record.{has, holds, value_of, values_of, absolute_of}
 use Rattle.hu_rows.specs.Rows.{RowOf, AreRows, over, over_row, count_over, count_in, count_of, size_of, ranks_of}
 use Rattle.hu_rows.specs.Projection.{after}
 use Rattle.hu_rows.specs.Tally.{EachRank}
@@ -21,7 +22,8 @@ over-row_if_some s set before count (cell ∷ cells) = by (holds (s ∷ set) (ce
     by true = omega (arith, ints)
     by false = refl
 
-count-row_if_some : (s : ℕ) (set : List ℕ) (before : ℤ) (count : ℕ) (cells : List (ℕ × ℤ)) → count_over (row_if_some before count cells) (s ∷ set) ≡ cond (holds (s ∷ set) cells) count 0
+count-row_if_some : (s : ℕ) (set : List ℕ) (before : ℤ) (count : ℕ) (cells : List (ℕ × ℤ))
+    → count_over (row_if_some before count cells) (s ∷ set) ≡ cond (holds (s ∷ set) cells) count 0
 count-row_if_some s set before count [] = refl
 count-row_if_some s set before count (cell ∷ cells) = by (holds (s ∷ set) (cell ∷ cells))
   where
@@ -33,22 +35,26 @@ module _ (z s : ℕ) (set : List ℕ) (above : AllByRecursion (λ rank. z < rank
   over-handed_row : (row : RowOf) → over (handed_row z row) (s ∷ set) ≡ over_row (z ∷ s ∷ set) row
   over-handed_row row = by (has z row.cells)
     where
-      part : (e : Bool) → cond e (row.before +ℤ value_of z row.cells +ℤ values_of (s ∷ set) row.cells) (pos 0) ≡ cond e (row.before +ℤ (value_of z row.cells +ℤ values_of (s ∷ set) row.cells)) (pos 0)
+      part : (e : Bool) → cond e (row.before +ℤ value_of z row.cells +ℤ values_of (s ∷ set) row.cells) (pos 0)
+          ≡ cond e (row.before +ℤ (value_of z row.cells +ℤ values_of (s ∷ set) row.cells)) (pos 0)
       part true = omega (arith, ints)
       part false = refl
 
       by : (b : Bool) → over (cond b (row_if_some (row.before +ℤ value_of z row.cells) row.count (after z row.cells)) []) (s ∷ set)
           ≡ cond (b && holds (s ∷ set) row.cells) (row.before +ℤ (value_of z row.cells +ℤ values_of (s ∷ set) row.cells)) (pos 0)
       by true = over-row_if_some s set (row.before +ℤ value_of z row.cells) row.count (after z row.cells)
-          ∙ (λ j. cond (holds-after z (s ∷ set) row.cells above j) (row.before +ℤ value_of z row.cells +ℤ values_of-after z (s ∷ set) row.cells above j) (pos 0))
+          ∙ (λ j. cond (holds-after z (s ∷ set) row.cells above j) (row.before +ℤ value_of z row.cells +ℤ values_of-after z (s ∷ set) row.cells above j)
+          (pos 0))
           ∙ part (holds (s ∷ set) row.cells)
       by false = refl
 
   count-handed_row : (row : RowOf) → count_over (handed_row z row) (s ∷ set) ≡ count_in (z ∷ s ∷ set) row
   count-handed_row row = by (has z row.cells)
     where
-      by : (b : Bool) → count_over (cond b (row_if_some (row.before +ℤ value_of z row.cells) row.count (after z row.cells)) []) (s ∷ set) ≡ cond (b && holds (s ∷ set) row.cells) row.count 0
-      by true = count-row_if_some s set (row.before +ℤ value_of z row.cells) row.count (after z row.cells) ∙ (λ j. cond (holds-after z (s ∷ set) row.cells above j) row.count 0)
+      by : (b : Bool) → count_over (cond b (row_if_some (row.before +ℤ value_of z row.cells) row.count (after z row.cells)) []) (s ∷ set)
+          ≡ cond (b && holds (s ∷ set) row.cells) row.count 0
+      by true = count-row_if_some s set (row.before +ℤ value_of z row.cells) row.count (after z row.cells)
+          ∙ (λ j. cond (holds-after z (s ∷ set) row.cells above j) row.count 0)
       by false = refl
 
   pub over-handed : (rows : List RowOf) → over (handed z rows) (s ∷ set) ≡ over rows (z ∷ s ∷ set)
@@ -63,7 +69,8 @@ each-joined : {A : Type 0} (P : A → Type 0) (xs ys : List A) → AllByRecursio
 each-joined P [] ys all more = more
 each-joined P (x ∷ xs) ys all more = (all.0, each-joined P xs ys all.1 more)
 
-each-some : (P : RowOf → Type 0) (before : ℤ) (count : ℕ) (cells : List (ℕ × ℤ)) → P (record { before = before; count = count; cells = cells }) → AllByRecursion P (row_if_some before count cells)
+each-some : (P : RowOf → Type 0) (before : ℤ) (count : ℕ) (cells : List (ℕ × ℤ)) → P (record { before = before; count = count; cells = cells })
+    → AllByRecursion P (row_if_some before count cells)
 each-some P before count [] h = tt
 each-some P before count (cell ∷ cells) h = (h, tt)
 
@@ -71,10 +78,12 @@ each-some P before count (cell ∷ cells) h = (h, tt)
 pub each-handed : (P : ℕ → Type 0) (z : ℕ) (rows : List RowOf) → EachRank P rows → EachRank (λ rank. P rank × (z < rank)) (handed z rows)
 each-handed P z [] all = tt
 each-handed P z (row ∷ rows) all =
-    each-joined (λ (r : RowOf). AllByRecursion (λ rank. P rank × (z < rank)) (ranks_of r)) (handed_row z row) (handed z rows) (by (has z row.cells)) (each-handed P z rows all.1)
+    each-joined (λ (r : RowOf). AllByRecursion (λ rank. P rank × (z < rank)) (ranks_of r)) (handed_row z row) (handed z rows) (by (has z row.cells))
+    (each-handed P z rows all.1)
   where
     by : (b : Bool) → EachRank (λ rank. P rank × (z < rank)) (cond b (row_if_some (row.before +ℤ value_of z row.cells) row.count (after z row.cells)) [])
-    by true = each-some (λ (r : RowOf). AllByRecursion (λ rank. P rank × (z < rank)) (ranks_of r)) (row.before +ℤ value_of z row.cells) row.count (after z row.cells) (each-after-both P z row.cells all.0)
+    by true = each-some (λ (r : RowOf). AllByRecursion (λ rank. P rank × (z < rank)) (ranks_of r)) (row.before +ℤ value_of z row.cells) row.count
+        (after z row.cells) (each-after-both P z row.cells all.0)
     by false = tt
 
 size-some : (before : ℤ) (count : ℕ) (cells : List (ℕ × ℤ)) → sum_by size_of (row_if_some before count cells) ≤ unsigned_abs before + absolute_of cells
@@ -94,10 +103,13 @@ AreRows-handed z rows rules = record {
   where
     ascending : (rows : List RowOf) → AllByRecursion (λ row. Ascend (ranks_of row)) rows → AllByRecursion (λ row. Ascend (ranks_of row)) (handed z rows)
     ascending [] all = tt
-    ascending (row ∷ rows) all = each-joined (λ (r : RowOf). Ascend (ranks_of r)) (handed_row z row) (handed z rows) (by (has z row.cells)) (ascending rows all.1)
+    ascending (row ∷ rows) all = each-joined (λ (r : RowOf). Ascend (ranks_of r)) (handed_row z row) (handed z rows) (by (has z row.cells))
+        (ascending rows all.1)
       where
-        by : (b : Bool) → AllByRecursion (λ row. Ascend (ranks_of row)) (cond b (row_if_some (row.before +ℤ value_of z row.cells) row.count (after z row.cells)) [])
-        by true = each-some (λ (r : RowOf). Ascend (ranks_of r)) (row.before +ℤ value_of z row.cells) row.count (after z row.cells) (Ascend-after z row.cells all.0)
+        by : (b : Bool) → AllByRecursion (λ row. Ascend (ranks_of row))
+            (cond b (row_if_some (row.before +ℤ value_of z row.cells) row.count (after z row.cells)) [])
+        by true = each-some (λ (r : RowOf). Ascend (ranks_of r)) (row.before +ℤ value_of z row.cells) row.count (after z row.cells)
+            (Ascend-after z row.cells all.0)
         by false = tt
 
     sizes : (rows : List RowOf) → sum_by size_of (handed z rows) ≤ sum_by size_of rows
@@ -110,7 +122,13 @@ AreRows-handed z rows rules = record {
 
     counts : (rows : List RowOf) → sum_by count_of (handed z rows) ≤ sum_by count_of rows
     counts [] = omega arith
-    counts (row ∷ rows) = omega (arith, sum_by-append count_of (handed_row z row) (handed z rows), sum_by-cons count_of row rows, counts rows, by (has z row.cells))
+    counts (row ∷ rows) = omega (
+      arith,
+      sum_by-append count_of (handed_row z row) (handed z rows),
+      sum_by-cons count_of row rows,
+      counts rows,
+      by (has z row.cells),
+    )
       where
         by : (b : Bool) → sum_by count_of (cond b (row_if_some (row.before +ℤ value_of z row.cells) row.count (after z row.cells)) []) ≤ row.count
         by true = count-some (row.before +ℤ value_of z row.cells) row.count (after z row.cells)

@@ -1,5 +1,6 @@
 -- Rows with the cells of some ranks alone: sets of two or more of these ranks earn over them what they earn over the rows.
-use Rattle.std.proofs.Common.{◌≡◌, ℕ, ◌+◌, ◌<◌, ◌≤◌, Bool, true, false, cond, eqb, nat_lt, ◌&&◌, ◌||◌, ℤ, pos, unsigned_abs, ◌+ℤ◌, List, [], ◌∷◌, ◌++◌, length, refl, sym, ap, ◌∙◌, subst, arith, sum_by}
+use Rattle.std.proofs.Common.{◌≡◌, ℕ, ◌+◌, ◌<◌, ◌≤◌, Bool, true, false, cond, eqb, nat_lt, ◌&&◌, ◌||◌, ℤ, pos, unsigned_abs, ◌+ℤ◌, List, [], ◌∷◌}
+use Rattle.std.proofs.Common.{◌++◌, length, refl, ap, ◌∙◌, arith, sum_by}
 use Rattle.std.specs.List.{AllByRecursion}
 use Rattle.std.proofs.lemmas.Bool.{and_parts, eqb-true, ne_eqb, lt-ltb}
 use Rattle.std.proofs.lemmas.Int.{ints}
@@ -30,7 +31,8 @@ module _ (p : ℕ → Bool) where
   value_of-only s [] kept = refl
   value_of-only s (cell ∷ cells) kept = by (p cell.0) refl (value_of-only s cells kept)
     where
-      by : (b : Bool) → p cell.0 ≡ b → value_of s (only p cells) ≡ value_of s cells → value_of s (cond b (cell ∷ only p cells) (only p cells)) ≡ value_of s (cell ∷ cells)
+      by : (b : Bool) → p cell.0 ≡ b → value_of s (only p cells) ≡ value_of s cells
+          → value_of s (cond b (cell ∷ only p cells) (only p cells)) ≡ value_of s (cell ∷ cells)
       by true h ih = ap (λ r. cond (eqb s cell.0) cell.1 r) ih
       by false h ih = let no : eqb s cell.0 ≡ false = other s cell kept h in rw no ih
 
@@ -42,11 +44,13 @@ module _ (p : ℕ → Bool) where
   values_of-only [] cells kept = refl
   values_of-only (s ∷ set) cells kept = λ j. value_of-only s cells kept.0 j +ℤ values_of-only set cells kept.1 j
 
-  each-only : (P : ℕ → Type 0) (cells : List (ℕ × ℤ)) → AllByRecursion P (items_in cells) → AllByRecursion (λ rank. P rank × (p rank ≡ true)) (items_in (only p cells))
+  each-only : (P : ℕ → Type 0) (cells : List (ℕ × ℤ)) → AllByRecursion P (items_in cells)
+      → AllByRecursion (λ rank. P rank × (p rank ≡ true)) (items_in (only p cells))
   each-only P [] all = tt
   each-only P (cell ∷ cells) all = by (p cell.0) refl (each-only P cells all.1)
     where
-      by : (b : Bool) → p cell.0 ≡ b → AllByRecursion (λ rank. P rank × (p rank ≡ true)) (items_in (only p cells)) → AllByRecursion (λ rank. P rank × (p rank ≡ true)) (items_in (cond b (cell ∷ only p cells) (only p cells)))
+      by : (b : Bool) → p cell.0 ≡ b → AllByRecursion (λ rank. P rank × (p rank ≡ true)) (items_in (only p cells))
+          → AllByRecursion (λ rank. P rank × (p rank ≡ true)) (items_in (cond b (cell ∷ only p cells) (only p cells)))
       by true h ih = ((all.0, h), ih)
       by false h ih = ih
 
@@ -95,19 +99,23 @@ two-held (a ∷ b ∷ set) (c ∷ []) pair h =
     or-false true k = refl
     or-false false k = k
 
-over-row_if_two : (set : List ℕ) (before : ℤ) (count : ℕ) (cells : List (ℕ × ℤ)) → IsPair set → over (row_if_two before count cells) set ≡ cond (holds set cells) (before +ℤ values_of set cells) (pos 0)
+over-row_if_two : (set : List ℕ) (before : ℤ) (count : ℕ) (cells : List (ℕ × ℤ)) → IsPair set
+    → over (row_if_two before count cells) set ≡ cond (holds set cells) (before +ℤ values_of set cells) (pos 0)
 over-row_if_two set before count cells pair = by (nat_lt 1 (length cells)) (holds set cells) refl refl
   where
-    by : (b c : Bool) → nat_lt 1 (length cells) ≡ b → holds set cells ≡ c → over (cond b (record { before = before; count = count; cells = cells } ∷ []) []) set ≡ cond c (before +ℤ values_of set cells) (pos 0)
+    by : (b c : Bool) → nat_lt 1 (length cells) ≡ b → holds set cells ≡ c
+        → over (cond b (record { before = before; count = count; cells = cells } ∷ []) []) set ≡ cond c (before +ℤ values_of set cells) (pos 0)
     by true true h k = rw k (omega (arith, ints))
     by true false h k = rw k (omega (arith, ints))
     by false true h k = let two = two-held set cells pair k in cc
     by false false h k = refl
 
-count-row_if_two : (set : List ℕ) (before : ℤ) (count : ℕ) (cells : List (ℕ × ℤ)) → IsPair set → count_over (row_if_two before count cells) set ≡ cond (holds set cells) count 0
+count-row_if_two : (set : List ℕ) (before : ℤ) (count : ℕ) (cells : List (ℕ × ℤ)) → IsPair set
+    → count_over (row_if_two before count cells) set ≡ cond (holds set cells) count 0
 count-row_if_two set before count cells pair = by (nat_lt 1 (length cells)) (holds set cells) refl refl
   where
-    by : (b c : Bool) → nat_lt 1 (length cells) ≡ b → holds set cells ≡ c → count_over (cond b (record { before = before; count = count; cells = cells } ∷ []) []) set ≡ cond c count 0
+    by : (b c : Bool) → nat_lt 1 (length cells) ≡ b → holds set cells ≡ c
+        → count_over (cond b (record { before = before; count = count; cells = cells } ∷ []) []) set ≡ cond c count 0
     by true true h k = rw k (omega arith)
     by true false h k = rw k refl
     by false true h k = let two = two-held set cells pair k in cc
@@ -139,7 +147,8 @@ each-joined P (x ∷ xs) ys all more = (all.0, each-joined P xs ys all.1 more)
 pub each-narrowed : (p : ℕ → Bool) (P : ℕ → Type 0) (rows : List RowOf) → EachRank P rows → EachRank (λ rank. P rank × (p rank ≡ true)) (narrowed p rows)
 each-narrowed p P [] all = tt
 each-narrowed p P (row ∷ rows) all =
-    each-joined (λ (r : RowOf). AllByRecursion (λ rank. P rank × (p rank ≡ true)) (ranks_of r)) (narrowed_row p row) (narrowed p rows) (by (nat_lt 1 (length (only p row.cells)))) (each-narrowed p P rows all.1)
+    each-joined (λ (r : RowOf). AllByRecursion (λ rank. P rank × (p rank ≡ true)) (ranks_of r)) (narrowed_row p row) (narrowed p rows)
+    (by (nat_lt 1 (length (only p row.cells)))) (each-narrowed p P rows all.1)
   where
     by : (b : Bool) → EachRank (λ rank. P rank × (p rank ≡ true)) (cond b (record { before = row.before; count = row.count; cells = only p row.cells } ∷ []) [])
     by true = (each-only p P row.cells all.0, tt)
@@ -154,15 +163,23 @@ AreRows-narrowed p rows rules = record {
   where
     ascending : (rows : List RowOf) → AllByRecursion (λ row. Ascend (ranks_of row)) rows → AllByRecursion (λ row. Ascend (ranks_of row)) (narrowed p rows)
     ascending [] all = tt
-    ascending (row ∷ rows) all = each-joined (λ (r : RowOf). Ascend (ranks_of r)) (narrowed_row p row) (narrowed p rows) (by (nat_lt 1 (length (only p row.cells)))) (ascending rows all.1)
+    ascending (row ∷ rows) all = each-joined (λ (r : RowOf). Ascend (ranks_of r)) (narrowed_row p row) (narrowed p rows)
+        (by (nat_lt 1 (length (only p row.cells)))) (ascending rows all.1)
       where
-        by : (b : Bool) → AllByRecursion (λ row. Ascend (ranks_of row)) (cond b (record { before = row.before; count = row.count; cells = only p row.cells } ∷ []) [])
+        by : (b : Bool) → AllByRecursion (λ row. Ascend (ranks_of row))
+            (cond b (record { before = row.before; count = row.count; cells = only p row.cells } ∷ []) [])
         by true = (Ascend-only p row.cells all.0, tt)
         by false = tt
 
     sizes : (rows : List RowOf) → sum_by size_of (narrowed p rows) ≤ sum_by size_of rows
     sizes [] = omega arith
-    sizes (row ∷ rows) = omega (arith, sum_by-append size_of (narrowed_row p row) (narrowed p rows), sum_by-cons size_of row rows, sizes rows, by (nat_lt 1 (length (only p row.cells))))
+    sizes (row ∷ rows) = omega (
+      arith,
+      sum_by-append size_of (narrowed_row p row) (narrowed p rows),
+      sum_by-cons size_of row rows,
+      sizes rows,
+      by (nat_lt 1 (length (only p row.cells))),
+    )
       where
         by : (b : Bool) → sum_by size_of (cond b (record { before = row.before; count = row.count; cells = only p row.cells } ∷ []) []) ≤ size_of row
         by true = omega (arith, absolute_of-only p row.cells)
@@ -170,7 +187,13 @@ AreRows-narrowed p rows rules = record {
 
     counts : (rows : List RowOf) → sum_by count_of (narrowed p rows) ≤ sum_by count_of rows
     counts [] = omega arith
-    counts (row ∷ rows) = omega (arith, sum_by-append count_of (narrowed_row p row) (narrowed p rows), sum_by-cons count_of row rows, counts rows, by (nat_lt 1 (length (only p row.cells))))
+    counts (row ∷ rows) = omega (
+      arith,
+      sum_by-append count_of (narrowed_row p row) (narrowed p rows),
+      sum_by-cons count_of row rows,
+      counts rows,
+      by (nat_lt 1 (length (only p row.cells))),
+    )
       where
         by : (b : Bool) → sum_by count_of (cond b (record { before = row.before; count = row.count; cells = only p row.cells } ∷ []) []) ≤ row.count
         by true = omega arith

@@ -1,15 +1,15 @@
-use Rattle.std.proofs.Common.{◌≡◌, ◌<◌, ◌∙◌, ℕ, ℤ, [], ◌∷◌, int_le, length, ap, sym, subst, arith, to_z, of_z, Contains, vec_len, Result, Ok, Err, OnErr, SFits, rules}
+use Rattle.std.proofs.Common.{◌≡◌, ◌<◌, ◌∙◌, ℕ, ℤ, [], ◌∷◌, int_le, length, ap, sym, subst, arith, to_z, of_z, Contains, Result, Ok, Err, OnErr, SFits, rules}
 use Rattle.std.specs.Int.{w128}
 use Rattle.std.specs.List.{AllByRecursion, filter, flat_map}
 use Rattle.std.proofs.lemmas.Int.{to_z-of_z}
 use Rattle.std.proofs.lemmas.List.{length-map}
 use Rattle.std.proofs.lemmas.Result.{IfOk-weaker}
-use Rattle.hu_collect.specs.State.{State, floor_in, Reached}
-use Rattle.hu_rows.specs.Rows.{RowOf, AreCounted, count_over}
+use Rattle.hu_collect.specs.State.{floor_in}
+use Rattle.hu_rows.specs.Rows.{AreCounted, count_over}
 use Rattle.hu_rows.specs.Tally.{AreBelow}
 use Rattle.hu_rows.specs.Handed.{reaches, narrowed}
 use Rattle.hu_search.specs.declared.child.Child.{Child}
-use Rattle.hu_search.specs.Children.{AreChildren, IsOneOf, ranks_of}
+use Rattle.hu_search.specs.Children.{AreChildren, ranks_of}
 use Rattle.hu_search.proofs.lemmas.Children.{offered-some}
 use Rattle.hu_project.specs.Children.{child_if}
 use Rattle.hu_project.specs.Level.{AreTold, IsChoice, IsPrepared}
@@ -29,7 +29,8 @@ offer_children-requires-clause-children g c =
 
 pub returns-in_err-offer_children-clause-err : goal.returns-in_err-offer_children-clause-err
 returns-in_err-offer_children-clause-err g c =
-    on_err c.from_residual-in_err-offer_children.result _ (offered-some c.args.ranked.now c.args.ranks.now (ranks_of c.deref-2.result.now) c.in_err-offer_children.ensures)
+    on_err c.from_residual-in_err-offer_children.result _
+        (offered-some c.args.ranked.now c.args.ranks.now (ranks_of c.deref-2.result.now) c.in_err-offer_children.ensures)
 
 pub returns-in_err-kept-clause-err : goal.returns-in_err-kept-clause-err
 returns-in_err-kept-clause-err g c =
@@ -51,7 +52,8 @@ returns-then-len-lt2-clause-ok g c =
     let fits : SFits w128 c.floor-floor.result = search rules in
     let kept : c.in_ok-kept.kept.items ≡ filter (λ (child : Child). int_le floor child.bound) c.deref-2.result.now =
     c.in_ok-kept.ensures ∙ ap (filter (λ (child : Child). int_le floor child.bound)) (c.deref-3.ensures.value ∙ sym c.deref-2.ensures.value) in
-    let few : length (ranks_of c.in_ok-kept.kept.items) < 2 = omega (arith, length-map c.in_ok-kept.kept.items (λ (child : Child). child.rank), c.len.ensures, c.if-len-lt2.true, c.in_ok-kept.kept.ok) in
+    let few : length (ranks_of c.in_ok-kept.kept.items) < 2 =
+        omega (arith, length-map c.in_ok-kept.kept.items (λ (child : Child). child.rank), c.len.ensures, c.if-len-lt2.true, c.in_ok-kept.kept.ok) in
     prepared-none c.requires.level is c.deref-2.result.now c.in_ok-kept.kept.items floor kids kept c.requires.ordered c.in_ok-offer_children.ensures
     (to_z-of_z w128 c.floor-floor.result fits ∙ c.floor-floor.ensures.value) few c.none.result c.none.ensures.rows c.none.ensures.children c.none.ensures.places
 
@@ -64,7 +66,8 @@ choose-requires-clause-below g c =
     let kept : c.in_ok-kept.kept.items ≡ filter (λ (child : Child). int_le floor child.bound) c.deref-2.result.now =
     c.in_ok-kept.ensures ∙ ap (filter (λ (child : Child). int_le floor child.bound)) (c.deref-3.ensures.value ∙ sym c.deref-2.ensures.value) in
     let floor_is : floor ≡ floor_in (g.C.Collect.state c.offer_children.new.collect) = to_z-of_z w128 c.floor-floor.result fits ∙ c.floor-floor.ensures.value in
-    let narrow = IsNarrow-kept c.requires.level is c.deref-2.result.now c.in_ok-kept.kept.items floor kids kept c.requires.ordered c.in_ok-offer_children.ensures floor_is in
+    let narrow = IsNarrow-kept c.requires.level is c.deref-2.result.now c.in_ok-kept.kept.items floor kids kept c.requires.ordered
+        c.in_ok-offer_children.ensures floor_is in
     let rows : c.in_ok-rows.rows ≡ narrowed (reaches c.tell.new.self floor) c.args.rows.now = c.in_ok-rows.ensures in
     let n : length c.forget-2.new.tallies ≡ length c.args.ranked.now.items = c.forget-2.ensures.len ∙ c.in_ok-met.ensures.len ∙ c.requires.board.tallies in
     subst (λ m. AreBelow m c.in_ok-rows.rows) (sym n) (subst (AreBelow (length c.args.ranked.now.items)) (sym rows) narrow.below)
@@ -78,7 +81,8 @@ choose-requires-clause-counted g c =
     let kept : c.in_ok-kept.kept.items ≡ filter (λ (child : Child). int_le floor child.bound) c.deref-2.result.now =
     c.in_ok-kept.ensures ∙ ap (filter (λ (child : Child). int_le floor child.bound)) (c.deref-3.ensures.value ∙ sym c.deref-2.ensures.value) in
     let floor_is : floor ≡ floor_in (g.C.Collect.state c.offer_children.new.collect) = to_z-of_z w128 c.floor-floor.result fits ∙ c.floor-floor.ensures.value in
-    let narrow = IsNarrow-kept c.requires.level is c.deref-2.result.now c.in_ok-kept.kept.items floor kids kept c.requires.ordered c.in_ok-offer_children.ensures floor_is in
+    let narrow = IsNarrow-kept c.requires.level is c.deref-2.result.now c.in_ok-kept.kept.items floor kids kept c.requires.ordered
+        c.in_ok-offer_children.ensures floor_is in
     let rows : c.in_ok-rows.rows ≡ narrowed (reaches c.tell.new.self floor) c.args.rows.now = c.in_ok-rows.ensures in
     subst AreCounted (sym rows) narrow.counted
 
@@ -96,7 +100,8 @@ choose-requires-clause-noted g c rank held =
     let kept : c.in_ok-kept.kept.items ≡ filter (λ (child : Child). int_le floor child.bound) c.deref-2.result.now =
     c.in_ok-kept.ensures ∙ ap (filter (λ (child : Child). int_le floor child.bound)) (c.deref-3.ensures.value ∙ sym c.deref-2.ensures.value) in
     let floor_is : floor ≡ floor_in (g.C.Collect.state c.offer_children.new.collect) = to_z-of_z w128 c.floor-floor.result fits ∙ c.floor-floor.ensures.value in
-    let narrow = IsNarrow-kept c.requires.level is c.deref-2.result.now c.in_ok-kept.kept.items floor kids kept c.requires.ordered c.in_ok-offer_children.ensures floor_is in
+    let narrow = IsNarrow-kept c.requires.level is c.deref-2.result.now c.in_ok-kept.kept.items floor kids kept c.requires.ordered
+        c.in_ok-offer_children.ensures floor_is in
     let rows : c.in_ok-rows.rows ≡ narrowed (reaches c.tell.new.self floor) c.args.rows.now = c.in_ok-rows.ensures in
     subst (λ xs. Contains xs rank) (sym c.deref-5.ensures.value)
     (noted-kept c.requires.level is c.deref-2.result.now c.in_ok-kept.kept.items floor kids kept c.requires.ordered c.in_ok-offer_children.ensures floor_is rank
@@ -111,7 +116,8 @@ choose-requires-clause-kept g c =
     let kept : c.in_ok-kept.kept.items ≡ filter (λ (child : Child). int_le floor child.bound) c.deref-2.result.now =
     c.in_ok-kept.ensures ∙ ap (filter (λ (child : Child). int_le floor child.bound)) (c.deref-3.ensures.value ∙ sym c.deref-2.ensures.value) in
     let floor_is : floor ≡ floor_in (g.C.Collect.state c.offer_children.new.collect) = to_z-of_z w128 c.floor-floor.result fits ∙ c.floor-floor.ensures.value in
-    let narrow = IsNarrow-kept c.requires.level is c.deref-2.result.now c.in_ok-kept.kept.items floor kids kept c.requires.ordered c.in_ok-offer_children.ensures floor_is in
+    let narrow = IsNarrow-kept c.requires.level is c.deref-2.result.now c.in_ok-kept.kept.items floor kids kept c.requires.ordered
+        c.in_ok-offer_children.ensures floor_is in
     let rows : c.in_ok-rows.rows ≡ narrowed (reaches c.tell.new.self floor) c.args.rows.now = c.in_ok-rows.ensures in
     let n : length c.forget-2.new.tallies ≡ length c.args.ranked.now.items = c.forget-2.ensures.len ∙ c.in_ok-met.ensures.len ∙ c.requires.board.tallies in
     subst (λ xs. AllByRecursion (λ (child : Child). child.rank < length c.forget-2.new.tallies) xs) (sym c.deref-6.ensures.value)
@@ -127,7 +133,8 @@ choose-requires-clause-held g c rank held =
     let kept : c.in_ok-kept.kept.items ≡ filter (λ (child : Child). int_le floor child.bound) c.deref-2.result.now =
     c.in_ok-kept.ensures ∙ ap (filter (λ (child : Child). int_le floor child.bound)) (c.deref-3.ensures.value ∙ sym c.deref-2.ensures.value) in
     let floor_is : floor ≡ floor_in (g.C.Collect.state c.offer_children.new.collect) = to_z-of_z w128 c.floor-floor.result fits ∙ c.floor-floor.ensures.value in
-    let narrow = IsNarrow-kept c.requires.level is c.deref-2.result.now c.in_ok-kept.kept.items floor kids kept c.requires.ordered c.in_ok-offer_children.ensures floor_is in
+    let narrow = IsNarrow-kept c.requires.level is c.deref-2.result.now c.in_ok-kept.kept.items floor kids kept c.requires.ordered
+        c.in_ok-offer_children.ensures floor_is in
     let rows : c.in_ok-rows.rows ≡ narrowed (reaches c.tell.new.self floor) c.args.rows.now = c.in_ok-rows.ensures in
     subst (λ xs. Contains (ranks_of xs) rank) (sym c.deref-6.ensures.value) (narrow.met rank (subst (λ rs. 0 < count_over rs (rank ∷ [])) rows held))
 
@@ -140,11 +147,13 @@ returns-clause-ok g c =
     let kept : c.in_ok-kept.kept.items ≡ filter (λ (child : Child). int_le floor child.bound) c.deref-2.result.now =
     c.in_ok-kept.ensures ∙ ap (filter (λ (child : Child). int_le floor child.bound)) (c.deref-3.ensures.value ∙ sym c.deref-2.ensures.value) in
     let floor_is : floor ≡ floor_in (g.C.Collect.state c.offer_children.new.collect) = to_z-of_z w128 c.floor-floor.result fits ∙ c.floor-floor.ensures.value in
-    let narrow = IsNarrow-kept c.requires.level is c.deref-2.result.now c.in_ok-kept.kept.items floor kids kept c.requires.ordered c.in_ok-offer_children.ensures floor_is in
+    let narrow = IsNarrow-kept c.requires.level is c.deref-2.result.now c.in_ok-kept.kept.items floor kids kept c.requires.ordered
+        c.in_ok-offer_children.ensures floor_is in
     let rows : c.in_ok-rows.rows ≡ narrowed (reaches c.tell.new.self floor) c.args.rows.now = c.in_ok-rows.ensures in
     let old = g.C.Collect.state c.args.collect.now in
     let mid = g.C.Collect.state c.offer_children.new.collect in
     IfOk-weaker c.choose.result (IsChoice c.in_ok-rows.rows c.deref-6.result.now floor) (IsPrepared old mid c.args.ranked.now c.args.ranks.now)
-    (λ part choice. prepared-some c.requires.level is c.deref-2.result.now c.in_ok-kept.kept.items floor kids kept c.requires.ordered c.in_ok-offer_children.ensures floor_is c.in_ok-rows.rows rows part
+    (λ part choice. prepared-some c.requires.level is c.deref-2.result.now c.in_ok-kept.kept.items floor kids kept c.requires.ordered
+        c.in_ok-offer_children.ensures floor_is c.in_ok-rows.rows rows part
     (subst (λ ks. IsChoice c.in_ok-rows.rows ks floor part) c.deref-6.ensures.value choice))
     c.choose.ensures.ok

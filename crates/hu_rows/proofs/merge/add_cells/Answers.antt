@@ -1,8 +1,8 @@
-use Rattle.std.proofs.Common.{◌∙◌, sym, pos, ◌≤◌, length, ◌⊎◌, inl, inr, arith}
-use Rattle.hu_totals.specs.declared.ranked.Dense.{Dense}
+use Rattle.std.proofs.Common.{◌∙◌, sym, ◌≤◌, length, ◌⊎◌, inl, inr, arith}
 use Rattle.hu_rows.specs.View.{cells_of}
 use Rattle.hu_rows.proofs.AddedCells.{added_cells-none, fits-added, step-added, end-added}
 use Rattle.std.proofs.lemmas.Bool.{cases_lt}
+use Rattle.hu_rows.proofs.PastEnd.{past_cell}
 use Rattle.hu_rows.proofs.merge.add_cells.Goals as goal
 
 pub loop-i-init : goal.loop-i-init
@@ -10,17 +10,17 @@ loop-i-init c = sym (added_cells-none (cells_of c.args.cells.now))
 
 pub add_cell-requires : goal.add_cell-requires
 add_cell-requires c =
-    let none : Dense = record { rank = 0; value = pos 0 } in
-    fits-added c.args.cells.now c.args.others.now c.loop-i.cells c.loop-i.i none c.loop-i.invariant (omega arith) (omega arith) (omega arith) c.requires
+    fits-added c.args.cells.now c.args.others.now c.loop-i.cells c.loop-i.i past_cell c.loop-i.invariant (omega arith) (omega arith) (omega arith) c.requires
 
 pub loop-i-preserved : goal.loop-i-preserved
 loop-i-preserved c =
-    let none : Dense = record { rank = 0; value = pos 0 } in
-    step-added c.args.cells.now c.args.others.now c.loop-i.cells c.loop-i.i none c.loop-i.invariant (omega arith) (omega arith) (omega arith) c.add_cell.result c.add_cell.ensures
+    step-added c.args.cells.now c.args.others.now c.loop-i.cells c.loop-i.i past_cell c.loop-i.invariant (omega arith) (omega arith)
+    (omega arith) c.add_cell.result c.add_cell.ensures
 
 pub returns : goal.returns
 returns c =
-    let ends : (length c.args.cells.now ≤ c.loop-i.i) ⊎ (length c.args.others.now ≤ c.loop-i.i) = elim (cases_lt (length c.args.cells.now) (length c.args.others.now)) [
+    let ends : (length c.args.cells.now ≤ c.loop-i.i) ⊎ (length c.args.others.now ≤ c.loop-i.i) =
+    elim (cases_lt (length c.args.cells.now) (length c.args.others.now)) [
       | inl l ↦ inl (omega arith)
       | inr l ↦ inr (omega arith)
     ] in

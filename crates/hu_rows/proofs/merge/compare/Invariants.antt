@@ -10,7 +10,8 @@ abbrev pub invariant-loop-left : goal.invariant-loop-left
 invariant-loop-left l = record {
   left : l.left ≤ length l.a.cells.now;
   right : l.right ≤ length l.b.cells.now;
-  same : slice_cmp nat_cmp (reverse (take l.left (items_in (cells_of l.a.cells.now)))) (reverse (take l.right (items_in (cells_of l.b.cells.now)))) ≡ row_cmp (row_of l.a) (row_of l.b);
+  same : slice_cmp nat_cmp (reverse (take l.left (items_in (cells_of l.a.cells.now)))) (reverse (take l.right (items_in (cells_of l.b.cells.now))))
+      ≡ row_cmp (row_of l.a) (row_of l.b);
 }
 
 abbrev pub decreases-loop-left : goal.decreases-loop-left

@@ -17,7 +17,8 @@ over-requires c =
     let rows = c.args.rows.items in
     let sorted = c.put_in_order.new.rows.items in
     let same : rows_of c.in_ok-try_alloc_slice_copy.field-0.now ≡ merged (rows_of sorted) =
-    ap rows_of (c.in_ok-try_alloc_slice_copy.ensures ∙ c.as_slice-2.ensures.value) ∙ c.in_ok-merged.ensures ∙ ap (λ rs. merged (rows_of rs)) c.as_slice.ensures.value in
+    ap rows_of (c.in_ok-try_alloc_slice_copy.ensures ∙ c.as_slice-2.ensures.value) ∙ c.in_ok-merged.ensures
+    ∙ ap (λ rs. merged (rows_of rs)) c.as_slice.ensures.value in
     subst AreRows (sym same) (AreRows-merged (rows_of sorted) (AreRows-sorted rows sorted c.put_in_order.ensures.permutation c.requires))
 
 pub returns : goal.returns
@@ -25,5 +26,7 @@ returns c =
     let rows = c.args.rows.items in
     let sorted = c.put_in_order.new.rows.items in
     let same : rows_of c.in_ok-try_alloc_slice_copy.field-0.now ≡ merged (rows_of sorted) =
-    ap rows_of (c.in_ok-try_alloc_slice_copy.ensures ∙ c.as_slice-2.ensures.value) ∙ c.in_ok-merged.ensures ∙ ap (λ rs. merged (rows_of rs)) c.as_slice.ensures.value in
-    subst (IsMerging (rows_of rows)) (sym (c.over.ensures ∙ same)) (IsMerging-sorted rows sorted c.put_in_order.ensures.permutation c.put_in_order.ensures.sorted)
+    ap rows_of (c.in_ok-try_alloc_slice_copy.ensures ∙ c.as_slice-2.ensures.value) ∙ c.in_ok-merged.ensures
+    ∙ ap (λ rs. merged (rows_of rs)) c.as_slice.ensures.value in
+    subst (IsMerging (rows_of rows)) (sym (c.over.ensures ∙ same))
+    (IsMerging-sorted rows sorted c.put_in_order.ensures.permutation c.put_in_order.ensures.sorted)

@@ -7,5 +7,6 @@ use Rattle.hu_rows.proofs.places.hand_rows.Given as goal
 abbrev pub invariant-loop-row : goal.invariant-loop-row
 invariant-loop-row l = record {
   len : length (lists_in l.lists.items) ≡ length (lists_in l.initial.lists.items);
-  value : (rank : ℕ) → ArePlaces (rows_of l.rows) (handed_if (reaches l.tallies l.floor rank) rank (rows_of (take l.row l.rows))) (places_at (lists_in l.lists.items) rank);
+  value : (rank : ℕ) → ArePlaces (rows_of l.rows) (handed_if (reaches l.tallies l.floor rank) rank (rows_of (take l.row l.rows)))
+      (places_at (lists_in l.lists.items) rank);
 }

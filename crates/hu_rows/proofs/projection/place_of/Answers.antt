@@ -11,5 +11,6 @@ returns c =
     let cells = c.args.cells.now in
     let z = c.args.z in
     let found = c.binary_search_by_key.ensures.position (λ (cell : Dense). cell.rank) (answers_always _ _ _ (λ f a r f' k. search rules)) in
-    subst (λ r. MatchOption r (has z (cells_of cells) ≡ false) (λ (i : ℕ). (i < length cells) × (get_or (items_in (cells_of cells)) i 0 ≡ z))) (sym c.ok.ensures.value)
+    subst (λ r. MatchOption r (has z (cells_of cells) ≡ false) (λ (i : ℕ). (i < length cells) × (get_or (items_in (cells_of cells)) i 0 ≡ z)))
+    (sym c.ok.ensures.value)
     (place-searched z cells c.binary_search_by_key.result c.requires c.binary_search_by_key.ensures.bound found)

@@ -18,7 +18,8 @@ pub returns-clause-count : goal.returns-clause-count
 returns-clause-count c =
     let z = c.args.z in
     let rows = c.args.rows.now in
-    IfOk-merging c.merge.result _ (projected z rows) (λ answer. (set : List ℕ) → AllByRecursion (λ rank. z < rank) set → count_over answer set ≡ count_over rows (z ∷ set))
+    IfOk-merging c.merge.result _ (projected z rows) (λ answer. (set : List ℕ) → AllByRecursion (λ rank. z < rank) set
+    → count_over answer set ≡ count_over rows (z ∷ set))
     c.in_ok-projected_rows.ensures.value (λ answer h set above. h.count set ∙ count_over-projected z rows set above) c.merge.ensures
 
 pub returns-clause-after : goal.returns-clause-after

@@ -1,28 +1,28 @@
-use Rattle.std.proofs.Common.{◌≡◌, ◌∷◌, [], ◌+ℤ◌, pos, to_z, of_z, FitsSigned, arith, rules, ◌∙◌, get_or, take, drop, length, ◌+◌, ◌-◌}
+use Rattle.std.proofs.Common.{◌≡◌, ◌∷◌, [], ◌+ℤ◌, to_z, of_z, FitsSigned, arith, rules, ◌∙◌, get_or, take, drop, length, ◌+◌, ◌-◌}
 use Rattle.std.specs.Int.{w128}
 use Rattle.std.proofs.lemmas.Int.{ints}
-use Rattle.hu_totals.specs.declared.ranked.Dense.{Dense}
 use Rattle.hu_rows.specs.View.{row_with}
 use Rattle.hu_rows.proofs.AddedCells.{value-within}
 use Rattle.hu_rows.proofs.CellChecks.{projected_row-at}
+use Rattle.hu_rows.proofs.PastEnd.{past_cell}
 use Rattle.hu_rows.proofs.projection.projected_row.Goals as goal
 
 pub overflow_add-result : goal.overflow_add-result
 overflow_add-result c =
-    let none : Dense = record { rank = 0; value = pos 0 } in
-    let cell = get_or c.args.row.now.cells.now c.in_ok-place.place none in
+    let cell = get_or c.args.row.now.cells.now c.in_ok-place.place past_cell in
     let before : FitsSigned w128 c.args.row.now.before = search rules in
     let value : FitsSigned w128 cell.value = search rules in
-    omega (arith, ints, value-within c.args.row.now.cells.now c.in_ok-place.place none c.in_ok-place.ensures.0, c.requires.size)
+    omega (arith, ints, value-within c.args.row.now.cells.now c.in_ok-place.place past_cell c.in_ok-place.ensures.0, c.requires.size)
 
 pub returns : goal.returns
 returns c =
-    let none : Dense = record { rank = 0; value = pos 0 } in
     let row = c.args.row.now in
-    let cell = get_or row.cells.now c.in_ok-place.place none in
+    let cell = get_or row.cells.now c.in_ok-place.place past_cell in
     let before : FitsSigned w128 row.before = search rules in
     let value : FitsSigned w128 cell.value = search rules in
-    let within = value-within row.cells.now c.in_ok-place.place none c.in_ok-place.ensures.0 in
-    let worth : to_z w128 (of_z w128 (to_z w128 (of_z w128 row.before) +ℤ to_z w128 (of_z w128 cell.value))) ≡ row.before +ℤ cell.value = omega (arith, ints, within, c.requires.size) in
+    let within = value-within row.cells.now c.in_ok-place.place past_cell c.in_ok-place.ensures.0 in
+    let worth : to_z w128 (of_z w128 (to_z w128 (of_z w128 row.before) +ℤ to_z w128 (of_z w128 cell.value))) ≡ row.before +ℤ cell.value =
+    omega (arith, ints, within, c.requires.size) in
     (λ j. row_with (worth j) row.count (take (length row.cells.now - (c.in_ok-place.place + 1)) (drop (c.in_ok-place.place + 1) row.cells.now)) ∷ [])
-    ∙ projected_row-at c.args.z row.before row.count row.cells.now c.in_ok-place.place none c.requires.ascending c.in_ok-place.ensures.0 c.in_ok-place.ensures.1
+    ∙ projected_row-at c.args.z row.before row.count row.cells.now c.in_ok-place.place past_cell c.requires.ascending c.in_ok-place.ensures.0
+    c.in_ok-place.ensures.1

@@ -1,4 +1,4 @@
-use Rattle.std.proofs.Common.{◌≡◌, ◌∙◌, ◌<◌, [], length, cond, eqb, ap, sym, subst, arith}
+use Rattle.std.proofs.Common.{◌∙◌, ◌<◌, [], length, cond, eqb, ap, arith}
 use Rattle.hu_rows.specs.Handed.{places_at}
 use Rattle.hu_rows.specs.Places.{lists_in}
 use Rattle.hu_rows.proofs.PlaceLemmas.{places_at-taken}

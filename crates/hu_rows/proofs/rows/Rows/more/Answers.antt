@@ -15,4 +15,5 @@ returns-then-not-are_rows-clause-valid c =
 
 pub over-requires : goal.over-requires
 over-requires c =
-    subst (λ rs. AreRows (rows_of rs)) (sym (c.in_ok-try_alloc_slice_copy.ensures ∙ c.as_slice-2.ensures.value ∙ sym c.as_slice.ensures.value)) (AreRows-rules c.as_slice.result.now (c.are_rows.ensures.0 (search rules)))
+    subst (λ rs. AreRows (rows_of rs)) (sym (c.in_ok-try_alloc_slice_copy.ensures ∙ c.as_slice-2.ensures.value ∙ sym c.as_slice.ensures.value))
+    (AreRows-rules c.as_slice.result.now (c.are_rows.ensures.0 (search rules)))

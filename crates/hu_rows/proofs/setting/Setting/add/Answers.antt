@@ -9,7 +9,8 @@ use Rattle.hu_rows.proofs.setting.Setting.add.Goals as goal
 
 pub invariant_of-self : goal.invariant_of-self
 invariant_of-self c =
-    let m : among c.args.rank c.self.inside.kept.items ≡ true = ap (λ (s : SettingOf). among c.args.rank s.kept) c.self.view_is ∙ sym c.is_kept.ensures ∙ c.if-is_kept.true in
+    let m : among c.args.rank c.self.inside.kept.items ≡ true = ap (λ (s : SettingOf). among c.args.rank s.kept) c.self.view_is ∙ sym c.is_kept.ensures
+    ∙ c.if-is_kept.true in
     (IsSetting-set _ _ _ _ _ c.self.invariant.0 m, omega (arith, length-set {A = ℤ}, c.self.invariant.1))
 
 pub returns-then-is_kept-clause-value : goal.returns-then-is_kept-clause-value
@@ -21,10 +22,12 @@ returns-then-is_kept-clause-value c =
     let m : among rank kept ≡ true = ap (λ (s : SettingOf). among rank s.kept) c.self.view_is ∙ sym c.is_kept.ensures ∙ c.if-is_kept.true in
     let within = among-below (length values) rank kept c.self.invariant.0.below m in
     let read : c.index_mut.result.now ≡ value_at values rank = get_or_read values rank c.index_mut.result.now within c.index_mut.ensures.value (pos 0) in
-    let fits : unsigned_abs (value_at values rank) + unsigned_abs share < 2 ^ 127 = subst (λ (s : SettingOf). unsigned_abs (value_at s.values rank) + unsigned_abs share < 2 ^ 127) (sym c.self.view_is) c.requires in
+    let fits : unsigned_abs (value_at values rank) + unsigned_abs share < 2 ^ 127 =
+    subst (λ (s : SettingOf). unsigned_abs (value_at s.values rank) + unsigned_abs share < 2 ^ 127) (sym c.self.view_is) c.requires in
     let v = to_z w128 (of_z w128 (to_z w128 (of_z w128 c.index_mut.result.now) +ℤ to_z w128 (of_z w128 share))) in
     let worth : v ≡ value_at values rank +ℤ share = omega (arith, ints, read, fits) in
-    subst (λ (s : SettingOf). (other : ℕ) → value_at (set values rank v) other ≡ value_at s.values other +ℤ cond (among other s.kept && eqb other rank) share (pos 0)) c.self.view_is
+    subst (λ (s : SettingOf). (other : ℕ) → value_at (set values rank v) other
+    ≡ value_at s.values other +ℤ cond (among other s.kept && eqb other rank) share (pos 0)) c.self.view_is
     (value_at-set kept values c.self.inside.marks.items rank v share c.self.invariant.0 m worth)
 
 pub returns-else-is_kept-clause-value : goal.returns-else-is_kept-clause-value

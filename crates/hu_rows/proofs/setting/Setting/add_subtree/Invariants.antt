@@ -9,5 +9,6 @@ invariant-loop-cell l = record {
   kept : l.self.kept ≡ l.initial.self.kept;
   len : length l.self.values ≡ length l.initial.self.values;
   rest : l.rest ≡ kept_gain l.initial.self.kept (cells_of (drop l.cell-index l.row.cells.now));
-  value : (rank : ℕ) → value_at l.self.values rank ≡ value_at l.initial.self.values rank +ℤ given l.initial.self.kept (λ z. subtree_share l.initial.self.kept z (row_of l.row)) (cells_of (take l.cell-index l.row.cells.now)) rank;
+  value : (rank : ℕ) → value_at l.self.values rank ≡ value_at l.initial.self.values rank +ℤ given l.initial.self.kept
+      (λ z. subtree_share l.initial.self.kept z (row_of l.row)) (cells_of (take l.cell-index l.row.cells.now)) rank;
 }
