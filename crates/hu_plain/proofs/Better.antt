@@ -1,6 +1,5 @@
 -- The greater of two utilities, and a sum before a utility.
 use Rattle.std.proofs.Common.{◌≡◌, true, ℤ, ◌+ℤ◌, Option, None, Some, is_some, option_map, refl, ap, ◌⊎◌, inl, inr, arith}
-use Rattle.std.specs.Int.{int_max}
 use Rattle.std.proofs.lemmas.Int.{ints, clamps}
 use Rattle.hu_kind.specs.Sequence.{better}
 

@@ -6,7 +6,7 @@ use Rattle.std.proofs.lemmas.List.Sums.{sum_by-cons}
 use Rattle.hu_kind.specs.Record.{has, holds, value_of, values_of, items_in, absolute_of}
 use Rattle.hu_kind.specs.Order.{Ascend}
 use Rattle.hu_kind.proofs.lemmas.Occurring.{at_member, above_all, has-member}
-use Rattle.hu_plain.specs.Row.{Cells, RowOf, grown_row}
+use Rattle.hu_plain.specs.Row.{Cells, grown_row}
 
 -- all items of a list come after one
 abbrev pub AllAbove : ℕ → List ℕ → Type 0

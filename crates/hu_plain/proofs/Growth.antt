@@ -1,15 +1,14 @@
 -- A prefix grows by one item after another: the sets that begin with an item are the item alone and the sets that grow
 -- the prefix with it.
-use Rattle.std.proofs.Common.{◌≡◌, ℕ, ◌<◌, ◌≤◌, ◌+◌, Bool, true, false, cond, ℤ, pos, ◌+ℤ◌, List, [], ◌∷◌, ◌++◌, length, refl, sym, ap, ◌∙◌, inl, inr, arith, flat_map, sum_by, length-append}
+use Rattle.std.proofs.Common.{◌≡◌, ℕ, ◌≤◌, ◌+◌, Bool, true, false, cond, ℤ, pos, ◌+ℤ◌, List, [], ◌∷◌, ◌++◌, length, refl, sym, ap, ◌∙◌, inl, inr, arith, sum_by, length-append}
 use Rattle.std.specs.List.{AllByRecursion}
 use Rattle.std.proofs.lemmas.Int.{ints}
 use Rattle.std.proofs.lemmas.List.Sums.{sum_by-cons, sum_by-append}
 use Rattle.hu_kind.specs.Record.{holds, values_of, items_in}
 use Rattle.hu_kind.specs.Database.{support}
-use Rattle.hu_kind.specs.Order.{Ascend}
 use Rattle.hu_kind.proofs.lemmas.Each.{each-append, each-weaker}
 use Rattle.hu_plain.specs.Row.{RowOf, earned_in, earned, tails, grown_row, grown_rows, weight_of, AreRows, IsRising}
-use Rattle.hu_plain.proofs.Cut.{AllAbove, Cut, IsTail, cut}
+use Rattle.hu_plain.proofs.Cut.{AllAbove, cut}
 
 -- what a set that begins with an item earns in a row is what the rest earns in the grown row
 earned-grown_row : (item : ℕ) (items : List ℕ) (row : RowOf) → IsRising row → AllAbove item items

@@ -1,14 +1,14 @@
 -- What a grown sequence earns in places: a growth that begins with an item is what is left of it after the step.
-use Rattle.std.proofs.Common.{◌≡◌, ℕ, ◌<◌, Bool, true, false, cond, ℤ, pos, ◌+ℤ◌, Option, None, Some, is_some, option_map, List, [], ◌∷◌, ◌++◌, refl, sym, ap, ◌∙◌, ◌⊎◌, inl, inr, arith}
+use Rattle.std.proofs.Common.{◌≡◌, ℕ, Bool, true, false, cond, ℤ, pos, ◌+ℤ◌, Option, None, Some, is_some, option_map, List, [], ◌∷◌, ◌++◌, refl, sym, ap, ◌∙◌, ◌⊎◌, inl, inr, arith}
 use Rattle.std.specs.List.{AllByRecursion}
 use Rattle.std.proofs.lemmas.Int.{ints}
 use Rattle.hu_kind.specs.Record.{holds, values_of, items_in}
 use Rattle.hu_kind.specs.Sequence.{better, best_utility}
 use Rattle.hu_kind.specs.Order.{Ascend}
 use Rattle.hu_plain.specs.Row.{Cells, RowOf, grown_row, grown_rows, IsRising}
-use Rattle.hu_plain.specs.Place.{Places, after, best_from, best_of, best_sum, fresh, grown_best, into, itemsets_of, IsAscending, AreAscending}
+use Rattle.hu_plain.specs.Place.{Places, after, best_from, best_of, best_sum, fresh, grown_best, into, itemsets_of, AreAscending}
 use Rattle.hu_plain.proofs.Better.{some_cases, better-none, better-assoc, plus, plus-none, plus-better, better-plus}
-use Rattle.hu_plain.proofs.Cut.{AllAbove, Cut, IsTail, cut}
+use Rattle.hu_plain.proofs.Cut.{AllAbove, cut}
 
 -- what a set earns in a whole row, with a utility after it
 abbrev pub row_best : List ℕ → Option ℤ → RowOf → Option ℤ

@@ -1,5 +1,5 @@
 -- Places, by their indices.
-use Rattle.std.proofs.Common.{◌≡◌, ℕ, zero, suc, ◌<◌, ◌≤◌, ◌+◌, ◌^◌, true, false, eqb, ℤ, pos, negsuc, ◌+ℤ◌, unsigned_abs, Option, None, Some, unwrap_or, IsNone, IfSome, IfNone, ◌↔◌, List, [], ◌∷◌, ◌++◌, map, length, get_or, take, drop, max, refl, sym, ap, ◌∙◌, subst, inl, inr, arith, sum_by, flat_map, Contains, append_assoc, length-append, drop-cons, add-one}
+use Rattle.std.proofs.Common.{◌≡◌, ℕ, zero, suc, ◌<◌, ◌≤◌, ◌+◌, ◌^◌, true, false, eqb, ℤ, pos, negsuc, ◌+ℤ◌, unsigned_abs, Option, None, Some, unwrap_or, IsNone, IfSome, IfNone, ◌↔◌, List, [], ◌∷◌, ◌++◌, map, length, get_or, take, drop, refl, sym, ap, ◌∙◌, subst, inl, inr, arith, sum_by, flat_map, Contains, append_assoc, length-append, drop-cons, add-one}
 use Rattle.std.specs.Global.{Vec}
 use Rattle.std.specs.List.{AllByRecursion}
 use Rattle.std.proofs.lemmas.Int.{ints}
@@ -14,7 +14,7 @@ use Rattle.hu_kind.specs.Record.{items_in, absolute_of, IsItemset}
 use Rattle.hu_kind.specs.Sequence.{better, sequence_patterns}
 use Rattle.hu_kind.specs.Order.{Ascend}
 use Rattle.hu_kind.proofs.lemmas.Ascending.{Ascend-adjacent}
-use Rattle.hu_kind.proofs.lemmas.Members.{Member, Member-map, Contains-from_member, Member-from_contains}
+use Rattle.hu_kind.proofs.lemmas.Members.{Member-map, Contains-from_member, Member-from_contains}
 use Rattle.hu_collect.specs.Laws.{SameMembers}
 use Rattle.hu_plain.specs.declared.places.Step.{Step}
 use Rattle.hu_plain.specs.declared.places.Step.TheVariants.{Into, After}

@@ -1,7 +1,6 @@
 -- The reach of places: no step goes beyond it.
 use Rattle.std.proofs.Common.{◌≡◌, ℕ, ◌<◌, ◌≤◌, ◌+◌, ◌-◌, max, Bool, true, false, cond, ℤ, pos, ◌+ℤ◌, unsigned_abs, Option, None, Some, unwrap_or, List, [], ◌∷◌, length, refl, ap, inl, inr, arith, sum_by}
 use Rattle.std.specs.Int.{int_max}
-use Rattle.std.specs.List.{AllByRecursion}
 use Rattle.std.proofs.lemmas.Int.{ints, clamps}
 use Rattle.std.proofs.lemmas.List.Sums.{sum_by-cons, sum_by-append}
 use Rattle.hu_kind.specs.Record.{absolute_of}

@@ -18,7 +18,7 @@ use Rattle.hu_kind.proofs.lemmas.Ascending.{Ascend-adjacent}
 use Rattle.hu_kind.proofs.lemmas.Members.{Member, Member-map, Member-from_map, Contains-from_member, Member-from_contains}
 use Rattle.hu_collect.specs.Laws.{SameMembers}
 use Rattle.hu_plain.specs.declared.row.Row.{Row}
-use Rattle.hu_plain.specs.Row.{Cells, RowOf, earned, weight_of, AreRows, IsRising}
+use Rattle.hu_plain.specs.Row.{Cells, earned, weight_of, AreRows, IsRising}
 use Rattle.hu_plain.specs.View.{row_of, rows_of, first_row, numbers_of}
 
 -- a row's weight is within the sum

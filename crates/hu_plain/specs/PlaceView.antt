@@ -5,7 +5,6 @@ use Rattle.std.specs.List.{Contains, flat_map}
 use Rattle.hu_kind.specs.declared.item.Item.{Item}
 use Rattle.hu_kind.specs.Cell.{pairs_of}
 use Rattle.hu_kind.specs.Record.{items_in}
-use Rattle.hu_plain.specs.declared.row.Row.{Row}
 use Rattle.hu_plain.specs.declared.places.Place.{Place}
 use Rattle.hu_plain.specs.declared.places.Step.{Step}
 use Rattle.hu_plain.specs.declared.places.Step.TheVariants.{Into, After}

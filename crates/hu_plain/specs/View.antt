@@ -1,5 +1,5 @@
 -- A row as a search keeps it is seen as the pair of what its prefix earned and the pairs of its cells.
-use Rattle.std.specs.Prelude.{◌≡◌, ℕ, ℤ, pos, Option, option_map, option_to_list, List, ◌++◌, map}
+use Rattle.std.specs.Prelude.{◌≡◌, ℕ, pos, Option, option_map, option_to_list, List, ◌++◌, map}
 use Rattle.hu_kind.specs.declared.item.Item.{Item}
 use Rattle.hu_kind.specs.Cell.{pairs_of}
 use Rattle.hu_plain.specs.declared.row.Row.{Row}

@@ -2,7 +2,6 @@ use Rattle.std.proofs.Common.{◌∙◌, ap, rules}
 use Rattle.std.proofs.lemmas.Fn.{always_returns_same}
 use Rattle.std.proofs.lemmas.List.{take_all}
 use Rattle.std.proofs.lemmas.List.Sorted.{IsNonDecreasingBy-from_sort_by_key}
-use Rattle.hu_plain.specs.declared.grown.Grown.{Grown}
 use Rattle.hu_plain.specs.Grown.{all_grown, item_at}
 use Rattle.hu_plain.specs.View.{rows_of}
 use Rattle.hu_plain.proofs.RowLemmas.{weight-below}

@@ -1,4 +1,4 @@
-use Rattle.std.proofs.Common.{◌∙◌, ap, map, arith}
+use Rattle.std.proofs.Common.{◌∙◌, ap, map}
 use Rattle.std.proofs.lemmas.List.{take_all}
 use Rattle.hu_plain.specs.Grown.{item_at}
 use Rattle.hu_plain.proofs.RowLemmas.{SameMembers-dedup, numbers-distinct}

@@ -1,5 +1,4 @@
-use Rattle.std.proofs.Common.{◌↔◌, ◌∙◌, ap, map, subst}
-use Rattle.hu_kind.specs.Itemsets.{item_patterns}
+use Rattle.std.proofs.Common.{◌∙◌, ap, map, subst}
 use Rattle.hu_base.specs.Base.{records_of}
 use Rattle.hu_collect.specs.State.{Mines}
 use Rattle.hu_collect.proofs.lemmas.Searching.{mined}

@@ -1,6 +1,5 @@
-use Rattle.std.proofs.Common.{rules, ◌≡◌, ◌∙◌, ◌+◌, ◌*◌, ◌<◌, List, [], ◌∷◌, get_or, length, refl, sym, ap, subst, arith}
+use Rattle.std.proofs.Common.{rules, ◌≡◌, ◌∙◌, ◌+◌, ◌*◌, ◌<◌, List, get_or, length, refl, sym, ap, subst, arith}
 use Rattle.std.specs.Global.{Vec}
-use Rattle.hu_kind.specs.declared.entry.Entry.{Entry}
 use Rattle.hu_collect.specs.State.{IsInOrder, Reached, ReachedSome}
 use Rattle.hu_collect.proofs.lemmas.Searching.{reached-none, reached-as, some-as, stopped}
 use Rattle.hu_plain.specs.declared.places.Place.{Place}
