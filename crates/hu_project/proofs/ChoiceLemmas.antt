@@ -34,8 +34,8 @@ module _ (tails : List Tally) (floor : ℤ) (kept chosen : List Child) (same : I
   from-chosen : (child : Child) → Member child chosen → (old : Child) × Member old kept × (old.rank ≡ child.rank) × (reaches tails floor child.rank ≡ true)
   from-chosen child m =
       let here = Member-from_contains child (flat_map (open_if tails floor) kept)
-          (Contains-permutation chosen (flat_map (open_if tails floor) kept) child (IsPermutation-sym (flat_map (open_if tails floor) kept) chosen same)
-          (Contains-from_member child chosen m)) in
+      (Contains-permutation chosen (flat_map (open_if tails floor) kept) child (IsPermutation-sym (flat_map (open_if tails floor) kept) chosen same)
+      (Contains-from_member child chosen m)) in
       let from = Member-from_flat_map (open_if tails floor) child kept here in
       by from.0 from.1 (int_le floor (tally_at tails from.0.rank).bound) refl from.2
     where
@@ -59,7 +59,7 @@ module _ (tails : List Tally) (floor : ℤ) (kept chosen : List Child) (same : I
       let here : open_if tails floor one.0 ≡ new ∷ [] = ap (λ b. cond b (bounded one.0 (tally_at tails one.0.rank).bound ∷ []) []) high' in
       let m = Member-flat_map (open_if tails floor) one.0 new kept one.1 (subst (Member new) (sym here) (inl refl)) in
       let n = Member-from_contains new chosen
-          (Contains-permutation (flat_map (open_if tails floor) kept) chosen new same (Contains-from_member new (flat_map (open_if tails floor) kept) m)) in
+      (Contains-permutation (flat_map (open_if tails floor) kept) chosen new same (Contains-from_member new (flat_map (open_if tails floor) kept) m)) in
       subst (Contains (ranks_of chosen)) one.2 (Contains-from_member new.rank (ranks_of chosen) (Member-map (λ (c : Child). c.rank) new chosen n))
 
   module _ (rows : List RowOf) (counted : AreCounted rows) (told : (rank : ℕ) → tally_at tails rank ≡ tail_told rows rank)
@@ -91,9 +91,9 @@ module _ (tails : List Tally) (floor : ℤ) (kept chosen : List Child) (same : I
           let m = member-at chosen i d within in
           let high = (from-chosen child m).3 in
           let at : get_or given i [] ≡ places_at lists child.rank = ap (λ ls. get_or ls i []) is
-              ∙ get_or-map (λ (c : Child). places_at lists c.rank) chosen i d [] within in
+          ∙ get_or-map (λ (c : Child). places_at lists c.rank) chosen i d [] within in
           subst (ArePlaces rows (handed child.rank rows)) (sym at)
-              (subst (λ b. ArePlaces rows (handed_if b child.rank rows) (places_at lists child.rank)) high (handed_out child.rank));
+          (subst (λ b. ArePlaces rows (handed_if b child.rank rows) (places_at lists child.rank)) high (handed_out child.rank));
     }
       where
         member-at : (xs : List Child) (i : ℕ) (d : Child) → i < length xs → Member (get_or xs i d) xs

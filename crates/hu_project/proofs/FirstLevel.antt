@@ -23,8 +23,11 @@ pub IsLevel-first : (s : State) (r : Ranking) (rows : List RowOf) → IsRanking 
     → AreRows rows → AreCounted rows → AreBelow (length r.items) rows → IsLevel s r [] rows
 IsLevel-first s r rows ranking earned held rules counted below = record {
   taken = range_with_len 0 (length r.items);
-  later = λ rank c. record { ascending = (tt, tt); in_table =
-      (let low = range-low 0 (length r.items) rank (Member-from_contains rank (range_with_len 0 (length r.items)) c) in omega arith, tt) };
+  later = λ rank c. record {
+    ascending = (tt, tt);
+    in_table =
+        (let low = range-low 0 (length r.items) rank (Member-from_contains rank (range_with_len 0 (length r.items)) c) in omega arith, tt);
+  };
   exact = λ a more up all. record { earned = earned (a ∷ more); held = held (a ∷ more) };
   met = λ rank some. let low = each-held (λ n. n < length r.items) rank rows below some in all rank low;
   enough = λ more up occurs counts. each-weaker (λ rank. rank < length r.items) (Contains (range_with_len 0 (length r.items))) more (λ rank low. all rank low)

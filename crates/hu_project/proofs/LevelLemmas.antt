@@ -14,7 +14,7 @@ use Rattle.hu_kind.proofs.lemmas.Ascending.{Ascend-right, Ascend-push}
 use Rattle.hu_kind.proofs.lemmas.Each.{each-append, each-right}
 use Rattle.hu_kind.proofs.lemmas.Members.{Member, Member-map, Member-from_map, Member-flat_map, Member-from_flat_map, Member-filter}
 use Rattle.hu_kind.proofs.lemmas.Members.{Member-from_filter, Member-from_contains, Contains-from_member}
-use Rattle.hu_kind.proofs.lemmas.Occurring.{at_member, by_members}
+use Rattle.hu_kind.proofs.lemmas.Occurring.{by_members}
 use Rattle.hu_totals.specs.Ranked.{Ranking}
 use Rattle.hu_collect.specs.Rule.{passes}
 use Rattle.hu_collect.specs.State.{State, floor_in}
@@ -47,9 +47,6 @@ reached floor value h = record { le = subst T (sym h) tt }
 contains-ranks : (child : Child) (children : List Child) → Member child children → Contains (ranks_of children) child.rank
 contains-ranks child children m = Contains-from_member child.rank (ranks_of children) (Member-map (λ (c : Child). c.rank) child children m)
 
-each-contains : (kept : List ℕ) (more : List ℕ) → AllByRecursion (Contains kept) more → (z : ℕ) → Member z more → Contains kept z
-each-contains kept more all z m = at_member (Contains kept) z more all m
-
 firsts : (P Q : ℕ → Type 0) (ranks : List ℕ) → AllByRecursion (λ z. P z × Q z) ranks → AllByRecursion P ranks
 firsts P Q [] all = tt
 firsts P Q (z ∷ ranks) all = (all.0.0, firsts P Q ranks all.1)
@@ -64,10 +61,6 @@ counts-before {e = e} same rises counts = record {
   pass = subst (λ rule. passes rule e ≡ true) same counts.pass;
   high = let high = counts.high in omega (arith, ints, rises, high);
 }
-
--- what counts at a later state
-pub enough-after : {s t : State} (r : Ranking) (set ranks : List ℕ) → IsAfter s t → AreEnough s r set ranks → AreEnough t r set ranks
-enough-after {s} {t} r set ranks after enough more up occurs counts = enough more up occurs (counts-before after.rule after.rises counts)
 
 -- ---- the children of a level
 
@@ -95,7 +88,7 @@ module _ {s : State} {r : Ranking} {set : List ℕ} {rows : List RowOf} (level :
         let count : (tally_at tallies rank).count ≡ count_over rows (rank ∷ []) = ap (λ (t : Tally). t.count) (is.told rank) in
         let yes : nat_lt 0 (tally_at tallies rank).count ≡ true = lt-ltb 0 (tally_at tallies rank).count (omega arith) in
         let one : child_if tallies rank ≡ child_with rank (tally_at tallies rank) ∷ [] =
-            ap (λ b. cond b (child_with rank (tally_at tallies rank) ∷ []) []) yes in
+        ap (λ b. cond b (child_with rank (tally_at tallies rank) ∷ []) []) yes in
         Member-flat_map (child_if tallies) rank (child_with rank (told rows rank)) met (Member-from_contains rank met m)
         (subst (Member (child_with rank (told rows rank))) (sym one) (inl (ap (child_with rank) (is.told rank))))
     | inr none ↦
@@ -141,7 +134,7 @@ module _ {s : State} {r : Ranking} {set : List ℕ} {rows : List RowOf} (level :
         → (0 < count_over rows (rank ∷ [])) × (reaches tallies floor rank ≡ true)
     from-kept rank c =
         let one = Member-from_map (λ (child : Child). child.rank) rank (filter (λ child. int_le floor child.bound) (flat_map (child_if tallies) met))
-            (Member-from_contains rank (ranks_of (filter (λ child. int_le floor child.bound) (flat_map (child_if tallies) met))) c) in
+        (Member-from_contains rank (ranks_of (filter (λ child. int_le floor child.bound) (flat_map (child_if tallies) met))) c) in
         let both = Member-from_filter (λ (child : Child). int_le floor child.bound) one.0 (flat_map (child_if tallies) met) one.1 in
         let from = from-child one.0 both.0 in
         let bound : one.0.bound ≡ most_over rows one.0.rank = ap (λ (child : Child). child.bound) from.1 in
@@ -153,7 +146,7 @@ module _ {s : State} {r : Ranking} {set : List ℕ} {rows : List RowOf} (level :
     to-kept rank held high =
         contains-ranks (child_with rank (told rows rank)) (filter (λ child. int_le floor child.bound) (flat_map (child_if tallies) met))
         (Member-filter (λ (child : Child). int_le floor child.bound) (child_with rank (told rows rank)) (flat_map (child_if tallies) met) (to-child rank held)
-            (sym (reaches-is rank) ∙ high))
+        (sym (reaches-is rank) ∙ high))
 
     -- whether a child is kept
     pub is-kept : (rank : ℕ) → Contains (ranks_of (flat_map (child_if tallies) met)) rank
@@ -161,7 +154,7 @@ module _ {s : State} {r : Ranking} {set : List ℕ} {rows : List RowOf} (level :
         ⊎ (Contains (ranks_of (filter (λ child. int_le floor child.bound) (flat_map (child_if tallies) met))) rank → ⊥)
     is-kept rank c =
         let one = Member-from_map (λ (child : Child). child.rank) rank (flat_map (child_if tallies) met)
-            (Member-from_contains rank (ranks_of (flat_map (child_if tallies) met)) c) in
+        (Member-from_contains rank (ranks_of (flat_map (child_if tallies) met)) c) in
         let held : 0 < count_over rows (rank ∷ []) = subst (λ n. 0 < count_over rows (n ∷ [])) one.2 (from-child one.0 one.1).0 in
         by (reaches tallies floor rank) refl held
       where
@@ -206,7 +199,7 @@ module _ {s : State} {r : Ranking} {set : List ℕ} {rows : List RowOf} (level :
             };
         met = λ rank held.
             let both = each-held (λ z. (z < length r.items) × (reaches tallies floor z ≡ true)) rank (narrowed (reaches tallies floor) rows)
-                (each-narrowed (reaches tallies floor) (λ z. z < length r.items) rows level.below) held in
+            (each-narrowed (reaches tallies floor) (λ z. z < length r.items) rows level.below) held in
             to-kept rank (omega (arith, count-narrower (reaches tallies floor) rank rows)) both.1;
         enough = enough-kept;
         rules = AreRows-narrowed (reaches tallies floor) rows rules;
@@ -247,8 +240,8 @@ module _ {s : State} {r : Ranking} {set kept : List ℕ} {rows : List RowOf} (na
         → Contains kept child.rank × (child.bound ≡ tail_over rows child.rank) × (reaches tallies floor child.rank ≡ true)
     from-open child m =
         let here = Member-from_contains child (flat_map (open_if tallies floor) children)
-            (Contains-permutation chosen (flat_map (open_if tallies floor) children) child
-            (IsPermutation-sym (flat_map (open_if tallies floor) children) chosen same) (Contains-from_member child chosen m)) in
+        (Contains-permutation chosen (flat_map (open_if tallies floor) children) child
+        (IsPermutation-sym (flat_map (open_if tallies floor) children) chosen same) (Contains-from_member child chosen m)) in
         let from = Member-from_flat_map (open_if tallies floor) child children here in
         by from.0 from.1 (int_le floor (tally_at tallies from.0.rank).bound) refl from.2
       where
@@ -264,14 +257,14 @@ module _ {s : State} {r : Ranking} {set kept : List ℕ} {rows : List RowOf} (na
     to-open : (rank : ℕ) → Contains kept rank → reaches tallies floor rank ≡ true → Contains (ranks_of chosen) rank
     to-open rank c high =
         let one = Member-from_map (λ (child : Child). child.rank) rank children
-            (Member-from_contains rank (ranks_of children) (subst (λ ns. Contains ns rank) (sym kept_is) c)) in
+        (Member-from_contains rank (ranks_of children) (subst (λ ns. Contains ns rank) (sym kept_is) c)) in
         let high' : int_le floor (tally_at tallies one.0.rank).bound ≡ true = subst (λ n. reaches tallies floor n ≡ true) (sym one.2) high in
         let here : open_if tallies floor one.0 ≡ bounded one.0 (tally_at tallies one.0.rank).bound ∷ [] =
-            ap (λ b. cond b (bounded one.0 (tally_at tallies one.0.rank).bound ∷ []) []) high' in
+        ap (λ b. cond b (bounded one.0 (tally_at tallies one.0.rank).bound ∷ []) []) high' in
         let new = bounded one.0 (tally_at tallies one.0.rank).bound in
         let m = Member-flat_map (open_if tallies floor) one.0 new children one.1 (subst (Member new) (sym here) (inl refl)) in
         let n = Member-from_contains new chosen (Contains-permutation (flat_map (open_if tallies floor) children) chosen new same
-            (Contains-from_member new (flat_map (open_if tallies floor) children) m)) in
+        (Contains-from_member new (flat_map (open_if tallies floor) children) m)) in
         subst (Contains (ranks_of chosen)) one.2 (contains-ranks new chosen n)
 
     barren-low : (rank : ℕ) → reaches tallies floor rank ≡ false → IsBarren s r (set ++ rank ∷ [])
@@ -327,7 +320,7 @@ module _ {s : State} {r : Ranking} {set kept : List ℕ} {rows : List RowOf} (na
         let two : 0 < count_over rows (z ∷ y ∷ []) = omega arith in
         Contains-from_member y (filter (λ y. nat_lt z y) kept)
         (Member-filter (λ y. nat_lt z y) y kept (Member-from_contains y kept (narrow.met y (count-held rows (z ∷ y ∷ []) y (inr (inl refl)) two)))
-            (lt-ltb z y above));
+        (lt-ltb z y above));
     enough = λ more up occurs counts.
         let same : (set ++ z ∷ []) ++ more ≡ set ++ z ∷ more = append_assoc set (z ∷ []) more in
         let up' = subst Ascend same up in

@@ -25,27 +25,35 @@ use Rattle.hu_project.proofs.LevelLemmas.{enough-children, is-kept, IsNarrow-nar
 pub some-offers : {s t : State} (r : Ranking) (set ranks : List ℕ) → Reached s (IsOneOf r set ranks) t → ReachedSome s (Grows r set) t
 some-offers r set ranks first = upto-stopped r set ranks [] 0 (upto-none r set ranks [] first)
 
-module _ {s t : State} {r : Ranking} {set : List ℕ} {rows : List RowOf} (level : IsLevel s r set rows) {tallies : List Tally} {met : List ℕ}
-    (is : AreTold rows tallies met)
-    (children kept : List Child) (floor : ℤ) (kids : children ≡ flat_map (child_if tallies) met)
-        (kept_is : kept ≡ filter (λ child. int_le floor child.bound) children)
-    (ordered : IsInOrder s) (first : Reached s (IsOneOf r set (ranks_of children)) t) (floor_is : floor ≡ floor_in t) where
+-- the children of a set were offered, and those are kept whose bound reaches a floor
+pub record AreOffered (s t : State) (r : Ranking) (set : List ℕ) (rows : List RowOf) (tallies : List Tally) (met : List ℕ)
+    (children kept : List Child) (floor : ℤ) : Type 0 where
+  pub level : IsLevel s r set rows
+  pub told : AreTold rows tallies met
+  pub kids : children ≡ flat_map (child_if tallies) met
+  pub kept_is : kept ≡ filter (λ child. int_le floor child.bound) children
+  pub ordered : IsInOrder s
+  pub offers : Reached s (IsOneOf r set (ranks_of children)) t
+  pub floor_is : floor ≡ floor_in t
+
+module _ {s t : State} {r : Ranking} {set : List ℕ} {rows : List RowOf} {tallies : List Tally} {met : List ℕ}
+    {children kept : List Child} {floor : ℤ} (offered : AreOffered s t r set rows tallies met children kept floor) where
   after : IsAfter s t
-  after = record { rule = reached-rule first; rises = reached-floor ordered first }
+  after = record { rule = reached-rule offered.offers; rises = reached-floor offered.ordered offered.offers }
 
   kept_told : kept ≡ filter (λ child. int_le floor child.bound) (flat_map (child_if tallies) met)
-  kept_told = kept_is ∙ ap (filter (λ child. int_le floor child.bound)) kids
+  kept_told = offered.kept_is ∙ ap (filter (λ child. int_le floor child.bound)) offered.kids
 
   pub IsNarrow-kept : IsNarrow t r set (ranks_of kept) (narrowed (reaches tallies floor) rows)
   IsNarrow-kept = subst (λ ks. IsNarrow t r set (ranks_of ks) (narrowed (reaches tallies floor) rows)) (sym kept_told)
-      (IsNarrow-narrowed level is floor after floor_is level.rules)
+      (IsNarrow-narrowed offered.level offered.told floor after offered.floor_is offered.level.rules)
 
   -- ranks that narrowed rows hold were met
   pub noted-kept : (rank : ℕ) → 0 < count_over (narrowed (reaches tallies floor) rows) (rank ∷ []) → Contains met rank
-  noted-kept rank held = elim (is.noted.each rank) [
+  noted-kept rank held = elim (offered.told.noted.each rank) [
     | inl m ↦ m
     | inr none ↦
-        let count : count_over rows (rank ∷ []) ≡ 0 = ap (λ (t : Tally). t.count) (sym (is.told rank) ∙ none) in
+        let count : count_over rows (rank ∷ []) ≡ 0 = ap (λ (t : Tally). t.count) (sym (offered.told.told rank) ∙ none) in
         absurd (omega (arith, count-narrower (reaches tallies floor) rank rows))
   ]
 
@@ -56,12 +64,12 @@ module _ {s t : State} {r : Ranking} {set : List ℕ} {rows : List RowOf} (level
       (each-right (λ n. n < length r.items) set (child.rank ∷ []) later.in_table).0)
 
   enough : AreEnough s r set (ranks_of children)
-  enough = subst (λ cs. AreEnough s r set (ranks_of cs)) (sym kids) (enough-children level is)
+  enough = subst (λ cs. AreEnough s r set (ranks_of cs)) (sym offered.kids) (enough-children offered.level offered.told)
 
   decide : (rank : ℕ) → Contains (ranks_of children) rank → Contains (ranks_of kept) rank ⊎ (Contains (ranks_of kept) rank → ⊥)
-  decide = subst (λ cs. (rank : ℕ) → Contains (ranks_of cs) rank → Contains (ranks_of kept) rank ⊎ (Contains (ranks_of kept) rank → ⊥)) (sym kids)
+  decide = subst (λ cs. (rank : ℕ) → Contains (ranks_of cs) rank → Contains (ranks_of kept) rank ⊎ (Contains (ranks_of kept) rank → ⊥)) (sym offered.kids)
       (subst (λ ks. (rank : ℕ) → Contains (ranks_of (flat_map (child_if tallies) met)) rank → Contains (ranks_of ks) rank ⊎ (Contains (ranks_of ks) rank → ⊥))
-          (sym kept_told) (is-kept level is floor))
+      (sym kept_told) (is-kept offered.level offered.told floor))
 
   pub prepared-none : length (ranks_of kept) < 2 → (part : Open) → part.rows ≡ [] → part.children.items ≡ [] → part.places.items ≡ []
       → IsPrepared s t r set part
@@ -71,7 +79,7 @@ module _ {s t : State} {r : Ranking} {set : List ℕ} {rows : List RowOf} (level
         ranks = ranks_of children;
         kept = ranks_of kept;
         enough = enough;
-        offers = first;
+        offers = offered.offers;
         opened = subst (AreOpen t r set (ranks_of children)) (sym children_none)
             (AreOpen-none (ranks_of kept) narrow.later narrow.enough few (ranks_of children));
         fall = subst Fall (sym children_none) tt;
@@ -91,13 +99,13 @@ module _ {s t : State} {r : Ranking} {set : List ℕ} {rows : List RowOf} (level
         ranks = ranks_of children;
         kept = ranks_of kept;
         enough = enough;
-        offers = first;
-        opened = AreOpen-chosen narrow narrow.rules choice.tails choice.told floor floor_is
+        offers = offered.offers;
+        opened = AreOpen-chosen narrow narrow.rules choice.tails choice.told floor offered.floor_is
             (ranks_of children) decide kept part.children.items refl choice.same;
         fall = choice.fall;
         narrow = subst (IsNarrow t r set (ranks_of kept)) (sym choice.rows) narrow;
         chosen = by_members (λ (child : Child). Contains (ranks_of kept) child.rank) part.children.items
-            (λ child m. (from-open narrow narrow.rules choice.tails choice.told floor floor_is
-                (ranks_of children) decide kept part.children.items refl choice.same child m).0);
+            (λ child m. (from-open narrow narrow.rules choice.tails choice.told floor offered.floor_is
+            (ranks_of children) decide kept part.children.items refl choice.same child m).0);
         places = subst (λ rs. AreHanded rs part.children.items (lists_in part.places.items)) (sym choice.rows) choice.places;
       }

@@ -53,38 +53,28 @@ values_of-added : (ranks : List ℕ) (cells others : List (ℕ × ℤ)) → item
 values_of-added [] cells others same = refl
 values_of-added (rank ∷ ranks) cells others same = omega (arith, ints, value_of-added rank cells others same, values_of-added ranks cells others same)
 
+held-added : (ranks : List ℕ) (row other : RowOf) → ranks_of row ≡ ranks_of other → holds ranks (added row other).cells ≡ holds ranks other.cells
+held-added ranks row other same = holds-ranks ranks (added row other).cells other.cells (items_in-added_cells row.cells other.cells ∙ same)
+
 -- what a set earns in rows of the same ranks, and how many records they stand for
 pub over_row-added : (ranks : List ℕ) (row other : RowOf) → ranks_of row ≡ ranks_of other
     → over_row ranks (added row other) ≡ over_row ranks row +ℤ over_row ranks other
 over_row-added ranks row other same =
-    by (holds ranks (added row other).cells) (holds ranks row.cells) (holds ranks other.cells)
-    (holds-ranks ranks (added row other).cells row.cells (items_in-added_cells row.cells other.cells))
-    (holds-ranks ranks row.cells other.cells same)
+    rw (held-added ranks row other same, holds-ranks ranks row.cells other.cells same) (by (holds ranks other.cells))
   where
-    by : (b c d : Bool) → b ≡ c → c ≡ d
-        → cond b (row.before +ℤ other.before +ℤ values_of ranks (added_cells row.cells other.cells)) (pos 0)
-        ≡ cond c (row.before +ℤ values_of ranks row.cells) (pos 0) +ℤ cond d (other.before +ℤ values_of ranks other.cells) (pos 0)
-    by true true true e f = omega (arith, ints, values_of-added ranks row.cells other.cells same)
-    by false false false e f = refl
-    by true false d e f = cc
-    by false true d e f = cc
-    by true true false e f = cc
-    by false false true e f = cc
+    by : (b : Bool) → cond b (row.before +ℤ other.before +ℤ values_of ranks (added_cells row.cells other.cells)) (pos 0)
+        ≡ cond b (row.before +ℤ values_of ranks row.cells) (pos 0) +ℤ cond b (other.before +ℤ values_of ranks other.cells) (pos 0)
+    by true = omega (arith, ints, values_of-added ranks row.cells other.cells same)
+    by false = refl
 
 pub count_in-added : (ranks : List ℕ) (row other : RowOf) → ranks_of row ≡ ranks_of other
     → count_in ranks (added row other) ≡ count_in ranks row + count_in ranks other
 count_in-added ranks row other same =
-    by (holds ranks (added row other).cells) (holds ranks row.cells) (holds ranks other.cells)
-    (holds-ranks ranks (added row other).cells row.cells (items_in-added_cells row.cells other.cells))
-    (holds-ranks ranks row.cells other.cells same)
+    rw (held-added ranks row other same, holds-ranks ranks row.cells other.cells same) (by (holds ranks other.cells))
   where
-    by : (b c d : Bool) → b ≡ c → c ≡ d → cond b (row.count + other.count) 0 ≡ cond c row.count 0 + cond d other.count 0
-    by true true true e f = refl
-    by false false false e f = omega arith
-    by true false d e f = cc
-    by false true d e f = cc
-    by true true false e f = cc
-    by false false true e f = cc
+    by : (b : Bool) → cond b (row.count + other.count) 0 ≡ cond b row.count 0 + cond b other.count 0
+    by true = refl
+    by false = omega arith
 
 -- sizes
 pub absolute_of-added : (cells others : List (ℕ × ℤ)) → absolute_of (added_cells cells others) ≤ absolute_of cells + absolute_of others

@@ -1,60 +1,92 @@
--- Cells after a rank.
+-- The cells of some ranks, and those after a rank.
 use Rattle.std.proofs.Common.{◌≡◌, ℕ, zero, suc, ◌+◌, ◌<◌, ◌≤◌, Bool, true, false, cond, eqb, nat_lt, ◌&&◌, ◌||◌, ℤ, unsigned_abs, ◌+ℤ◌, List, []}
-use Rattle.std.proofs.Common.{◌∷◌, length, get_or, drop, inl, inr, refl, ap, arith}
+use Rattle.std.proofs.Common.{◌∷◌, length, get_or, drop, inl, inr, refl, ap, ◌∙◌, arith}
 use Rattle.std.specs.List.{AllByRecursion}
-use Rattle.std.proofs.lemmas.Bool.{ne_eqb, eq-eqb, eqb-true, ltb-true, ltb-false, lt-ltb, le-ltb}
+use Rattle.std.proofs.lemmas.Bool.{ne_eqb, eq-eqb, eqb-true, ltb-true, lt-ltb, le-ltb}
 use Rattle.std.proofs.lemmas.List.Sums.{sum_by-cons}
 use Rattle.hu_kind.specs.Order.{Ascend}
 use Rattle.hu_kind.specs.Record.{has, holds, value_of, values_of, items_in, absolute_of}
 use Rattle.hu_kind.proofs.lemmas.Members.{Member}
 use Rattle.hu_rows.specs.Projection.{after}
+use Rattle.hu_rows.specs.Handed.{only}
+use Rattle.hu_kind.proofs.lemmas.Each.{each-weaker}
 
--- a cell in front that isn't after z says nothing of ranks after z
-other : (z s : ℕ) (cell : ℕ × ℤ) → z < s → nat_lt z cell.0 ≡ false → eqb s cell.0 ≡ false
-other z s cell above h = let low = ltb-false z cell.0 h in ne_eqb s cell.0 (λ e. absurd (omega arith))
+-- ---- the cells of some ranks
 
-pub has-after : (z s : ℕ) (cells : List (ℕ × ℤ)) → z < s → has s (after z cells) ≡ has s cells
-has-after z s [] above = refl
-has-after z s (cell ∷ cells) above = by (nat_lt z cell.0) refl (has-after z s cells above)
-  where
-    by : (b : Bool) → nat_lt z cell.0 ≡ b → has s (after z cells) ≡ has s cells → has s (cond b (cell ∷ after z cells) (after z cells)) ≡ has s (cell ∷ cells)
-    by true h ih = ap (λ r. eqb s cell.0 || r) ih
-    by false h ih = let no : eqb s cell.0 ≡ false = other z s cell above h in rw no ih
+module _ (p : ℕ → Bool) where
+  -- a cell that is left out says nothing of ranks that are kept
+  other : (s : ℕ) (cell : ℕ × ℤ) → p s ≡ true → p cell.0 ≡ false → eqb s cell.0 ≡ false
+  other s cell kept out = ne_eqb s cell.0 (λ e. let there : p s ≡ false = ap p e ∙ out in cc)
 
-pub value_of-after : (z s : ℕ) (cells : List (ℕ × ℤ)) → z < s → value_of s (after z cells) ≡ value_of s cells
-value_of-after z s [] above = refl
-value_of-after z s (cell ∷ cells) above = by (nat_lt z cell.0) refl (value_of-after z s cells above)
-  where
-    by : (b : Bool) → nat_lt z cell.0 ≡ b → value_of s (after z cells) ≡ value_of s cells
-        → value_of s (cond b (cell ∷ after z cells) (after z cells)) ≡ value_of s (cell ∷ cells)
-    by true h ih = ap (λ r. cond (eqb s cell.0) cell.1 r) ih
-    by false h ih = let no : eqb s cell.0 ≡ false = other z s cell above h in rw no ih
+  has-only : (s : ℕ) (cells : List (ℕ × ℤ)) → p s ≡ true → has s (only p cells) ≡ has s cells
+  has-only s [] kept = refl
+  has-only s (cell ∷ cells) kept = by (p cell.0) refl (has-only s cells kept)
+    where
+      by : (b : Bool) → p cell.0 ≡ b → has s (only p cells) ≡ has s cells → has s (cond b (cell ∷ only p cells) (only p cells)) ≡ has s (cell ∷ cells)
+      by true h ih = ap (λ r. eqb s cell.0 || r) ih
+      by false h ih = let no : eqb s cell.0 ≡ false = other s cell kept h in rw no ih
+
+  value_of-only : (s : ℕ) (cells : List (ℕ × ℤ)) → p s ≡ true → value_of s (only p cells) ≡ value_of s cells
+  value_of-only s [] kept = refl
+  value_of-only s (cell ∷ cells) kept = by (p cell.0) refl (value_of-only s cells kept)
+    where
+      by : (b : Bool) → p cell.0 ≡ b → value_of s (only p cells) ≡ value_of s cells
+          → value_of s (cond b (cell ∷ only p cells) (only p cells)) ≡ value_of s (cell ∷ cells)
+      by true h ih = ap (λ r. cond (eqb s cell.0) cell.1 r) ih
+      by false h ih = let no : eqb s cell.0 ≡ false = other s cell kept h in rw no ih
+
+  pub holds-only : (set : List ℕ) (cells : List (ℕ × ℤ)) → AllByRecursion (λ s. p s ≡ true) set → holds set (only p cells) ≡ holds set cells
+  holds-only [] cells kept = refl
+  holds-only (s ∷ set) cells kept = λ j. has-only s cells kept.0 j && holds-only set cells kept.1 j
+
+  pub values_of-only : (set : List ℕ) (cells : List (ℕ × ℤ)) → AllByRecursion (λ s. p s ≡ true) set → values_of set (only p cells) ≡ values_of set cells
+  values_of-only [] cells kept = refl
+  values_of-only (s ∷ set) cells kept = λ j. value_of-only s cells kept.0 j +ℤ values_of-only set cells kept.1 j
+
+  pub each-only : (P : ℕ → Type 0) (cells : List (ℕ × ℤ)) → AllByRecursion P (items_in cells)
+      → AllByRecursion (λ rank. P rank × (p rank ≡ true)) (items_in (only p cells))
+  each-only P [] all = tt
+  each-only P (cell ∷ cells) all = by (p cell.0) refl (each-only P cells all.1)
+    where
+      by : (b : Bool) → p cell.0 ≡ b → AllByRecursion (λ rank. P rank × (p rank ≡ true)) (items_in (only p cells))
+          → AllByRecursion (λ rank. P rank × (p rank ≡ true)) (items_in (cond b (cell ∷ only p cells) (only p cells)))
+      by true h ih = ((all.0, h), ih)
+      by false h ih = ih
+
+  -- what holds of each rank holds of those that are kept
+  pub each-part : (P : ℕ → Type 0) (cells : List (ℕ × ℤ)) → AllByRecursion P (items_in cells) → AllByRecursion P (items_in (only p cells))
+  each-part P cells all = each-weaker (λ rank. P rank × (p rank ≡ true)) P (items_in (only p cells)) (λ rank both. both.0) (each-only P cells all)
+
+  pub Ascend-only : (cells : List (ℕ × ℤ)) → Ascend (items_in cells) → Ascend (items_in (only p cells))
+  Ascend-only [] up = tt
+  Ascend-only (cell ∷ cells) up = by (p cell.0) (Ascend-only cells up.1)
+    where
+      by : (b : Bool) → Ascend (items_in (only p cells)) → Ascend (items_in (cond b (cell ∷ only p cells) (only p cells)))
+      by true ih = (each-part (λ y. cell.0 < y) cells up.0, ih)
+      by false ih = ih
+
+  pub absolute_of-only : (cells : List (ℕ × ℤ)) → absolute_of (only p cells) ≤ absolute_of cells
+  absolute_of-only [] = omega arith
+  absolute_of-only (cell ∷ cells) = by (p cell.0) (absolute_of-only cells)
+    where
+      by : (b : Bool) → absolute_of (only p cells) ≤ absolute_of cells → absolute_of (cond b (cell ∷ only p cells) (only p cells)) ≤ absolute_of (cell ∷ cells)
+      by true ih = omega (arith, sum_by-cons (λ (c : ℕ × ℤ). unsigned_abs c.1) cell (only p cells), sum_by-cons (λ (c : ℕ × ℤ). unsigned_abs c.1) cell cells)
+      by false ih = omega (arith, sum_by-cons (λ (c : ℕ × ℤ). unsigned_abs c.1) cell cells)
+
+-- ---- the cells after a rank
+
+each-above : (z : ℕ) (set : List ℕ) → AllByRecursion (λ rank. z < rank) set → AllByRecursion (λ rank. nat_lt z rank ≡ true) set
+each-above z set above = each-weaker (λ rank. z < rank) (λ rank. nat_lt z rank ≡ true) set (λ rank low. lt-ltb z rank low) above
 
 pub holds-after : (z : ℕ) (set : List ℕ) (cells : List (ℕ × ℤ)) → AllByRecursion (λ rank. z < rank) set → holds set (after z cells) ≡ holds set cells
-holds-after z [] cells above = refl
-holds-after z (s ∷ set) cells above = λ j. has-after z s cells above.0 j && holds-after z set cells above.1 j
+holds-after z set cells above = holds-only (nat_lt z) set cells (each-above z set above)
 
 pub values_of-after : (z : ℕ) (set : List ℕ) (cells : List (ℕ × ℤ)) → AllByRecursion (λ rank. z < rank) set
     → values_of set (after z cells) ≡ values_of set cells
-values_of-after z [] cells above = refl
-values_of-after z (s ∷ set) cells above = λ j. value_of-after z s cells above.0 j +ℤ values_of-after z set cells above.1 j
-
--- what holds of each rank holds of those after z
-pub each-after : (P : ℕ → Type 0) (z : ℕ) (cells : List (ℕ × ℤ)) → AllByRecursion P (items_in cells) → AllByRecursion P (items_in (after z cells))
-each-after P z [] all = tt
-each-after P z (cell ∷ cells) all = by (nat_lt z cell.0) (each-after P z cells all.1)
-  where
-    by : (b : Bool) → AllByRecursion P (items_in (after z cells)) → AllByRecursion P (items_in (cond b (cell ∷ after z cells) (after z cells)))
-    by true ih = (all.0, ih)
-    by false ih = ih
+values_of-after z set cells above = values_of-only (nat_lt z) set cells (each-above z set above)
 
 pub Ascend-after : (z : ℕ) (cells : List (ℕ × ℤ)) → Ascend (items_in cells) → Ascend (items_in (after z cells))
-Ascend-after z [] up = tt
-Ascend-after z (cell ∷ cells) up = by (nat_lt z cell.0) (Ascend-after z cells up.1)
-  where
-    by : (b : Bool) → Ascend (items_in (after z cells)) → Ascend (items_in (cond b (cell ∷ after z cells) (after z cells)))
-    by true ih = (each-after (λ y. cell.0 < y) z cells up.0, ih)
-    by false ih = ih
+Ascend-after z cells up = Ascend-only (nat_lt z) cells up
 
 -- cells that are all after z
 pub after-all : (z : ℕ) (cells : List (ℕ × ℤ)) → AllByRecursion (λ y. z < y) (items_in cells) → after z cells ≡ cells
@@ -115,10 +147,6 @@ Member-after z rank (cell ∷ cells) m = by (nat_lt z cell.0) refl (Member-after
 -- and these are after z
 pub each-after-both : (P : ℕ → Type 0) (z : ℕ) (cells : List (ℕ × ℤ)) → AllByRecursion P (items_in cells)
     → AllByRecursion (λ rank. P rank × (z < rank)) (items_in (after z cells))
-each-after-both P z [] all = tt
-each-after-both P z (cell ∷ cells) all = by (nat_lt z cell.0) refl (each-after-both P z cells all.1)
-  where
-    by : (b : Bool) → nat_lt z cell.0 ≡ b → AllByRecursion (λ rank. P rank × (z < rank)) (items_in (after z cells))
-        → AllByRecursion (λ rank. P rank × (z < rank)) (items_in (cond b (cell ∷ after z cells) (after z cells)))
-    by true h ih = ((all.0, ltb-true z cell.0 h), ih)
-    by false h ih = ih
+each-after-both P z cells all =
+    each-weaker (λ rank. P rank × (nat_lt z rank ≡ true)) (λ rank. P rank × (z < rank)) (items_in (after z cells))
+    (λ rank both. (both.0, ltb-true z rank both.1)) (each-only (nat_lt z) P cells all)

@@ -234,11 +234,8 @@ pub merged-run : (first : Row) (rest : List Row)
     ∷ merged (rows_of (drop (prefix_len (same_ranks (row_of first)) rest) rest))
 merged-run first rest = fold-run (row_of first) (row_of first) rest refl
 
--- the size and the count of rows added
-pub size_of-fold : (row : RowOf) (rows : List RowOf) → size_of (fold added row rows) ≤ size_of row + sum_by size_of rows
-size_of-fold row [] = omega arith
-size_of-fold row (next ∷ rows) = omega (arith, size_of-fold (added row next) rows, size_of-added row next, sum_by-cons size_of next rows)
-
-pub count_of-fold : (row : RowOf) (rows : List RowOf) → count_of (fold added row rows) ≡ row.count + sum_by count_of rows
-count_of-fold row [] = omega arith
-count_of-fold row (next ∷ rows) = omega (arith, count_of-fold (added row next) rows, sum_by-cons count_of next rows)
+-- what grows by no more than each row's share as rows are added
+pub fold-within : (f : RowOf → ℕ) → ((row other : RowOf) → f (added row other) ≤ f row + f other) → (row : RowOf) (rows : List RowOf)
+    → f (fold added row rows) ≤ f row + sum_by f rows
+fold-within f grows row [] = omega arith
+fold-within f grows row (next ∷ rows) = omega (arith, fold-within f grows (added row next) rows, grows row next, sum_by-cons f next rows)

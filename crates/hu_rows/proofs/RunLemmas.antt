@@ -6,11 +6,11 @@ use Rattle.std.proofs.lemmas.List.{take_rest, take_more, drop_more, drop-drop, m
 use Rattle.std.proofs.lemmas.List.Sums.{sum_by-cons, sum_by_more_le, sum_by-take-le, sum_by-drop_more, sum_by-take-drop, prefix_len-le-length, get_or-le-sum_by}
 use Rattle.hu_kind.specs.Order.{Ascend}
 use Rattle.hu_rows.specs.declared.rows.Row.{Row}
-use Rattle.hu_rows.specs.Rows.{RowOf, AreRows, size_of, count_of, ranks_of}
+use Rattle.hu_rows.specs.Rows.{RowOf, AreRows, size_of, ranks_of}
 use Rattle.hu_rows.specs.Merging.{added, merged}
 use Rattle.hu_rows.specs.View.{row_of, rows_of, same_ranks}
 use Rattle.hu_rows.proofs.CellChecks.{ascends-at}
-use Rattle.hu_rows.proofs.MergingLemmas.{size_of-fold, count_of-fold, merged-run}
+use Rattle.hu_rows.proofs.MergingLemmas.{fold-within, merged-run}
 use Rattle.hu_rows.proofs.PastEnd.{past_row}
 
 pub sum_by-rows_of : (f : RowOf → ℕ) (rows : List Row) → sum_by f (rows_of rows) ≡ sum_by (λ row. f (row_of row)) rows
@@ -28,27 +28,6 @@ IsRow-at rows i rules within = record {
   ascending = ascends-at rows i past_row rules.ascending within;
   size = omega (arith, sum_by-rows_of size_of rows, get_or-le-sum_by (λ (row : Row). size_of (row_of row)) rows i past_row within, rules.sizes);
 }
-
--- the rows added so far and the next are within all of them
-pub size-room : (first : RowOf) (rest : List Row) (i : ℕ) (d : Row) → i < length rest
-    → size_of (fold added first (rows_of (take i rest))) + size_of (row_of (get_or rest i d)) ≤ size_of first + sum_by size_of (rows_of rest)
-size-room first rest i d within = omega (
-  arith,
-  size_of-fold first (rows_of (take i rest)),
-  sum_by-rows_of size_of (take i rest),
-  sum_by-rows_of size_of rest,
-  sum_by_more_le (λ (r : Row). size_of (row_of r)) rest i d within,
-)
-
-pub count-room : (first : RowOf) (rest : List Row) (i : ℕ) (d : Row) → i < length rest
-    → count_of (fold added first (rows_of (take i rest))) + count_of (row_of (get_or rest i d)) ≤ count_of first + sum_by count_of (rows_of rest)
-count-room first rest i d within = omega (
-  arith,
-  count_of-fold first (rows_of (take i rest)),
-  sum_by-rows_of count_of (take i rest),
-  sum_by-rows_of count_of rest,
-  sum_by_more_le (λ (r : Row). count_of (row_of r)) rest i d within,
-)
 
 -- a run is within all rows
 pub run-within : (f : RowOf → ℕ) (rows : List Row) (start same : ℕ) (d : Row) → start < length rows
@@ -103,3 +82,8 @@ pub sum_by-more : (f : RowOf → ℕ) (rows : List Row) (i : ℕ) (d : Row) → 
     → sum_by f (rows_of (take i rows)) + f (row_of (get_or rows i d)) ≤ sum_by f (rows_of rows)
 sum_by-more f rows i d within =
     omega (arith, sum_by-rows_of f (take i rows), sum_by-rows_of f rows, sum_by_more_le (λ (r : Row). f (row_of r)) rows i d within)
+
+-- the rows added so far and the next are within all of them
+pub fold-room : (f : RowOf → ℕ) → ((row other : RowOf) → f (added row other) ≤ f row + f other) → (first : RowOf) (rest : List Row) (i : ℕ) (d : Row)
+    → i < length rest → f (fold added first (rows_of (take i rest))) + f (row_of (get_or rest i d)) ≤ f first + sum_by f (rows_of rest)
+fold-room f grows first rest i d within = omega (arith, fold-within f grows first (rows_of (take i rest)), sum_by-more f rest i d within)

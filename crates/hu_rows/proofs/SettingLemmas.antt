@@ -327,3 +327,42 @@ local_share-is kept row gain r is fits e =
     omega (arith, ints) in
     let share : r ≡ local_share kept row = e ∙ ap positive_part worth in
     omega (arith, ints, share, local_share-within kept row)
+
+-- ---- one turn of the loop over a row's cells: the gain from a cell on, and the cell's part of it
+
+pub record Left (kept : List ℕ) (row : Row) (i : ℕ) (d : Dense) (rest part : ℤ) : Type 0 where
+  pub within : i < length row.cells.now
+  pub fits : size_of (row_of row) < 2 ^ 127
+  pub rest_is : rest ≡ kept_gain kept (cells_of (drop i row.cells.now))
+  pub part_is : part ≡ kept_part kept (dense_pair (get_or row.cells.now i d))
+  pub read : to_z w128 (of_z w128 part) ≡ part
+
+module _ {kept : List ℕ} {row : Row} {i : ℕ} {d : Dense} {rest part : ℤ} (left : Left kept row i d rest part) where
+  -- the gain after the cell
+  pub left-after : rest -ℤ to_z w128 (of_z w128 part) ≡ kept_gain kept (cells_of (drop (i + 1) row.cells.now))
+  left-after =
+      ap (λ p. rest -ℤ p) left.read
+      ∙ rest-is kept row.cells.now i d rest part left.within (omega (arith, left.fits)) left.rest_is left.part_is
+
+  pub left-room : unsigned_abs row.before + unsigned_abs (get_or row.cells.now i d).value
+      + unsigned_abs (kept_gain kept (cells_of (drop (i + 1) row.cells.now))) < 2 ^ 127
+  left-room = omega (arith, place-within kept row.cells.now i d left.within, left.fits)
+
+  pub left-now : to_z w128 (of_z w128 (rest -ℤ to_z w128 (of_z w128 part))) ≡ kept_gain kept (cells_of (drop (i + 1) row.cells.now))
+  left-now = same-fit (rest -ℤ to_z w128 (of_z w128 part)) (omega (arith, ap unsigned_abs left-after, left-room)) ∙ left-after
+
+  pub left-before : to_z w128 (of_z w128 row.before) ≡ row.before
+  left-before = same-fit row.before (omega (arith, left-room))
+
+  pub left-value : to_z w128 (of_z w128 (get_or row.cells.now i d).value) ≡ (get_or row.cells.now i d).value
+  left-value = same-fit (get_or row.cells.now i d).value (omega (arith, left-room))
+
+  -- the share as it is computed
+  pub left-share : (r : ℤ) → Ascend (items_in (cells_of row.cells.now))
+      → r ≡ positive_part (to_z w128 (of_z w128 row.before) +ℤ to_z w128 (of_z w128 (get_or row.cells.now i d).value)
+      +ℤ to_z w128 (of_z w128 (rest -ℤ to_z w128 (of_z w128 part))))
+      → r ≡ subtree_share kept (get_or row.cells.now i d).rank (row_of row)
+  left-share r up is =
+      is
+      ∙ (λ j. positive_part (left-before j +ℤ left-value j +ℤ left-now j))
+      ∙ sym (subtree_share-at kept row i d up left.within)

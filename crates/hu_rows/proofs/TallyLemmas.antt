@@ -1,12 +1,12 @@
 -- What rows tell of ranks, cell by cell and row by row.
 use Rattle.std.proofs.Common.{◌≡◌, ℕ, zero, suc, ◌+◌, ◌-◌, ◌^◌, ◌<◌, ◌≤◌, Bool, true, false, cond, eqb, ◌&&◌, ◌||◌, ℤ, pos, unsigned_abs, ◌+ℤ◌}
-use Rattle.std.proofs.Common.{List, [], ◌∷◌, ◌++◌, length, get_or, set, take, drop, inl, inr, refl, sym, ap, ◌∙◌, subst, to_z, of_z, arith}
+use Rattle.std.proofs.Common.{List, [], ◌∷◌, ◌++◌, length, get_or, take, drop, inl, inr, refl, sym, ap, ◌∙◌, subst, to_z, of_z, arith}
 use Rattle.std.proofs.Common.{sum_by, Contains}
 use Rattle.std.specs.Int.{w128}
 use Rattle.std.specs.List.{AllByRecursion}
 use Rattle.std.proofs.lemmas.Bool.{ne_eqb, eq-eqb, cases_eq}
 use Rattle.std.proofs.lemmas.Int.{ints}
-use Rattle.std.proofs.lemmas.List.{take_rest, get_or-set_same, get_or-set_other, drop_more}
+use Rattle.std.proofs.lemmas.List.{take_rest, drop_more}
 use Rattle.std.proofs.lemmas.List.Sums.{sum_by-cons}
 use Rattle.hu_kind.specs.Order.{Ascend}
 use Rattle.hu_kind.specs.Record.{has, value_of, gain, items_in, absolute_of, positive_part}
@@ -41,32 +41,6 @@ none-plus a = tally-equal (plus no_tally a) a (omega (arith, ints)) (omega arith
 
 pub plus-assoc : (a b c : Tally) → plus (plus a b) c ≡ plus a (plus b c)
 plus-assoc a b c = tally-equal (plus (plus a b) c) (plus a (plus b c)) (omega (arith, ints)) (omega arith) (omega (arith, ints))
-
--- ---- one rank's tally written
-
-pub adds-set : (tallies : List Tally) (rank : ℕ) (share v : Tally) → rank < length tallies → v ≡ plus (tally_at tallies rank) share
-    → Adds (λ other. share_if (eqb other rank) share) tallies (set tallies rank v)
-adds-set tallies rank share v within is other = elim (cases_eq other rank) [
-  | inl e ↦
-      let here : eqb other rank ≡ true = eq-eqb other rank e in
-      let written : get_or (set tallies rank v) other no_tally ≡ v = ap (λ r. get_or (set tallies rank v) r no_tally) e
-      ∙ get_or-set_same tallies rank v no_tally within in
-      rw here (written ∙ is ∙ ap (λ r. plus (tally_at tallies r) share) (sym e))
-  | inr ne ↦
-      let no : eqb other rank ≡ false = ne_eqb other rank ne in
-      rw no (get_or-set_other tallies rank other v no_tally ne ∙ sym (plus-none (tally_at tallies other)))
-]
-
-pub taken-set : (tallies : List Tally) (rank : ℕ) → rank < length tallies → (other : ℕ)
-    → tally_at (set tallies rank no_tally) other ≡ cond (eqb other rank) no_tally (tally_at tallies other)
-taken-set tallies rank within other = elim (cases_eq other rank) [
-  | inl e ↦
-      let here : eqb other rank ≡ true = eq-eqb other rank e in
-      rw here (ap (λ r. get_or (set tallies rank no_tally) r no_tally) e ∙ get_or-set_same tallies rank no_tally no_tally within)
-  | inr ne ↦
-      let no : eqb other rank ≡ false = ne_eqb other rank ne in
-      rw no (get_or-set_other tallies rank other no_tally no_tally ne)
-]
 
 -- ---- cell by cell, from the last backwards
 

@@ -24,7 +24,7 @@ places_of-requires c =
     let chosen = c.best_first.new.children.items in
     let same : IsPermutation (flat_map (open_if c.tell_tails.new.self c.args.floor) c.args.kept.now) chosen =
     subst (λ xs. IsPermutation xs chosen) (c.in_ok-children.ensures ∙ (λ j. flat_map (open_if c.tell_tails.new.self (floor j)) c.args.kept.now))
-        c.best_first.ensures.same in
+    c.best_first.ensures.same in
     let below = below-chosen c.tell_tails.new.self c.args.floor c.args.kept.now chosen same (length c.args.board.now.tallies) c.requires.kept in
     let n : length c.hand_out.new.self ≡ length c.args.board.now.tallies = c.in_ok-hand_out.ensures.len ∙ c.requires.board.places in
     record {
@@ -38,7 +38,7 @@ clear-requires-clause-below c =
     let chosen = c.best_first.new.children.items in
     let same : IsPermutation (flat_map (open_if c.tell_tails.new.self c.args.floor) c.args.kept.now) chosen =
     subst (λ xs. IsPermutation xs chosen) (c.in_ok-children.ensures ∙ (λ j. flat_map (open_if c.tell_tails.new.self (floor j)) c.args.kept.now))
-        c.best_first.ensures.same in
+    c.best_first.ensures.same in
     let below = below-chosen c.tell_tails.new.self c.args.floor c.args.kept.now chosen same (length c.args.board.now.tallies) c.requires.kept in
     let n : length c.hand_out.new.self ≡ length c.args.board.now.tallies = c.in_ok-hand_out.ensures.len ∙ c.requires.board.places in
     subst (λ xs. AllByRecursion (λ (child : Child). child.rank < length c.hand_out.new.self) xs) (sym c.deref-2.ensures.value)
@@ -53,10 +53,10 @@ clear-requires-clause-each c =
     subst (λ xs. IsPermutation xs chosen) (c.in_ok-children.ensures ∙ (λ j. flat_map (open_if tails (floor j)) c.args.kept.now)) c.best_first.ensures.same in
     let out : (rank : ℕ) → ArePlaces c.args.rows (handed_if (reaches tails c.args.floor rank) rank c.args.rows) (places_at c.hand_out.new.self rank) =
     λ rank. subst (λ f. ArePlaces c.args.rows (handed_if (reaches tails f rank) rank c.args.rows) (places_at c.hand_out.new.self rank)) floor
-        (c.in_ok-hand_out.ensures.value rank) in
+    (c.in_ok-hand_out.ensures.value rank) in
     λ rank. subst (λ xs. Contains (ranks_of xs) rank ⊎ (places_at c.hand_out.new.self rank ≡ [])) (sym c.deref-2.ensures.value)
     (chosen-each tails c.args.floor c.args.kept.now chosen same c.args.rows c.requires.counted c.tell_tails.ensures.value c.hand_out.new.self out
-        c.requires.least c.requires.held rank)
+    c.requires.least c.requires.held rank)
 
 pub returns-clause-ok : goal.returns-clause-ok
 returns-clause-ok c =
@@ -67,7 +67,7 @@ returns-clause-ok c =
     subst (λ xs. IsPermutation xs chosen) (c.in_ok-children.ensures ∙ (λ j. flat_map (open_if tails (floor j)) c.args.kept.now)) c.best_first.ensures.same in
     let out : (rank : ℕ) → ArePlaces c.args.rows (handed_if (reaches tails c.args.floor rank) rank c.args.rows) (places_at c.hand_out.new.self rank) =
     λ rank. subst (λ f. ArePlaces c.args.rows (handed_if (reaches tails f rank) rank c.args.rows) (places_at c.hand_out.new.self rank)) floor
-        (c.in_ok-hand_out.ensures.value rank) in
+    (c.in_ok-hand_out.ensures.value rank) in
     record {
       tails = tails;
       told = c.tell_tails.ensures.value;

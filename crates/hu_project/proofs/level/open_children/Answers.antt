@@ -1,20 +1,19 @@
-use Rattle.std.proofs.Common.{◌≡◌, ◌<◌, ◌∙◌, ℕ, ℤ, [], ◌∷◌, int_le, length, ap, sym, subst, arith, to_z, of_z, Contains, Result, Ok, Err, OnErr, SFits, rules}
+use Rattle.std.proofs.Common.{◌≡◌, ◌<◌, ◌∙◌, ℕ, [], ◌∷◌, int_le, length, ap, sym, subst, arith, to_z, of_z, Contains, Result, Ok, Err, OnErr, rules}
 use Rattle.std.specs.Int.{w128}
 use Rattle.std.specs.List.{AllByRecursion, filter, flat_map}
 use Rattle.std.proofs.lemmas.Int.{to_z-of_z}
 use Rattle.std.proofs.lemmas.List.{length-map}
 use Rattle.std.proofs.lemmas.Result.{IfOk-weaker}
-use Rattle.hu_collect.specs.State.{floor_in}
 use Rattle.hu_rows.specs.Rows.{AreCounted, count_over}
 use Rattle.hu_rows.specs.Tally.{AreBelow}
-use Rattle.hu_rows.specs.Handed.{reaches, narrowed}
 use Rattle.hu_search.specs.declared.child.Child.{Child}
 use Rattle.hu_search.specs.Children.{AreChildren, ranks_of}
 use Rattle.hu_search.proofs.lemmas.Children.{offered-some}
 use Rattle.hu_project.specs.Children.{child_if}
 use Rattle.hu_project.specs.Level.{AreTold, IsChoice, IsPrepared}
 use Rattle.hu_project.proofs.LevelLemmas.{AreChildren-told}
-use Rattle.hu_project.proofs.PreparedLemmas.{some-offers, IsNarrow-kept, noted-kept, below-kept, prepared-none, prepared-some}
+use Rattle.hu_project.proofs.PreparedLemmas.{AreOffered, some-offers, IsNarrow-kept, noted-kept, below-kept, prepared-none, prepared-some}
+use Rattle.hu_project.proofs.level.open_children.Given.{Over}
 use Rattle.hu_project.proofs.level.open_children.Goals as goal
 
 on_err : {T E : Type 0} (result : Result T E) (P : Type 0) → P → OnErr result P
@@ -30,7 +29,7 @@ offer_children-requires-clause-children g c =
 pub returns-in_err-offer_children-clause-err : goal.returns-in_err-offer_children-clause-err
 returns-in_err-offer_children-clause-err g c =
     on_err c.from_residual-in_err-offer_children.result _
-        (offered-some c.args.ranked.now c.args.ranks.now (ranks_of c.deref-2.result.now) c.in_err-offer_children.ensures)
+    (offered-some c.args.ranked.now c.args.ranks.now (ranks_of c.deref-2.result.now) c.in_err-offer_children.ensures)
 
 pub returns-in_err-kept-clause-err : goal.returns-in_err-kept-clause-err
 returns-in_err-kept-clause-err g c =
@@ -46,45 +45,51 @@ returns-clause-err g c =
 
 pub returns-then-len-lt2-clause-ok : goal.returns-then-len-lt2-clause-ok
 returns-then-len-lt2-clause-ok g c =
-    let is : AreTold c.args.rows.now c.tell.new.self c.in_ok-met.met.items = record { told = c.in_ok-met.ensures.value; noted = c.in_ok-met.ensures.met } in
-    let kids = c.deref-2.ensures.value ∙ c.in_ok-children.ensures ∙ ap (flat_map (child_if c.tell.new.self)) c.deref.ensures.value in
-    let floor : ℤ = to_z w128 (of_z w128 c.floor-floor.result) in
-    let fits : SFits w128 c.floor-floor.result = search rules in
-    let kept : c.in_ok-kept.kept.items ≡ filter (λ (child : Child). int_le floor child.bound) c.deref-2.result.now =
-    c.in_ok-kept.ensures ∙ ap (filter (λ (child : Child). int_le floor child.bound)) (c.deref-3.ensures.value ∙ sym c.deref-2.ensures.value) in
+    let offered : AreOffered (g.C.Collect.state c.args.collect.now) (g.C.Collect.state c.offer_children.new.collect)
+    c.args.ranked.now c.args.ranks.now c.args.rows.now c.tell.new.self c.in_ok-met.met.items c.deref-2.result.now c.in_ok-kept.kept.items
+    (to_z w128 (of_z w128 c.floor-floor.result)) = record {
+      level = c.requires.level;
+      told = record { told = c.in_ok-met.ensures.value; noted = c.in_ok-met.ensures.met };
+      kids = c.deref-2.ensures.value ∙ c.in_ok-children.ensures ∙ ap (flat_map (child_if c.tell.new.self)) c.deref.ensures.value;
+      kept_is = c.in_ok-kept.ensures
+          ∙ ap (filter (λ (child : Child). int_le (to_z w128 (of_z w128 c.floor-floor.result)) child.bound)) (c.deref-3.ensures.value
+          ∙ sym c.deref-2.ensures.value);
+      ordered = c.requires.ordered;
+      offers = c.in_ok-offer_children.ensures;
+      floor_is = to_z-of_z w128 c.floor-floor.result (search rules) ∙ c.floor-floor.ensures.value;
+    } in
     let few : length (ranks_of c.in_ok-kept.kept.items) < 2 =
-        omega (arith, length-map c.in_ok-kept.kept.items (λ (child : Child). child.rank), c.len.ensures, c.if-len-lt2.true, c.in_ok-kept.kept.ok) in
-    prepared-none c.requires.level is c.deref-2.result.now c.in_ok-kept.kept.items floor kids kept c.requires.ordered c.in_ok-offer_children.ensures
-    (to_z-of_z w128 c.floor-floor.result fits ∙ c.floor-floor.ensures.value) few c.none.result c.none.ensures.rows c.none.ensures.children c.none.ensures.places
+    omega (arith, length-map c.in_ok-kept.kept.items (λ (child : Child). child.rank), c.len.ensures, c.if-len-lt2.true, c.in_ok-kept.kept.ok) in
+    prepared-none offered few c.none.result c.none.ensures.rows c.none.ensures.children c.none.ensures.places
+
+-- what is known where the children to be entered are chosen
+offered_at : (g : Over) (c : goal.After-choose-arg-1 g)
+    → AreOffered (g.C.Collect.state c.args.collect.now) (g.C.Collect.state c.offer_children.new.collect)
+    c.args.ranked.now c.args.ranks.now c.args.rows.now c.tell.new.self c.in_ok-met.met.items c.deref-2.result.now c.in_ok-kept.kept.items
+    (to_z w128 (of_z w128 c.floor-floor.result))
+offered_at g c = record {
+  level = c.requires.level;
+  told = record { told = c.in_ok-met.ensures.value; noted = c.in_ok-met.ensures.met };
+  kids = c.deref-2.ensures.value ∙ c.in_ok-children.ensures ∙ ap (flat_map (child_if c.tell.new.self)) c.deref.ensures.value;
+  kept_is = c.in_ok-kept.ensures
+      ∙ ap (filter (λ (child : Child). int_le (to_z w128 (of_z w128 c.floor-floor.result)) child.bound)) (c.deref-3.ensures.value
+      ∙ sym c.deref-2.ensures.value);
+  ordered = c.requires.ordered;
+  offers = c.in_ok-offer_children.ensures;
+  floor_is = to_z-of_z w128 c.floor-floor.result (search rules) ∙ c.floor-floor.ensures.value;
+}
 
 pub choose-requires-clause-below : goal.choose-requires-clause-below
 choose-requires-clause-below g c =
-    let is : AreTold c.args.rows.now c.tell.new.self c.in_ok-met.met.items = record { told = c.in_ok-met.ensures.value; noted = c.in_ok-met.ensures.met } in
-    let kids = c.deref-2.ensures.value ∙ c.in_ok-children.ensures ∙ ap (flat_map (child_if c.tell.new.self)) c.deref.ensures.value in
-    let floor : ℤ = to_z w128 (of_z w128 c.floor-floor.result) in
-    let fits : SFits w128 c.floor-floor.result = search rules in
-    let kept : c.in_ok-kept.kept.items ≡ filter (λ (child : Child). int_le floor child.bound) c.deref-2.result.now =
-    c.in_ok-kept.ensures ∙ ap (filter (λ (child : Child). int_le floor child.bound)) (c.deref-3.ensures.value ∙ sym c.deref-2.ensures.value) in
-    let floor_is : floor ≡ floor_in (g.C.Collect.state c.offer_children.new.collect) = to_z-of_z w128 c.floor-floor.result fits ∙ c.floor-floor.ensures.value in
-    let narrow = IsNarrow-kept c.requires.level is c.deref-2.result.now c.in_ok-kept.kept.items floor kids kept c.requires.ordered
-        c.in_ok-offer_children.ensures floor_is in
-    let rows : c.in_ok-rows.rows ≡ narrowed (reaches c.tell.new.self floor) c.args.rows.now = c.in_ok-rows.ensures in
+    let offered = offered_at g c in
     let n : length c.forget-2.new.tallies ≡ length c.args.ranked.now.items = c.forget-2.ensures.len ∙ c.in_ok-met.ensures.len ∙ c.requires.board.tallies in
-    subst (λ m. AreBelow m c.in_ok-rows.rows) (sym n) (subst (AreBelow (length c.args.ranked.now.items)) (sym rows) narrow.below)
+    subst (λ m. AreBelow m c.in_ok-rows.rows) (sym n)
+    (subst (AreBelow (length c.args.ranked.now.items)) (sym c.in_ok-rows.ensures) (IsNarrow-kept offered).below)
 
 pub choose-requires-clause-counted : goal.choose-requires-clause-counted
 choose-requires-clause-counted g c =
-    let is : AreTold c.args.rows.now c.tell.new.self c.in_ok-met.met.items = record { told = c.in_ok-met.ensures.value; noted = c.in_ok-met.ensures.met } in
-    let kids = c.deref-2.ensures.value ∙ c.in_ok-children.ensures ∙ ap (flat_map (child_if c.tell.new.self)) c.deref.ensures.value in
-    let floor : ℤ = to_z w128 (of_z w128 c.floor-floor.result) in
-    let fits : SFits w128 c.floor-floor.result = search rules in
-    let kept : c.in_ok-kept.kept.items ≡ filter (λ (child : Child). int_le floor child.bound) c.deref-2.result.now =
-    c.in_ok-kept.ensures ∙ ap (filter (λ (child : Child). int_le floor child.bound)) (c.deref-3.ensures.value ∙ sym c.deref-2.ensures.value) in
-    let floor_is : floor ≡ floor_in (g.C.Collect.state c.offer_children.new.collect) = to_z-of_z w128 c.floor-floor.result fits ∙ c.floor-floor.ensures.value in
-    let narrow = IsNarrow-kept c.requires.level is c.deref-2.result.now c.in_ok-kept.kept.items floor kids kept c.requires.ordered
-        c.in_ok-offer_children.ensures floor_is in
-    let rows : c.in_ok-rows.rows ≡ narrowed (reaches c.tell.new.self floor) c.args.rows.now = c.in_ok-rows.ensures in
-    subst AreCounted (sym rows) narrow.counted
+    let offered = offered_at g c in
+    subst AreCounted (sym c.in_ok-rows.ensures) (IsNarrow-kept offered).counted
 
 pub choose-requires-clause-met : goal.choose-requires-clause-met
 choose-requires-clause-met g c =
@@ -93,67 +98,44 @@ choose-requires-clause-met g c =
 
 pub choose-requires-clause-noted : goal.choose-requires-clause-noted
 choose-requires-clause-noted g c rank held =
-    let is : AreTold c.args.rows.now c.tell.new.self c.in_ok-met.met.items = record { told = c.in_ok-met.ensures.value; noted = c.in_ok-met.ensures.met } in
-    let kids = c.deref-2.ensures.value ∙ c.in_ok-children.ensures ∙ ap (flat_map (child_if c.tell.new.self)) c.deref.ensures.value in
-    let floor : ℤ = to_z w128 (of_z w128 c.floor-floor.result) in
-    let fits : SFits w128 c.floor-floor.result = search rules in
-    let kept : c.in_ok-kept.kept.items ≡ filter (λ (child : Child). int_le floor child.bound) c.deref-2.result.now =
-    c.in_ok-kept.ensures ∙ ap (filter (λ (child : Child). int_le floor child.bound)) (c.deref-3.ensures.value ∙ sym c.deref-2.ensures.value) in
-    let floor_is : floor ≡ floor_in (g.C.Collect.state c.offer_children.new.collect) = to_z-of_z w128 c.floor-floor.result fits ∙ c.floor-floor.ensures.value in
-    let narrow = IsNarrow-kept c.requires.level is c.deref-2.result.now c.in_ok-kept.kept.items floor kids kept c.requires.ordered
-        c.in_ok-offer_children.ensures floor_is in
-    let rows : c.in_ok-rows.rows ≡ narrowed (reaches c.tell.new.self floor) c.args.rows.now = c.in_ok-rows.ensures in
+    let offered = offered_at g c in
     subst (λ xs. Contains xs rank) (sym c.deref-5.ensures.value)
-    (noted-kept c.requires.level is c.deref-2.result.now c.in_ok-kept.kept.items floor kids kept c.requires.ordered c.in_ok-offer_children.ensures floor_is rank
-    (subst (λ rs. 0 < count_over rs (rank ∷ [])) rows held))
+    (noted-kept offered rank
+    (subst (λ rs. 0 < count_over rs (rank ∷ [])) c.in_ok-rows.ensures held))
 
 pub choose-requires-clause-kept : goal.choose-requires-clause-kept
 choose-requires-clause-kept g c =
-    let is : AreTold c.args.rows.now c.tell.new.self c.in_ok-met.met.items = record { told = c.in_ok-met.ensures.value; noted = c.in_ok-met.ensures.met } in
-    let kids = c.deref-2.ensures.value ∙ c.in_ok-children.ensures ∙ ap (flat_map (child_if c.tell.new.self)) c.deref.ensures.value in
-    let floor : ℤ = to_z w128 (of_z w128 c.floor-floor.result) in
-    let fits : SFits w128 c.floor-floor.result = search rules in
-    let kept : c.in_ok-kept.kept.items ≡ filter (λ (child : Child). int_le floor child.bound) c.deref-2.result.now =
-    c.in_ok-kept.ensures ∙ ap (filter (λ (child : Child). int_le floor child.bound)) (c.deref-3.ensures.value ∙ sym c.deref-2.ensures.value) in
-    let floor_is : floor ≡ floor_in (g.C.Collect.state c.offer_children.new.collect) = to_z-of_z w128 c.floor-floor.result fits ∙ c.floor-floor.ensures.value in
-    let narrow = IsNarrow-kept c.requires.level is c.deref-2.result.now c.in_ok-kept.kept.items floor kids kept c.requires.ordered
-        c.in_ok-offer_children.ensures floor_is in
-    let rows : c.in_ok-rows.rows ≡ narrowed (reaches c.tell.new.self floor) c.args.rows.now = c.in_ok-rows.ensures in
+    let offered = offered_at g c in
     let n : length c.forget-2.new.tallies ≡ length c.args.ranked.now.items = c.forget-2.ensures.len ∙ c.in_ok-met.ensures.len ∙ c.requires.board.tallies in
     subst (λ xs. AllByRecursion (λ (child : Child). child.rank < length c.forget-2.new.tallies) xs) (sym c.deref-6.ensures.value)
     (subst (λ m. AllByRecursion (λ (child : Child). child.rank < m) c.in_ok-kept.kept.items) (sym n)
-    (below-kept c.requires.level is c.deref-2.result.now c.in_ok-kept.kept.items floor kids kept c.requires.ordered c.in_ok-offer_children.ensures floor_is))
+    (below-kept offered))
 
 pub choose-requires-clause-held : goal.choose-requires-clause-held
 choose-requires-clause-held g c rank held =
-    let is : AreTold c.args.rows.now c.tell.new.self c.in_ok-met.met.items = record { told = c.in_ok-met.ensures.value; noted = c.in_ok-met.ensures.met } in
-    let kids = c.deref-2.ensures.value ∙ c.in_ok-children.ensures ∙ ap (flat_map (child_if c.tell.new.self)) c.deref.ensures.value in
-    let floor : ℤ = to_z w128 (of_z w128 c.floor-floor.result) in
-    let fits : SFits w128 c.floor-floor.result = search rules in
-    let kept : c.in_ok-kept.kept.items ≡ filter (λ (child : Child). int_le floor child.bound) c.deref-2.result.now =
-    c.in_ok-kept.ensures ∙ ap (filter (λ (child : Child). int_le floor child.bound)) (c.deref-3.ensures.value ∙ sym c.deref-2.ensures.value) in
-    let floor_is : floor ≡ floor_in (g.C.Collect.state c.offer_children.new.collect) = to_z-of_z w128 c.floor-floor.result fits ∙ c.floor-floor.ensures.value in
-    let narrow = IsNarrow-kept c.requires.level is c.deref-2.result.now c.in_ok-kept.kept.items floor kids kept c.requires.ordered
-        c.in_ok-offer_children.ensures floor_is in
-    let rows : c.in_ok-rows.rows ≡ narrowed (reaches c.tell.new.self floor) c.args.rows.now = c.in_ok-rows.ensures in
-    subst (λ xs. Contains (ranks_of xs) rank) (sym c.deref-6.ensures.value) (narrow.met rank (subst (λ rs. 0 < count_over rs (rank ∷ [])) rows held))
+    let offered = offered_at g c in
+    subst (λ xs. Contains (ranks_of xs) rank) (sym c.deref-6.ensures.value)
+    ((IsNarrow-kept offered).met rank (subst (λ rs. 0 < count_over rs (rank ∷ [])) c.in_ok-rows.ensures held))
 
 pub returns-clause-ok : goal.returns-clause-ok
 returns-clause-ok g c =
-    let is : AreTold c.args.rows.now c.tell.new.self c.in_ok-met.met.items = record { told = c.in_ok-met.ensures.value; noted = c.in_ok-met.ensures.met } in
-    let kids = c.deref-2.ensures.value ∙ c.in_ok-children.ensures ∙ ap (flat_map (child_if c.tell.new.self)) c.deref.ensures.value in
-    let floor : ℤ = to_z w128 (of_z w128 c.floor-floor.result) in
-    let fits : SFits w128 c.floor-floor.result = search rules in
-    let kept : c.in_ok-kept.kept.items ≡ filter (λ (child : Child). int_le floor child.bound) c.deref-2.result.now =
-    c.in_ok-kept.ensures ∙ ap (filter (λ (child : Child). int_le floor child.bound)) (c.deref-3.ensures.value ∙ sym c.deref-2.ensures.value) in
-    let floor_is : floor ≡ floor_in (g.C.Collect.state c.offer_children.new.collect) = to_z-of_z w128 c.floor-floor.result fits ∙ c.floor-floor.ensures.value in
-    let narrow = IsNarrow-kept c.requires.level is c.deref-2.result.now c.in_ok-kept.kept.items floor kids kept c.requires.ordered
-        c.in_ok-offer_children.ensures floor_is in
-    let rows : c.in_ok-rows.rows ≡ narrowed (reaches c.tell.new.self floor) c.args.rows.now = c.in_ok-rows.ensures in
+    let offered : AreOffered (g.C.Collect.state c.args.collect.now) (g.C.Collect.state c.offer_children.new.collect)
+    c.args.ranked.now c.args.ranks.now c.args.rows.now c.tell.new.self c.in_ok-met.met.items c.deref-2.result.now c.in_ok-kept.kept.items
+    (to_z w128 (of_z w128 c.floor-floor.result)) = record {
+      level = c.requires.level;
+      told = record { told = c.in_ok-met.ensures.value; noted = c.in_ok-met.ensures.met };
+      kids = c.deref-2.ensures.value ∙ c.in_ok-children.ensures ∙ ap (flat_map (child_if c.tell.new.self)) c.deref.ensures.value;
+      kept_is = c.in_ok-kept.ensures
+          ∙ ap (filter (λ (child : Child). int_le (to_z w128 (of_z w128 c.floor-floor.result)) child.bound)) (c.deref-3.ensures.value
+          ∙ sym c.deref-2.ensures.value);
+      ordered = c.requires.ordered;
+      offers = c.in_ok-offer_children.ensures;
+      floor_is = to_z-of_z w128 c.floor-floor.result (search rules) ∙ c.floor-floor.ensures.value;
+    } in
     let old = g.C.Collect.state c.args.collect.now in
     let mid = g.C.Collect.state c.offer_children.new.collect in
-    IfOk-weaker c.choose.result (IsChoice c.in_ok-rows.rows c.deref-6.result.now floor) (IsPrepared old mid c.args.ranked.now c.args.ranks.now)
-    (λ part choice. prepared-some c.requires.level is c.deref-2.result.now c.in_ok-kept.kept.items floor kids kept c.requires.ordered
-        c.in_ok-offer_children.ensures floor_is c.in_ok-rows.rows rows part
-    (subst (λ ks. IsChoice c.in_ok-rows.rows ks floor part) c.deref-6.ensures.value choice))
+    IfOk-weaker c.choose.result (IsChoice c.in_ok-rows.rows c.deref-6.result.now (to_z w128 (of_z w128 c.floor-floor.result)))
+    (IsPrepared old mid c.args.ranked.now c.args.ranks.now)
+    (λ part choice. prepared-some offered c.in_ok-rows.rows c.in_ok-rows.ensures part
+    (subst (λ ks. IsChoice c.in_ok-rows.rows ks (to_z w128 (of_z w128 c.floor-floor.result)) part) c.deref-6.ensures.value choice))
     c.choose.ensures.ok

@@ -37,14 +37,14 @@ pub search-returns-clause-made : goal.search-returns-clause-made
 search-returns-clause-made g t c =
     let none : Child = record { rank = 0; utility = pos 0; support = 0; bound = pos 0 } in
     so_far-all c.children.invariant.made c.requires.ordered none
-        (inl (omega (arith, c.children-test.false, c.len-at-end.ensures, c.in_ok-open.open.children.ok)))
+    (inl (omega (arith, c.children-test.false, c.len-at-end.ensures, c.in_ok-open.open.children.ok)))
 
 pub search-children-preserved : goal.search-children-preserved
 search-children-preserved g t c =
     let d = c.index-child.result.now in
     let same : d ≡ get_or c.in_ok-open.open.children.items c.children.at d = c.index-child.ensures in
     let inside : c.children.at < length c.in_ok-open.open.children.items =
-        omega (arith, c.children-test.true, c.len-at-end.ensures, c.in_ok-open.open.children.ok) in
+    omega (arith, c.children-test.true, c.len-at-end.ensures, c.in_ok-open.open.children.ok) in
     let ranks = c.children.invariant.ranks in
     let so_far = c.children.invariant.made in
     record {
@@ -52,7 +52,7 @@ search-children-preserved g t c =
       board = c.in_ok-enter.ensures.board;
       made = so_far-next so_far c.requires.ordered d inside
           (subst (λ set. Reached (g.C.Collect.state c.children.collect) (Grows c.args.ranked.now set) (g.C.Collect.state c.enter.new.collect))
-              (λ j. ranks j ++ (same j).rank ∷ []) c.in_ok-enter.ensures.made);
+          (λ j. ranks j ++ (same j).rank ∷ []) c.in_ok-enter.ensures.made);
     }
 
 pub search-returns-in_err-enter-clause-made : goal.search-returns-in_err-enter-clause-made
@@ -60,13 +60,13 @@ search-returns-in_err-enter-clause-made g t c =
     let d = c.index-child.result.now in
     let same : d ≡ get_or c.in_ok-open.open.children.items c.children.at d = c.index-child.ensures in
     let inside : c.children.at < length c.in_ok-open.open.children.items =
-        omega (arith, c.children-test.true, c.len-at-end.ensures, c.in_ok-open.open.children.ok) in
+    omega (arith, c.children-test.true, c.len-at-end.ensures, c.in_ok-open.open.children.ok) in
     let ranks = c.children.invariant.ranks in
     let so_far = c.children.invariant.made in
     let some : ReachedSome (g.C.Collect.state c.args.collect.now) (Grows c.args.ranked.now c.args.ranks.now.items) (g.C.Collect.state c.enter.new.collect) =
     so_far-some so_far c.requires.ordered d inside
     (subst (λ set. ReachedSome (g.C.Collect.state c.children.collect) (Grows c.args.ranked.now set) (g.C.Collect.state c.enter.new.collect))
-        (λ j. ranks j ++ (same j).rank ∷ []) c.in_err-enter.ensures.made) in
+    (λ j. ranks j ++ (same j).rank ∷ []) c.in_err-enter.ensures.made) in
     search rules
 
 pub search-enter-requires : goal.search-enter-requires
@@ -74,34 +74,34 @@ search-enter-requires g t c κs within =
     let d = c.index-child.result.now in
     let same : d ≡ get_or c.in_ok-open.open.children.items c.children.at d = c.index-child.ensures in
     let inside : c.children.at < length c.in_ok-open.open.children.items =
-        omega (arith, c.children-test.true, c.len-at-end.ensures, c.in_ok-open.open.children.ok) in
+    omega (arith, c.children-test.true, c.len-at-end.ensures, c.in_ok-open.open.children.ok) in
     let ranks = c.children.invariant.ranks in
     let so_far = c.children.invariant.made in
     let r = c.args.ranked.now in
     let s = g.C.Collect.state c.children.collect in
     let part = c.in_ok-open.open in
     let later : IsLater r c.children.ranks.items d.rank =
-        subst (λ set. IsLater r set d.rank) (sym ranks)
-        (subst (λ (k : Child). IsLater r c.args.ranks.now.items k.rank) (sym same) (turn-later so_far c.requires.ordered d inside)) in
+    subst (λ set. IsLater r set d.rank) (sym ranks)
+    (subst (λ (k : Child). IsLater r c.args.ranks.now.items k.rank) (sym same) (turn-later so_far c.requires.ordered d inside)) in
     let handed_out : ArePlaces part.rows (handed d.rank part.rows) (get_or (lists_in part.places.items) c.children.at []) =
     subst (λ (k : Child). ArePlaces part.rows (handed k.rank part.rows) (get_or (lists_in part.places.items) c.children.at [])) (sym same)
-        (turn-places so_far c.requires.ordered d inside) in
+    (turn-places so_far c.requires.ordered d inside) in
     let long : c.children.at < length part.places.items =
-        omega (arith, inside, so_far.prepared.places.len, length-map part.places.items (λ (list : Vec Place Global). list.items)) in
+    omega (arith, inside, so_far.prepared.places.len, length-map part.places.items (λ (list : Vec Place Global). list.items)) in
     let read : c.as_slice-places.result.now ≡ get_or (lists_in part.places.items) c.children.at [] =
     c.as_slice-places.ensures.value ∙ ap (λ (list : Vec Place Global). list.items) c.index.ensures
-        ∙ sym (get_or-map (λ (list : Vec Place Global). list.items) part.places.items c.children.at c.index.result.now [] long) in
+    ∙ sym (get_or-map (λ (list : Vec Place Global). list.items) part.places.items c.children.at c.index.result.now [] long) in
     let places : ArePlaces part.rows (handed d.rank part.rows) c.as_slice-places.result.now =
-        subst (ArePlaces part.rows (handed d.rank part.rows)) (sym read) handed_out in
+    subst (ArePlaces part.rows (handed d.rank part.rows)) (sym read) handed_out in
     let level : IsLevel s r (c.children.ranks.items ++ d.rank ∷ []) (handed d.rank part.rows) =
     subst (λ set. IsLevel s r (set ++ d.rank ∷ []) (handed d.rank part.rows)) (sym ranks)
     (subst (λ (k : Child). IsLevel s r (c.args.ranks.now.items ++ k.rank ∷ []) (handed k.rank part.rows)) (sym same)
-        (turn-level so_far c.requires.ordered d inside)) in
+    (turn-level so_far c.requires.ordered d inside)) in
     let board = c.children.invariant.board in
     let ordered : IsInOrder s = so_far-ordered so_far c.requires.ordered d in
     let rests : RestsOn s.rule.table r.items = subst (λ rule. RestsOn rule.table r.items) (sym (so_far-rule so_far c.requires.ordered d)) c.requires.rests in
     let smaller : 2 * (length r.items - length c.children.ranks.items) < 2 * (length r.items - length c.args.ranks.now.items) + 1 =
-        omega (arith, ap length ranks) in
+    omega (arith, ap length ranks) in
     search rules
 
 pub enter-search-requires : goal.enter-search-requires
@@ -111,18 +111,18 @@ enter-search-requires g t c κs within =
     let pushed : c.push.new.self.items ≡ c.args.ranks.now.items ++ c.args.rank ∷ [] = c.in_ok-push.ensures.items in
     let rows : c.in_ok-rows.rows ≡ handed c.args.rank c.args.rows.now = c.in_ok-rows.ensures ∙ c.requires.places.give in
     let level : IsLevel s r c.push.new.self.items c.in_ok-rows.rows =
-        subst (λ set. IsLevel s r set c.in_ok-rows.rows) (sym pushed)
-        (subst (IsLevel s r (c.args.ranks.now.items ++ c.args.rank ∷ [])) (sym rows) c.requires.level) in
+    subst (λ set. IsLevel s r set c.in_ok-rows.rows) (sym pushed)
+    (subst (IsLevel s r (c.args.ranks.now.items ++ c.args.rank ∷ [])) (sym rows) c.requires.level) in
     let long : length c.push.new.self.items ≡ length c.args.ranks.now.items + 1 = ap length pushed ∙ length-append c.args.ranks.now.items (c.args.rank ∷ []) in
     let few : length (c.args.ranks.now.items ++ c.args.rank ∷ []) ≤ length r.items =
-        few-ranks (length r.items) (c.args.ranks.now.items ++ c.args.rank ∷ []) c.requires.later.ascending c.requires.later.in_table in
+    few-ranks (length r.items) (c.args.ranks.now.items ++ c.args.rank ∷ []) c.requires.later.ascending c.requires.later.in_table in
     let smaller : 2 * (length r.items - length c.push.new.self.items) + 1 < 2 * (length r.items - length c.args.ranks.now.items) =
-        omega (arith, long, few, ap length pushed) in
+    omega (arith, long, few, ap length pushed) in
     search rules
 
 pub enter-returns-then-not-branch-clause-made : goal.enter-returns-then-not-branch-clause-made
 enter-returns-then-not-branch-clause-made g t c =
     let barren : IsBarren (g.C.Collect.state c.args.collect.now) c.args.ranked.now (c.args.ranks.now.items ++ c.args.rank ∷ []) =
     subst (λ set. IsBarren (g.C.Collect.state c.args.collect.now) c.args.ranked.now (set ++ c.args.rank ∷ [])) c.deref.ensures.value
-        (c.in_ok-opens.ensures c.if-not-branch.true) in
+    (c.in_ok-opens.ensures c.if-not-branch.true) in
     barren-none (g.C.Collect.state c.args.collect.now) c.args.ranked.now (c.args.ranks.now.items ++ c.args.rank ∷ []) c.requires.ordered barren
