@@ -1,11 +1,13 @@
 -- The children that are chosen to be entered, and their tails.
-use Rattle.std.proofs.Common.{◌≡◌, ℕ, zero, suc, ◌<◌, true, false, eqb, ℤ, ◌≤ℤ◌, ◌<ℤ◌, List, [], ◌∷◌, length, get_or, take, inl, inr, ◌⊎◌, refl, sym, ◌∙◌, subst, arith, Contains, nat_eq}
+use Rattle.std.proofs.Common.{◌≡◌, ℕ, zero, suc, ◌<◌, true, false, eqb, ℤ, ◌≤ℤ◌, ◌<ℤ◌, List, [], ◌∷◌, length, get_or, take, inl, inr, ◌⊎◌, sym, ◌∙◌, subst, arith, Contains, nat_eq}
 use Rattle.std.specs.List.{AllByRecursion, IsDistinct}
 use Rattle.std.specs.List.Sorted.{IsPermutation}
 use Rattle.std.proofs.lemmas.Bool.{eq-eqb, cases_eq, ne_eqb}
 use Rattle.std.proofs.lemmas.Int.{ints}
 use Rattle.std.proofs.lemmas.List.Sorted.{IsPermutation-map, IsPermutation-sym, Contains-permutation}
 use Rattle.std.proofs.lemmas.Map.Keys.{IsDistinct-IsPermutation}
+use Rattle.hu_kind.proofs.lemmas.Each.{each-take}
+use Rattle.hu_kind.proofs.lemmas.Occurring.{at_member, by_members}
 use Rattle.hu_kind.proofs.lemmas.Members.{Member, Member-from_contains, Contains-from_member}
 use Rattle.hu_search.specs.declared.child.Child.{Child}
 use Rattle.hu_search.specs.Children.{Fall, ranks_of}
@@ -14,22 +16,14 @@ use Rattle.hu_list.specs.Level.{AreChosen}
 fall-take : (children : List Child) (n : ℕ) → Fall children → Fall (take n children)
 fall-take children zero fall = tt
 fall-take [] (suc n) fall = tt
-fall-take (child ∷ children) (suc n) fall = (front children n fall.0, fall-take children n fall.1)
-  where
-    front : (cs : List Child) (n : ℕ) → AllByRecursion (λ later. later.bound ≤ℤ child.bound) cs → AllByRecursion (λ later. later.bound ≤ℤ child.bound) (take n cs)
-    front cs zero all = tt
-    front [] (suc n) all = tt
-    front (c ∷ cs) (suc n) all = (all.0, front cs n all.1)
+fall-take (child ∷ children) (suc n) fall =
+    (each-take (λ later. later.bound ≤ℤ child.bound) n children fall.0, fall-take children n fall.1)
 
 member-take : (child : Child) (n : ℕ) (children : List Child) → Member child (take n children) → Member child children
 member-take child zero children m = absurd m
 member-take child (suc n) [] m = absurd m
 member-take child (suc n) (c ∷ cs) (inl e) = inl e
 member-take child (suc n) (c ∷ cs) (inr m) = inr (member-take child n cs m)
-
-each-member : (P : Child → Type 0) (xs : List Child) → ((child : Child) → Member child xs → P child) → AllByRecursion P xs
-each-member P [] h = tt
-each-member P (x ∷ xs) h = (h x (inl refl), each-member P xs (λ c m. h c (inr m)))
 
 -- a child is among the first, or its bound is no greater than that of the next
 parts : (floor : ℤ) (children : List Child) (n : ℕ) (child : Child) → Fall children → ((d : Child) → n < length children → (get_or children n d).bound <ℤ floor) → Member child children
@@ -38,13 +32,8 @@ parts floor [] n child fall cut m = absurd m
 parts floor (c ∷ cs) zero child fall cut (inl e) = inr (let low = cut c (omega arith) in subst (λ (x : Child). x.bound <ℤ floor) e low)
 parts floor (c ∷ cs) zero child fall cut (inr m) =
     let low = cut c (omega arith) in
-    let under = at-member cs fall.0 m in
+    let under = at_member (λ (later : Child). later.bound ≤ℤ c.bound) child cs fall.0 m in
     inr (omega (arith, ints, low, under))
-  where
-    at-member : (xs : List Child) → AllByRecursion (λ later. later.bound ≤ℤ c.bound) xs → Member child xs → child.bound ≤ℤ c.bound
-    at-member [] all m = absurd m
-    at-member (x ∷ xs) all (inl e) = subst (λ (y : Child). y.bound ≤ℤ c.bound) e all.0
-    at-member (x ∷ xs) all (inr m) = at-member xs all.1 m
 parts floor (c ∷ cs) (suc n) child fall cut (inl e) = inl (inl e)
 parts floor (c ∷ cs) (suc n) child fall cut (inr m) =
     elim (parts floor cs n child fall.1 (λ d within. cut d (omega arith)) m) [ inl here ↦ inl (inr here) | inr low ↦ inr low ]
@@ -70,7 +59,7 @@ pub chosen-is : (floor : ℤ) (children sorted : List Child) (n : ℕ) → IsPer
     → ((d : Child) → n < length sorted → (get_or sorted n d).bound <ℤ floor) → AreChosen floor children (take n sorted)
 chosen-is floor children sorted n same fall once cut = record {
   fall = fall-take sorted n fall;
-  from = each-member (Contains children) (take n sorted) (λ child m.
+  from = by_members (Contains children) (take n sorted) (λ child m.
       Contains-permutation sorted children child (IsPermutation-sym children sorted same) (Contains-from_member child sorted (member-take child n sorted m)));
   whole = λ child c. elim (parts floor sorted n child fall cut (Member-from_contains child sorted (Contains-permutation children sorted child same c))) [
     | inl here ↦ inl (Contains-from_member child (take n sorted) here)

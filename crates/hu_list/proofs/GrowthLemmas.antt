@@ -6,6 +6,7 @@ use Rattle.std.proofs.lemmas.Int.{ints}
 use Rattle.std.proofs.lemmas.List.Elements.{filter-append}
 use Rattle.hu_kind.specs.Order.{Ascend}
 use Rattle.hu_kind.specs.Record.{has, holds, value_of, values_of, items_in, positive_part}
+use Rattle.hu_kind.proofs.lemmas.Occurring.{at_member, has-member}
 use Rattle.hu_list.specs.declared.sums.Sum.{Sum}
 use Rattle.hu_list.specs.Slots.{among}
 use Rattle.hu_list.specs.Tails.{TailOf, earned, held, after, grown_at, grown, has_cells, kept_gain, share, gain_with}
@@ -30,13 +31,6 @@ has-below : (z : ℕ) (cells : List (ℕ × ℤ)) → AllByRecursion (λ y. z < 
 has-below z [] below = refl
 has-below z (cell ∷ cells) below = let other : eqb z cell.0 ≡ false = ne_eqb z cell.0 (λ e. let low = below.0 in absurd (omega arith)) in rw other (has-below z cells below.1)
 
-has-above : (z low : ℕ) (cells : List (ℕ × ℤ)) → AllByRecursion (λ y. low < y) (items_in cells) → has z cells ≡ true → low < z
-has-above z low [] above h = cc
-has-above z low (cell ∷ cells) above h = elim (or_cases (eqb z cell.0) (has z cells) h) [
-  | inl e ↦ let same = eqb-true z cell.0 e in let first = above.0 in omega arith
-  | inr later ↦ has-above z low cells above.1 later
-]
-
 -- what a pass leaves at a rank: what its cell makes, by the cells after it
 module _ {A : Type 0} (make : ℕ × ℤ → List (ℕ × ℤ) → A → A) (z : ℕ) where
   pub met-is : (cells : List (ℕ × ℤ)) (a : A) → Ascend (items_in cells) → met make z cells a ≡ cond (has z cells) (make (z, value_of z cells) (after z cells) a) a
@@ -56,7 +50,7 @@ module _ {A : Type 0} (make : ℕ × ℤ → List (ℕ × ℤ) → A → A) (z :
     where
       by : (b : Bool) → has z cells ≡ b → cond b (make (z, value_of z cells) (after z cells) a) a
           ≡ cond b (make (z, value_of z cells) (cond (nat_lt z cell.0) (cell ∷ after z cells) (after z cells)) a) a
-      by true h = let low = has-above z cell.0 cells up.0 h in let no : nat_lt z cell.0 ≡ false = le-ltb z cell.0 (omega (arith, low)) in rw no refl
+      by true h = let low = at_member (λ y. cell.0 < y) z (items_in cells) up.0 (has-member z cells h) in let no : nat_lt z cell.0 ≡ false = le-ltb z cell.0 (omega (arith, low)) in rw no refl
       by false h = refl
 
 -- the ranks of each tail ascend

@@ -2,6 +2,7 @@
 use Rattle.std.proofs.Common.{◌≡◌, ℕ, zero, suc, ◌+◌, ◌<◌, Bool, true, false, cond, eqb, ◌||◌, ◌&&◌, ℤ, pos, ◌≤ℤ◌, ◌<ℤ◌, Option, None, Some, List, [], ◌∷◌, ◌++◌, length, get_or, take, inl, inr, ◌⊎◌, refl, sym, ap, ◌∙◌, subst, arith, Contains, nat_eq, append-nil, IfSome, MatchOption, Result, Ok, Err, IfOk}
 use Rattle.std.specs.Prelude.{⊤}
 use Rattle.std.specs.List.{AllByRecursion, IsDistinct}
+use Rattle.std.proofs.Math.Bool.{or-true}
 use Rattle.std.proofs.lemmas.Bool.{eq-eqb, eqb-true, or_cases, false≢true}
 use Rattle.std.proofs.lemmas.Int.{ints}
 use Rattle.std.proofs.lemmas.List.{take_more}
@@ -13,6 +14,7 @@ use Rattle.hu_collect.specs.State.{State, floor_in}
 use Rattle.hu_search.specs.declared.child.Child.{Child}
 use Rattle.hu_search.specs.Growth.{InTable}
 use Rattle.hu_search.specs.Children.{IsChild, AreEnough, ranks_of}
+use Rattle.hu_kind.proofs.lemmas.Occurring.{at_member, by_members, has-member}
 use Rattle.hu_kind.proofs.lemmas.Each.{each-weaker, each-left, each-right, each-append}
 use Rattle.hu_kind.proofs.lemmas.Ascending.{Ascend-right, Ascend-across}
 use Rattle.hu_list.specs.declared.sums.Sum.{Sum}
@@ -25,10 +27,6 @@ use Rattle.hu_list.proofs.SlotLemmas.{at-absent, distinct-before, at-place, fals
 use Rattle.hu_list.proofs.GrowthLemmas.{AllUp, gained, gained-out, gain-unheld, earned-gain, summed-support, summed-utility, summed-bound}
 
 -- ---- ranks among others, and members
-
-or-true : (b : Bool) → b || true ≡ true
-or-true true = refl
-or-true false = refl
 
 among-member : (z : ℕ) (xs : List ℕ) → Member z xs → among z xs ≡ true
 among-member z [] m = absurd m
@@ -51,11 +49,7 @@ among-contains z xs m = Contains-from_member z xs (member-among z xs m)
 -- ---- a rank of a tail
 
 pub at-has : (P : ℕ → Type 0) (cells : List (ℕ × ℤ)) (z : ℕ) → AllByRecursion P (items_in cells) → has z cells ≡ true → P z
-at-has P [] z all h = cc
-at-has P (cell ∷ cells) z all h = elim (or_cases (eqb z cell.0) (has z cells) h) [
-  | inl e ↦ subst P (sym (eqb-true z cell.0 e)) all.0
-  | inr later ↦ at-has P cells z all.1 later
-]
+at-has P cells z all h = at_member P z (items_in cells) all (has-member z cells h)
 
 up-to : (set : List ℕ) (cells : List (ℕ × ℤ)) (z : ℕ) → Ascend (set ++ items_in cells) → has z cells ≡ true → Ascend (set ++ z ∷ [])
 up-to [] cells z up h = (tt, tt)
@@ -114,7 +108,7 @@ module _ (r : Ranking) (set : List ℕ) (tails : List TailOf) (left : IsLeft r s
       → AreKept Right gate (floor_in s) last gain found kept → AreEnough s r set kept
   enough-kept s Right gate last gain keep found kept enough low right lasts is out least are [] up occurs counts = tt
   enough-kept s Right gate last gain keep found kept enough low right lasts is out least are (m ∷ ms) up occurs counts =
-      each-in (m ∷ ms) (λ z c. among-contains z kept (one z c))
+      by_members (Contains kept) (m ∷ ms) (λ z c. among-contains z kept (one z c))
     where
       all : AllByRecursion (Contains keep) (m ∷ ms)
       all = enough (m ∷ ms) up occurs counts
@@ -122,20 +116,11 @@ module _ (r : Ranking) (set : List ℕ) (tails : List TailOf) (left : IsLeft r s
       all' : AllByRecursion (λ rank. among rank keep ≡ true) (m ∷ ms)
       all' = each-weaker (Contains keep) (λ rank. among rank keep ≡ true) (m ∷ ms) (λ rank c. contains-among rank keep c) all
 
-      each-in : (xs : List ℕ) → ((z : ℕ) → Member z xs → Contains kept z) → AllByRecursion (Contains kept) xs
-      each-in [] h = tt
-      each-in (x ∷ xs) h = (h x (inl refl), each-in xs (λ z c. h z (inr c)))
-
-      at-member : (P : ℕ → Type 0) (z : ℕ) (xs : List ℕ) → AllByRecursion P xs → Member z xs → P z
-      at-member P z [] each n = absurd n
-      at-member P z (x ∷ xs) each (inl e) = subst P e each.0
-      at-member P z (x ∷ xs) each (inr n) = at-member P z xs each.1 n
-
       reaches : (z : ℕ) → Member z (m ∷ ms) → floor_in s ≤ℤ gain z
       reaches z c =
           let earns = earned-gain keep (m ∷ ms) z tails ups (Ascend-right set (m ∷ ms) up) all' (among-member z (m ∷ ms) c) in
           let same = left.utility m ms up in
-          let gains = gain-is keep z (at-member (λ rank. among rank keep ≡ true) z (m ∷ ms) all' c) in
+          let gains = gain-is keep z (at_member (λ rank. among rank keep ≡ true) z (m ∷ ms) all' c) in
           let high = counts.high in
           omega (arith, ints, earns, same, gains, high, is z)
 
@@ -266,12 +251,7 @@ kept-none Right gate floor last gain = record { sound = λ z m. absurd (false≢
 -- a last rank is below a later one
 pub below-last : (set : List ℕ) (last : Option ℕ) (z : ℕ) → IfSome last (Contains set) → Ascend (set ++ z ∷ []) → MatchOption last ⊤ (λ a. a < z)
 below-last set None z c up = tt
-below-last set (Some a) z c up = at-member (λ x. x < z) a set (Ascend-across set (z ∷ []) up z (inl refl)) (Member-from_contains a set c)
-  where
-    at-member : (P : ℕ → Type 0) (y : ℕ) (xs : List ℕ) → AllByRecursion P xs → Member y xs → P y
-    at-member P y [] each n = absurd n
-    at-member P y (x ∷ xs) each (inl e) = subst P e each.0
-    at-member P y (x ∷ xs) each (inr n) = at-member P y xs each.1 n
+below-last set (Some a) z c up = at_member (λ x. x < z) a set (Ascend-across set (z ∷ []) up z (inl refl)) (Member-from_contains a set c)
 
 -- ---- the children of a set
 

@@ -14,4 +14,5 @@ pub mod ListLemmas
 pub mod PlaceLemmas
 pub mod MergeLemmas
 pub mod SingleLemmas
+pub mod LengthLemmas
 pub mod Joining

@@ -4,6 +4,7 @@ use Rattle.std.specs.List.{AllByRecursion, list_all}
 use Rattle.std.proofs.lemmas.Bool.{and_parts}
 use Rattle.std.proofs.lemmas.Int.{ints}
 use Rattle.std.proofs.lemmas.List.Sums.{sum_by-cons}
+use Rattle.hu_kind.proofs.lemmas.Earned.{positive_part-upper}
 use Rattle.hu_kind.specs.Record.{holds, values_of, utility_in, positive_part, items_in, absolute_of}
 use Rattle.hu_kind.specs.Database.{utility, support}
 use Rattle.hu_kind.specs.Order.{Ascend}
@@ -13,7 +14,7 @@ use Rattle.hu_list.specs.declared.list.Node.{Node}
 use Rattle.hu_list.specs.Nodes.{rest_after, node_of, nodes_from, list_of, weight_of, AreRanked}
 use Rattle.hu_list.specs.Bounds.{own_sum, bound_of, list_bound, BoundsGrown}
 use Rattle.hu_kind.proofs.lemmas.Ascending.{each-ascending, Ascend-right, Ascend-across}
-use Rattle.hu_list.proofs.SetLemmas.{positive_part-least, weight-within, values_of-after, holds-append, values_of-append, list_all-below}
+use Rattle.hu_list.proofs.SetLemmas.{weight-within, values_of-after, holds-append, values_of-append, list_all-below}
 
 pub own_sum-nodes : (place : ℕ) (records : List (List (ℕ × ℤ))) (set : List ℕ) → own_sum (nodes_from place records set) ≡ utility records set
 own_sum-nodes place [] set = refl
@@ -71,7 +72,7 @@ utility_in-grown : (cells : List (ℕ × ℤ)) (set more : List ℕ) → Ascend 
 utility_in-grown cells set more up rise = by (holds (set ++ more) cells) refl
   where
     bound : (b : Bool) → pos 0 ≤ℤ cond b (positive_part (values_of set cells +ℤ rest_after set cells)) (pos 0)
-    bound true = (positive_part-least (values_of set cells +ℤ rest_after set cells)).1
+    bound true = (positive_part-upper (values_of set cells +ℤ rest_after set cells)).1
     bound false = omega (arith, ints)
 
     by : (b : Bool) → holds (set ++ more) cells ≡ b
@@ -83,7 +84,7 @@ utility_in-grown cells set more up rise = by (holds (set ++ more) cells) refl
         let after = by_members (λ m. list_all (λ rank. ltb rank m) set ≡ true) more (λ m mem. list_all-below set m (Ascend-across set more up m mem)) in
         let more_within = values_of-after cells set more (Ascend-right set more up) rise both.1 after in
         let joined = values_of-append set more cells in
-        let part = (positive_part-least (values_of set cells +ℤ rest_after set cells)).0 in
+        let part = (positive_part-upper (values_of set cells +ℤ rest_after set cells)).0 in
         rw held (omega (arith, ints, more_within, joined, part))
 
 utility-grown : (records : List (List (ℕ × ℤ))) (set more : List ℕ) → Ascend (set ++ more) → AllByRecursion (λ cells. Ascend (items_in cells)) records

@@ -1,9 +1,9 @@
 -- Sums over the nodes of a list, node by node.
-use Rattle.std.proofs.Common.{◌≡◌, ℕ, zero, suc, ◌<◌, ◌≤◌, ℤ, pos, negsuc, ◌+ℤ◌, unsigned_abs, List, [], ◌∷◌, length, get_or, take, arith, sum_by}
+use Rattle.std.proofs.Common.{◌≡◌, ℕ, zero, suc, ◌<◌, ◌≤◌, ◌+ℤ◌, unsigned_abs, List, [], ◌∷◌, length, get_or, take, arith, sum_by}
 use Rattle.std.proofs.lemmas.Int.{ints}
 use Rattle.std.proofs.lemmas.List.{take_all}
 use Rattle.std.proofs.lemmas.List.Sums.{sum_by-cons}
-use Rattle.hu_kind.specs.Record.{positive_part}
+use Rattle.hu_kind.proofs.lemmas.Earned.{positive_part-within}
 use Rattle.hu_list.specs.declared.list.Node.{Node}
 use Rattle.hu_list.specs.Nodes.{weight_of}
 use Rattle.hu_list.specs.Bounds.{own_sum, most_at, bound_of}
@@ -23,10 +23,6 @@ pub bound_of-more : (nodes : List Node) (i : ℕ) (d : Node) → i < length node
 bound_of-more [] i d within = absurd (omega arith)
 bound_of-more (node ∷ nodes) zero d within = omega (arith, ints)
 bound_of-more (node ∷ nodes) (suc i) d within = let ih = bound_of-more nodes i d (omega arith) in omega (arith, ints)
-
-positive_part-within : (value : ℤ) → unsigned_abs (positive_part value) ≤ unsigned_abs value
-positive_part-within (pos n) = omega arith
-positive_part-within (negsuc n) = omega (arith, ints)
 
 most_at-within : (node : Node) → unsigned_abs (most_at node) ≤ weight_of node
 most_at-within node = let part = positive_part-within (node.own +ℤ node.rest) in omega (arith, ints)

@@ -1,10 +1,13 @@
 -- Passes over cells and tails, a cell at a time.
 use Rattle.std.proofs.Common.{◌≡◌, ℕ, zero, suc, ◌+◌, ◌<◌, ◌≤◌, Bool, true, false, cond, eqb, ◌||◌, ℤ, unsigned_abs, ◌+ℤ◌, List, [], ◌∷◌, length, get_or, drop, inl, inr, refl, sym, ap, ◌∙◌, subst, arith, add-one, sum_by}
 use Rattle.std.specs.List.{AllByRecursion}
-use Rattle.std.proofs.lemmas.Bool.{ne_eqb, eq-eqb, eqb-true, or_cases, cases_eq}
+use Rattle.std.proofs.Math.Bool.{or-true}
+use Rattle.std.proofs.lemmas.Bool.{ne_eqb, eq-eqb, cases_eq}
 use Rattle.std.proofs.lemmas.List.{drop_more}
 use Rattle.hu_kind.specs.Order.{Ascend}
 use Rattle.hu_kind.specs.Record.{items_in, has, absolute_of}
+use Rattle.hu_kind.proofs.lemmas.Earned.{positive_part-within}
+use Rattle.hu_kind.proofs.lemmas.Occurring.{at_member, has-member}
 use Rattle.hu_totals.specs.declared.ranked.Dense.{Dense}
 use Rattle.hu_totals.specs.View.{dense_pair}
 use Rattle.std.proofs.lemmas.Int.{ints}
@@ -15,7 +18,7 @@ use Rattle.hu_list.specs.Tails.{TailOf, share, kept_gain, size_of}
 use Rattle.hu_list.specs.declared.sums.Sum.{Sum}
 use Rattle.hu_list.specs.Passes.{met, met_in, gaining, summing, sum_with, SumsFit}
 use Rattle.hu_list.specs.View.{cells_of, tail_of, tails_of}
-use Rattle.hu_list.proofs.ShareLemmas.{share-within, kept_gain-within, positive-within}
+use Rattle.hu_list.proofs.ShareLemmas.{share-within, kept_gain-within}
 
 module _ {A : Type 0} (make : ℕ × ℤ → List (ℕ × ℤ) → A → A) where
   -- a rank below all cells has what it had
@@ -58,13 +61,6 @@ rank-below [] i d up within = absurd (omega arith)
 rank-below (cell ∷ cells) zero d up within = up.0
 rank-below (cell ∷ cells) (suc i) d up within = rw add-one (let ih = rank-below cells i d up.1 (omega arith) in rw add-one at ih)
 
-has-above : (z low : ℕ) (cells : List (ℕ × ℤ)) → AllByRecursion (λ y. low < y) (items_in cells) → has z cells ≡ true → low < z
-has-above z low [] above h = cc
-has-above z low (cell ∷ cells) above h = elim (or_cases (eqb z cell.0) (has z cells) h) [
-  | inl e ↦ let same = eqb-true z cell.0 e in let first = above.0 in omega arith
-  | inr later ↦ has-above z low cells above.1 later
-]
-
 module _ (cells : List Dense) (i : ℕ) (d : Dense) (up : Ascend (items_in (cells_of cells))) (within : i < length cells) where
   pub split-at : cells_of (drop i cells) ≡ dense_pair (get_or cells i d) ∷ cells_of (drop (i + 1) cells)
   split-at = ap cells_of (drop_more cells i d within)
@@ -75,15 +71,11 @@ module _ (cells : List Dense) (i : ℕ) (d : Dense) (up : Ascend (items_in (cell
   -- a rank that stands later
   pub apart-later : (z : ℕ) → has z (cells_of (drop (i + 1) cells)) ≡ true → eqb z (get_or cells i d).rank ≡ false
   apart-later z h =
-      let low = has-above z (get_or cells i d).rank (cells_of (drop (i + 1) cells)) (rank-below cells i d up within) h in
+      let low = at_member (λ y. (get_or cells i d).rank < y) z _ (rank-below cells i d up within) (has-member z (cells_of (drop (i + 1) cells)) h) in
       ne_eqb z (get_or cells i d).rank (λ e. absurd (omega arith))
 
   pub has-later : (z : ℕ) → has z (cells_of (drop (i + 1) cells)) ≡ true → has z (cells_of (drop i cells)) ≡ true
   has-later z h = ap (has z) split-at ∙ ap (λ b. eqb z (get_or cells i d).rank || b) h ∙ or-true (eqb z (get_or cells i d).rank)
-    where
-      or-true : (b : Bool) → b || true ≡ true
-      or-true true = refl
-      or-true false = refl
 
   -- a pass goes on with the next cell
   pub pass-next : {A : Type 0} (make : ℕ × ℤ → List (ℕ × ℤ) → A → A) (z : ℕ) (old new : A)
@@ -166,7 +158,7 @@ summing-within keep tail z (cell ∷ cells) a fits =
         record {
           support = omega arith;
           utility = omega (arith, ints, low);
-          bound = omega (arith, ints, low, rest, positive-within (tail.own +ℤ cell.1 +ℤ kept_gain keep cells));
+          bound = omega (arith, ints, low, rest, positive_part-within (tail.own +ℤ cell.1 +ℤ kept_gain keep cells));
         }
     by true false low later = sums-none a (size_of tail)
     by false m low later = later

@@ -1,10 +1,11 @@
 -- Nodes and cells by their places in a list.
-use Rattle.std.proofs.Common.{◌≡◌, ℕ, zero, suc, ◌<◌, ◌≤◌, ◌+◌, ◌^◌, Bool, true, false, cond, not, eqb, ltb, leb, ℤ, pos, negsuc, ◌+ℤ◌, ◌-ℤ◌, unsigned_abs, slice_get, Option, Some, None, unwrap_or, inl, inr, List, [], ◌∷◌, map, length, get_or, take, drop, refl, sym, ap, ◌∙◌, subst, arith, one-add}
+use Rattle.std.proofs.Common.{◌≡◌, ℕ, zero, suc, ◌<◌, ◌≤◌, ◌+◌, ◌^◌, Bool, true, false, cond, not, eqb, ltb, leb, ℤ, ◌+ℤ◌, ◌-ℤ◌, unsigned_abs, slice_get, Option, Some, None, unwrap_or, inl, inr, List, [], ◌∷◌, map, length, get_or, take, drop, refl, sym, ap, ◌∙◌, subst, arith, one-add}
 use Rattle.std.specs.List.{position, position_or_len}
 use Rattle.std.proofs.lemmas.Bool.{cases_lt, lt-ltb, le-ltb, lt-leb, le-leb, eqb-true, eq-eqb}
 use Rattle.std.proofs.lemmas.Int.{ints}
 use Rattle.std.proofs.lemmas.List.Quantifiers.{position-Some}
 use Rattle.std.proofs.lemmas.List.Sums.{sum_by-cons}
+use Rattle.hu_kind.proofs.lemmas.Earned.{positive_part-within}
 use Rattle.hu_kind.specs.Record.{gain, positive_part, absolute_of}
 use Rattle.hu_totals.specs.declared.ranked.Dense.{Dense}
 use Rattle.hu_totals.specs.View.{dense_pair}
@@ -91,10 +92,6 @@ pub gain-more : (cells : List Dense) (i : ℕ) (d : Dense) → i < length cells 
 gain-more [] i d within = absurd (omega arith)
 gain-more (cell ∷ cells) zero d within = omega (arith, ints)
 gain-more (cell ∷ cells) (suc i) d within = let ih = gain-more cells i d (omega arith) in omega (arith, ints)
-
-positive_part-within : (value : ℤ) → unsigned_abs (positive_part value) ≤ unsigned_abs value
-positive_part-within (pos n) = omega arith
-positive_part-within (negsuc n) = omega (arith, ints)
 
 pub gain-take : (cells : List Dense) (i : ℕ) → unsigned_abs (gain (map dense_pair (take i cells))) ≤ absolute_of (map dense_pair cells)
 gain-take [] zero = omega arith

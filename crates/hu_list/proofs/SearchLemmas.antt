@@ -1,12 +1,13 @@
 -- What a search over tails does, set by set.
-use Rattle.std.proofs.Common.{◌≡◌, ℕ, ◌+◌, ◌<◌, ◌≤◌, Bool, true, false, cond, ℤ, pos, ◌+ℤ◌, ◌≤ℤ◌, List, [], ◌∷◌, ◌++◌, length, map, sum_by, inl, inr, refl, sym, ap, ◌∙◌, subst, arith, append_assoc, Contains, flat_map}
+use Rattle.std.proofs.Common.{◌≡◌, ℕ, ◌+◌, ◌<◌, ◌≤◌, Bool, true, false, cond, ℤ, pos, ◌+ℤ◌, ◌≤ℤ◌, List, [], ◌∷◌, ◌++◌, length, map, sum_by, inl, inr, refl, sym, ap, ◌∙◌, subst, arith, append_assoc, Contains}
 use Rattle.std.specs.List.{AllByRecursion}
 use Rattle.std.proofs.lemmas.Int.{ints}
 use Rattle.hu_kind.specs.declared.entry.Entry.{Entry}
 use Rattle.hu_kind.specs.Database.{utility, support}
 use Rattle.hu_kind.specs.Order.{Ascend}
-use Rattle.hu_kind.proofs.lemmas.Members.{Member, Member-from_contains, Contains-from_member, Member-from_flat_map}
-use Rattle.hu_kind.proofs.lemmas.Occurring.{at_member, held-members}
+use Rattle.hu_kind.proofs.lemmas.Members.{Member, Member-map, Member-from_map, Member-from_contains, Contains-from_member}
+use Rattle.hu_kind.proofs.lemmas.Occurring.{at_member, by_members}
+use Rattle.hu_search.proofs.lemmas.UnrankLemmas.{InTable-occurs}
 use Rattle.hu_totals.specs.Ranked.{Ranking}
 use Rattle.hu_collect.specs.State.{State, floor_in, IsInOrder, Reached}
 use Rattle.hu_collect.specs.Rule.{passes}
@@ -70,50 +71,31 @@ bound-is s r set ranks child enough most entry grows counts =
     let same' = ap (utility r.records) split in
     omega (arith, ints, under, same, same')
 
-each-member : (P : Child → Type 0) (xs : List Child) → ((child : Child) → Member child xs → P child) → AllByRecursion P xs
-each-member P [] h = tt
-each-member P (x ∷ xs) h = (h x (inl refl), each-member P xs (λ c m. h c (inr m)))
-
-at-member : (P : Child → Type 0) (x : Child) (xs : List Child) → AllByRecursion P xs → Member x xs → P x
-at-member P x [] all m = absurd m
-at-member P x (y ∷ ys) all (inl e) = subst P e all.0
-at-member P x (y ∷ ys) all (inr m) = at-member P x ys all.1 m
-
-member-rank : (rank : ℕ) (children : List Child) → Member rank (ranks_of children) → (child : Child) × Member child children × (child.rank ≡ rank)
-member-rank rank [] m = absurd m
-member-rank rank (c ∷ cs) (inl e) = (c, inl refl, e)
-member-rank rank (c ∷ cs) (inr m) = let later = member-rank rank cs m in (later.0, inr later.1, later.2)
-
-rank-member : (child : Child) (children : List Child) → Member child children → Member child.rank (ranks_of children)
-rank-member child [] m = absurd m
-rank-member child (c ∷ cs) (inl e) = inl (ap (λ (x : Child). x.rank) e)
-rank-member child (c ∷ cs) (inr m) = inr (rank-member child cs m)
-
 -- the children that are chosen are those to be entered
 pub open-is : {s t : State} (r : Ranking) (set : List ℕ) (children chosen : List Child) → t.rule ≡ s.rule → floor_in s ≤ℤ floor_in t → IsLevel s r set children → AreChosen (floor_in t) children chosen
     → AreOpen t r set (ranks_of children) chosen
 open-is {s = s} {t = t} r set children chosen same rises level are = record {
   others = λ rank c.
-      let found = member-rank rank children (Member-from_contains rank (ranks_of children) c) in
+      let found = Member-from_map (λ (child : Child). child.rank) rank children (Member-from_contains rank (ranks_of children) c) in
       elim (are.whole found.0 (Contains-from_member found.0 children found.1)) [
         | inl here ↦ inl (subst (Contains (ranks_of chosen)) found.2
-            (Contains-from_member found.0.rank (ranks_of chosen) (rank-member found.0 chosen (Member-from_contains found.0 chosen here))))
+            (Contains-from_member found.0.rank (ranks_of chosen) (Member-map (λ (child : Child). child.rank) found.0 chosen (Member-from_contains found.0 chosen here))))
         | inr low ↦ inr (subst (λ z. IsBarren t r (set ++ z ∷ [])) found.2 (λ entry grows counts.
             let under = bound found.0 found.1 entry grows counts in
             let high = counts.high in
             absurd (omega (arith, ints, under, high, low))))
       ];
-  bounds = each-member (λ child. IsBound t r (set ++ child.rank ∷ []) child.bound) chosen (λ child m.
-      bound child (Member-from_contains child children (at-member (Contains children) child chosen are.from m)));
+  bounds = by_members (λ child. IsBound t r (set ++ child.rank ∷ []) child.bound) chosen (λ child m.
+      bound child (Member-from_contains child children (at_member (Contains children) child chosen are.from m)));
 }
   where
     bound : (child : Child) → Member child children → IsBound t r (set ++ child.rank ∷ []) child.bound
     bound child m = bound-is t r set (ranks_of children) child (enough-later s t r set child.rank (ranks_of children) same rises level.enough)
-        (at-member (IsMost r set (ranks_of children)) child children level.most m)
+        (at_member (IsMost r set (ranks_of children)) child children level.most m)
 
 pub chosen-children : (r : Ranking) (set : List ℕ) (floor : ℤ) (children chosen : List Child) → AreChildren r set children → AreChosen floor children chosen → AreChildren r set chosen
-chosen-children r set floor children chosen right are = each-member (IsChild r set) chosen (λ child m.
-    at-member (IsChild r set) child children right (Member-from_contains child children (at-member (Contains children) child chosen are.from m)))
+chosen-children r set floor children chosen right are = by_members (IsChild r set) chosen (λ child m.
+    at_member (IsChild r set) child children right (Member-from_contains child children (at_member (Contains children) child chosen are.from m)))
 
 -- ---- sets that lead to nothing
 
@@ -131,22 +113,12 @@ empty-barren s r set (tail ∷ tails) left none entry grows counts = absurd (ome
 
 -- ---- the records as tails of the empty set, and all ranks
 
-in_cells : (n rank : ℕ) (cells : List (ℕ × ℤ)) → AllByRecursion (λ cell. cell.0 < n) cells → Member rank (items_in cells) → rank < n
-in_cells n rank [] all m = absurd m
-in_cells n rank (cell ∷ cells) all (inl e) = let low = all.0 in omega (arith, e, low)
-in_cells n rank (cell ∷ cells) all (inr m) = in_cells n rank cells all.1 m
-
 -- all ranks are enough for the empty set
 pub enough-first : (s : State) (r : Ranking) (set ranks : List ℕ) → IsRanking r → set ≡ []
     → ((z : ℕ) → z < length r.items → among z ranks ≡ true) → AreEnough s r set ranks
 enough-first s r set ranks rules none all = subst (λ set. AreEnough s r set ranks) (sym none) (λ more up occurs counts.
-    each-weaker (λ rank. Member rank (flat_map items_in r.records)) (Contains ranks) more
-    (λ rank m.
-    let found = Member-from_flat_map items_in rank r.records m in
-    among-contains rank ranks (all rank (in_cells (length r.items) rank found.0
-    (at_member (λ cells. AllByRecursion (λ cell. cell.0 < length r.items) cells) found.0 r.records
-    (each-in_range (length r.items) r.records rules.in_range) found.1) found.2)))
-    (held-members r.records more occurs))
+    each-weaker (λ rank. rank < length r.items) (Contains ranks) more (λ rank within. among-contains rank ranks (all rank within))
+    (InTable-occurs r rules more occurs))
 
 earned-first : (records : List (List (ℕ × ℤ))) (more : List ℕ) → utility records more ≡ earned (map tail_from records) more
 earned-first [] more = refl

@@ -1,11 +1,12 @@
 -- What an ascending set earns in a record whose ranks ascend, and what stands after it there.
-use Rattle.std.proofs.Common.{◌≡◌, ℕ, ◌<◌, ◌≤◌, ◌+◌, Bool, true, false, cond, eqb, ltb, ◌&&◌, ◌⊎◌, inl, inr, ℤ, pos, negsuc, ◌+ℤ◌, ◌≤ℤ◌, unsigned_abs, List, [], ◌∷◌, ◌++◌, refl, sym, ap, ◌∙◌, subst, arith}
+use Rattle.std.proofs.Common.{◌≡◌, ℕ, ◌<◌, ◌≤◌, ◌+◌, Bool, true, false, cond, eqb, ltb, ◌&&◌, ◌⊎◌, inl, inr, ℤ, pos, ◌+ℤ◌, ◌≤ℤ◌, unsigned_abs, List, [], ◌∷◌, ◌++◌, refl, sym, ap, ◌∙◌, subst, arith}
 use Rattle.std.specs.List.{AllByRecursion, list_all}
 use Rattle.std.proofs.lemmas.Bool.{eq-eqb, ne_eqb, cases_eq, and_parts, and_from, lt-ltb, le-ltb}
 use Rattle.std.proofs.lemmas.Int.{ints}
 use Rattle.std.proofs.lemmas.List.Sums.{sum_by-cons}
 use Rattle.hu_kind.specs.Record.{has, holds, value_of, values_of, positive_part, items_in, absolute_of}
 use Rattle.hu_kind.specs.Order.{Ascend}
+use Rattle.hu_kind.proofs.lemmas.Earned.{positive_part-upper, positive_part-within}
 use Rattle.hu_kind.proofs.lemmas.Occurring.{at_member, above_all, has-member}
 use Rattle.hu_list.specs.Nodes.{rest_after}
 
@@ -48,16 +49,8 @@ first_held s ss cell cells up rise h = elim (cases_eq s cell.0) [
 
 -- ---- what stands after a set
 
-pub positive_part-least : (value : ℤ) → (value ≤ℤ positive_part value) × (pos 0 ≤ℤ positive_part value)
-positive_part-least (pos n) = (omega (arith, ints), omega (arith, ints))
-positive_part-least (negsuc n) = (omega (arith, ints), omega (arith, ints))
-
-positive_part-size : (value : ℤ) → unsigned_abs (positive_part value) ≤ unsigned_abs value
-positive_part-size (pos n) = omega arith
-positive_part-size (negsuc n) = omega (arith, ints)
-
 counted-least : (b : Bool) (value : ℤ) → pos 0 ≤ℤ cond b (positive_part value) (pos 0)
-counted-least true value = (positive_part-least value).1
+counted-least true value = (positive_part-upper value).1
 counted-least false value = omega (arith, ints)
 
 pub rest_after-least : (set : List ℕ) (cells : List (ℕ × ℤ)) → pos 0 ≤ℤ rest_after set cells
@@ -89,7 +82,7 @@ weight-within [] [] up rise h = omega arith
 weight-within [] (s ∷ ss) up rise h = absurd (cc)
 weight-within (cell ∷ cells) [] up rise h =
     let ih = weight-within cells [] tt rise.1 refl in
-    let size = positive_part-size cell.1 in
+    let size = positive_part-within cell.1 in
     omega (arith, ints, sum_by-cons (λ c. unsigned_abs c.1) cell cells)
 weight-within (cell ∷ cells) (s ∷ ss) up rise h = elim (first_held s ss cell cells up rise h) [
   | inl first ↦
@@ -123,7 +116,7 @@ values_of-after (cell ∷ cells) set (m ∷ ms) up rise h after = elim (first_he
       let here : list_all (λ rank. ltb rank cell.0) set ≡ true = subst (λ x. list_all (λ rank. ltb rank x) set ≡ true) first.0 after.0 in
       let counts : rest_after set (cell ∷ cells) ≡ positive_part cell.1 +ℤ rest_after set cells = ap (λ b. cond b (positive_part cell.1) (pos 0) +ℤ rest_after set cells) here in
       let ih = values_of-after cells set ms up.1 rise.1 first.2 after.1 in
-      let part = (positive_part-least cell.1).0 in
+      let part = (positive_part-upper cell.1).0 in
       rw (values, counts) (omega (arith, ints, ih, part))
   | inr later ↦
       let values = values_of-past (m ∷ ms) cell cells later.0 in

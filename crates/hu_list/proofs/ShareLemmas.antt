@@ -1,13 +1,14 @@
 -- Shares of tails: what sets of kept ranks earn is within them, and they are within the absolute values.
-use Rattle.std.proofs.Common.{◌≡◌, ℕ, zero, suc, ◌+◌, ◌<◌, ◌≤◌, Bool, true, false, cond, eqb, ◌&&◌, ℤ, pos, negsuc, unsigned_abs, ◌+ℤ◌, ◌≤ℤ◌, List, [], ◌∷◌, ◌++◌, length, get_or, take, drop, inl, inr, refl, sym, ap, ◌∙◌, subst, arith}
+use Rattle.std.proofs.Common.{◌≡◌, ℕ, zero, suc, ◌+◌, ◌<◌, ◌≤◌, Bool, true, false, cond, eqb, ◌&&◌, ℤ, pos, unsigned_abs, ◌+ℤ◌, ◌≤ℤ◌, List, [], ◌∷◌, ◌++◌, length, get_or, take, drop, inl, inr, refl, sym, ap, ◌∙◌, subst, arith}
 use Rattle.std.specs.List.{AllByRecursion}
-use Rattle.std.proofs.lemmas.Bool.{ne_eqb, eq-eqb, eqb-true, and_parts, or_cases, cases_eq}
+use Rattle.std.proofs.lemmas.Bool.{ne_eqb, eq-eqb, and_parts, cases_eq}
 use Rattle.std.proofs.lemmas.Int.{ints}
 use Rattle.std.proofs.lemmas.List.{take_more, drop_more, map-append, take-map}
 use Rattle.std.proofs.lemmas.List.Sums.{sum_by-cons, sum_by-take-le}
 use Rattle.hu_kind.specs.Order.{Ascend}
 use Rattle.hu_kind.specs.Record.{has, holds, value_of, values_of, items_in, absolute_of, positive_part}
-use Rattle.hu_kind.proofs.lemmas.Occurring.{above_all}
+use Rattle.hu_kind.proofs.lemmas.Earned.{positive_part-upper, positive_part-within}
+use Rattle.hu_kind.proofs.lemmas.Occurring.{above_all, at_member, has-member}
 use Rattle.hu_totals.specs.declared.ranked.Dense.{Dense}
 use Rattle.hu_totals.specs.View.{dense_pair}
 use Rattle.hu_list.specs.Slots.{among}
@@ -17,23 +18,17 @@ use Rattle.hu_list.specs.View.{cells_of}
 -- ---- positive parts
 
 pub positive-least : (z : ℤ) → pos 0 ≤ℤ positive_part z
-positive-least (pos n) = omega (arith, ints)
-positive-least (negsuc n) = omega (arith, ints)
+positive-least z = (positive_part-upper z).1
 
 pub positive-above : (z : ℤ) → z ≤ℤ positive_part z
-positive-above (pos n) = omega (arith, ints)
-positive-above (negsuc n) = omega (arith, ints)
-
-pub positive-within : (z : ℤ) → unsigned_abs (positive_part z) ≤ unsigned_abs z
-positive-within (pos n) = omega (arith, ints)
-positive-within (negsuc n) = omega (arith, ints)
+positive-above z = (positive_part-upper z).0
 
 part-least : (b : Bool) (z : ℤ) → pos 0 ≤ℤ cond b (positive_part z) (pos 0)
 part-least true z = positive-least z
 part-least false z = omega (arith, ints)
 
 part-within : (b : Bool) (z : ℤ) → unsigned_abs (cond b (positive_part z) (pos 0)) ≤ unsigned_abs z
-part-within true z = positive-within z
+part-within true z = positive_part-within z
 part-within false z = omega (arith, ints)
 
 pub kept_gain-least : (keep : List ℕ) (cells : List (ℕ × ℤ)) → pos 0 ≤ℤ kept_gain keep cells
@@ -59,13 +54,6 @@ holds-skip (s ∷ set) cell cells above =
     let other : eqb s cell.0 ≡ false = ne_eqb s cell.0 (λ e. absurd (omega arith)) in
     rw other (λ j. has s cells && holds-skip set cell cells above.1 j)
 
-has-later : (rank low : ℕ) (cells : List (ℕ × ℤ)) → AllByRecursion (λ other. low < other) (items_in cells) → has rank cells ≡ true → low < rank
-has-later rank low [] above h = cc
-has-later rank low (cell ∷ cells) above h = elim (or_cases (eqb rank cell.0) (has rank cells) h) [
-  | inl e ↦ let same = eqb-true rank cell.0 e in let first = above.0 in omega arith
-  | inr later ↦ has-later rank low cells above.1 later
-]
-
 pub values_of-kept : (keep : List ℕ) (cells : List (ℕ × ℤ)) (set : List ℕ) → Ascend (items_in cells) → Ascend set → AllByRecursion (λ rank. among rank keep ≡ true) set → holds set cells ≡ true
     → values_of set cells ≤ℤ kept_gain keep cells
 values_of-kept keep cells [] up rise kept h = kept_gain-least keep cells
@@ -83,7 +71,7 @@ values_of-kept keep (cell ∷ cells) (s ∷ set) up rise kept h = elim (cases_eq
       let other : eqb s cell.0 ≡ false = ne_eqb s cell.0 ne in
       let both = and_parts (has s (cell ∷ cells)) (holds set (cell ∷ cells)) h in
       let there : has s cells ≡ true = rw other at both.0 in
-      let low : cell.0 < s = has-later s cell.0 cells up.0 there in
+      let low : cell.0 < s = at_member (λ y. cell.0 < y) s (items_in cells) up.0 (has-member s cells there) in
       let above : AllByRecursion (λ rank. cell.0 < rank) (s ∷ set) = (low, above_all cell.0 s set low rise.0) in
       let rest = values_of-kept keep cells (s ∷ set) up.1 rise kept (sym (holds-skip (s ∷ set) cell cells above) ∙ h) in
       let skip : values_of (s ∷ set) (cell ∷ cells) ≡ values_of (s ∷ set) cells = values_of-skip (s ∷ set) cell cells above in
@@ -93,7 +81,7 @@ values_of-kept keep (cell ∷ cells) (s ∷ set) up rise kept h = elim (cases_eq
 -- ---- shares, a cell more
 
 pub share-within : (keep : List ℕ) (tail : TailOf) → unsigned_abs (share keep tail) ≤ size_of tail
-share-within keep tail = omega (arith, ints, positive-within (tail.own +ℤ kept_gain keep tail.cells), kept_gain-within keep tail.cells)
+share-within keep tail = omega (arith, ints, positive_part-within (tail.own +ℤ kept_gain keep tail.cells), kept_gain-within keep tail.cells)
 
 kept_gain-append : (keep : List ℕ) (cells others : List (ℕ × ℤ)) → kept_gain keep (cells ++ others) ≡ kept_gain keep cells +ℤ kept_gain keep others
 kept_gain-append keep [] others = omega (arith, ints)

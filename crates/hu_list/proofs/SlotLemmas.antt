@@ -1,6 +1,7 @@
 -- Slots of ranks, and lists that go along with them.
 use Rattle.std.proofs.Common.{◌≡◌, ◌≢◌, ℕ, zero, suc, ◌+◌, ◌<◌, Bool, true, false, cond, eqb, ◌||◌, List, [], ◌∷◌, ◌++◌, length, get_or, set, take, replicate, inl, inr, refl, sym, ap, ◌∙◌, subst, arith, nat_eq}
 use Rattle.std.specs.List.{AllByRecursion, IsDistinct}
+use Rattle.std.proofs.Math.Bool.{or-true}
 use Rattle.std.proofs.lemmas.Bool.{ne_eqb, eq-eqb, eqb-true, or_cases, cases_eq}
 use Rattle.std.proofs.lemmas.List.{take_all, length-set, length-append, get_or-set_same, get_or-set_other, get_or_append_left, get_or-append-add}
 use Rattle.hu_list.specs.Slots.{among, IsPlace, at, AreSlots}
@@ -10,10 +11,6 @@ use Rattle.hu_list.specs.Slots.{among, IsPlace, at, AreSlots}
 pub false_from : (b : Bool) → (b ≡ true → ⊥) → b ≡ false
 false_from true h = absurd (h refl)
 false_from false h = refl
-
-or-true : (b : Bool) → b || true ≡ true
-or-true true = refl
-or-true false = refl
 
 -- a rank among the first of some stands at a place
 among-place : (rank n : ℕ) (ranks : List ℕ) → among rank (take n ranks) ≡ true → (i : ℕ) × (i < n) × (i < length ranks) × (get_or ranks i 0 ≡ rank)

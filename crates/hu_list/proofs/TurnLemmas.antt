@@ -33,9 +33,18 @@ pub record IsSoFar (old now : State) (r : Ranking) (set later : List ℕ) (chose
   pub rises : floor_in mid ≤ℤ floor_in now
   pub upto : Reached old (IsUpto r set later chosen at) now
 
--- want of memory after all children were offered
-pub offered-stopped : {old mid : State} (r : Ranking) (set ranks : List ℕ) → Reached old (IsOneOf r set ranks) mid → ReachedSome old (Grows r set) mid
-offered-stopped r set ranks offers = upto-stopped r set ranks [] 0 (upto-none r set ranks [] offers)
+-- the offers of all children, where a set and its children are known as others
+pub offers-as : {old mid : State} (r : Ranking) {set same : List ℕ} {children others : List Child} → same ≡ set → others ≡ children
+    → Reached old (IsOneOf r same (ranks_of others)) mid → Reached old (IsOneOf r set (ranks_of children)) mid
+offers-as {old} {mid} r {same = same} {children} is are offers =
+    subst (λ xs. Reached old (IsOneOf r xs (ranks_of children)) mid) is
+    (subst (λ xs. Reached old (IsOneOf r same (ranks_of xs)) mid) are offers)
+
+-- want of memory after these
+pub offered-stopped : {old mid : State} (r : Ranking) {set same ranks : List ℕ} → same ≡ set → Reached old (IsOneOf r same ranks) mid
+    → ReachedSome old (Grows r set) mid
+offered-stopped {old} {mid} r {same = same} {ranks} is offers =
+    subst (λ xs. ReachedSome old (Grows r xs) mid) is (upto-stopped r same ranks [] 0 (upto-none r same ranks [] offers))
 
 module _ {old now : State} {r : Ranking} {set later : List ℕ} {chosen : List Child} {lists : List (Vec Tail Global)} {at : ℕ}
     (so_far : IsSoFar old now r set later chosen lists at) (ordered : IsInOrder old) where

@@ -8,3 +8,4 @@ pub mod Passes
 pub mod Level
 pub mod Board
 pub mod Rows
+pub mod Lengths

@@ -19,7 +19,7 @@ mod sums;
 mod tail;
 
 pub use list::{Node, UtilityList};
-pub use search::mine;
+pub use search::{mine, mine_upto};
 
 #[cfg(test)]
 mod tests;

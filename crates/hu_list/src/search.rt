@@ -1,6 +1,6 @@
 //! The engine over utility lists.
 
-ghost use Rattle.std.specs.Prelude.{◌≡◌, ◌<◌, ◌≤ℤ◌, ℕ, [], ◌∷◌, ◌++◌, true, nat_eq, length, IfOk, OnOk};
+ghost use Rattle.std.specs.Prelude.{◌≡◌, ◌<◌, ◌≤◌, ◌+◌, ◌≤ℤ◌, ℕ, [], ◌∷◌, ◌++◌, true, nat_eq, length, IfOk, OnOk};
 ghost use Rattle.std.specs.List.{AllByRecursion, IsDistinct};
 ghost use Rattle.hu_kind.specs.Itemsets.{item_patterns};
 ghost use Rattle.hu_kind.specs.Order.{Ascend};
@@ -13,6 +13,7 @@ ghost use Rattle.hu_list.specs.View.{tails_of};
 ghost use Rattle.hu_list.specs.Slots.{among};
 ghost use Rattle.hu_list.specs.Level.{IsLeft};
 ghost use Rattle.hu_list.specs.Board.{HasRoom};
+ghost use Rattle.hu_list.specs.Lengths.{WantsUpto};
 
 use crate::level::{Board, children, chosen, grown_by, ranks_of};
 use crate::slots::Slots;
@@ -42,6 +43,25 @@ pub fn mine<C: Collect, G: Gate>(
     requires rests { RestsOn (C.state collect.old).rule.table ranked.now.items }
     ensures { Mines (C.state collect.old) (item_patterns (unranked ranked.now)) (C.state collect.new) result }
 {
+    mine_upto(alloc, ranked, ranked.len(), collect, gate)
+}
+
+/// Offers as [`mine`] does, to a collector that wants no itemset of more than `long` items. Those of just `long` items are
+/// offered and not entered, so no tails are kept for them.
+pub fn mine_upto<C: Collect, G: Gate>(
+    alloc: Global,
+    ranked: &Ranked,
+    long: u32,
+    collect: &mut C,
+    gate: &G,
+) -> Result<(), NoMemory>
+    requires ranked_floor { ranked.now.floor ≤ℤ floor_in (C.state collect.old) }
+    requires gate_floor { G.floor gate.now ≤ℤ floor_in (C.state collect.old) }
+    requires right { G.IsRightFor gate.now ranked.now.records }
+    requires rests { RestsOn (C.state collect.old).rule.table ranked.now.items }
+    requires long { WantsUpto (C.state collect.old).rule ranked.now.items long }
+    ensures { Mines (C.state collect.old) (item_patterns (unranked ranked.now)) (C.state collect.new) result }
+{
     // This tells the proof that the collector's state is in order.
     let _floor = collect.floor();
     let tails = record_tails(alloc, ranked)?;
@@ -52,6 +72,7 @@ pub fn mine<C: Collect, G: Gate>(
     search(
         alloc,
         ranked,
+        long,
         &mut Vec::new(alloc),
         &tails,
         &mut board,
@@ -93,6 +114,7 @@ fn record_tails<'a>(alloc: Global, ranked: &'a Ranked) -> Result<Vec<Tail<'a>>, 
 fn search<C: Collect, G: Gate>(
     alloc: Global,
     ranked: &Ranked,
+    long: u32,
     ranks: &mut Vec<u32>,
     tails: &[Tail<'_>],
     board: &mut Board,
@@ -107,6 +129,7 @@ fn search<C: Collect, G: Gate>(
     requires floor { G.floor gate.now ≤ℤ floor_in (C.state collect.old) }
     requires right { G.IsRightFor gate.now ranked.now.records }
     requires rests { RestsOn (C.state collect.old).rule.table ranked.now.items }
+    requires long { WantsUpto (C.state collect.old).rule ranked.now.items long }
     requires room { HasRoom board.old (length ranked.now.items) }
     ensures ranks { OnOk result (ranks.new.items ≡ ranks.old.items) }
     ensures room { HasRoom board.new (length ranked.now.items) }
@@ -114,6 +137,9 @@ fn search<C: Collect, G: Gate>(
 {
     let children = children(alloc, ranked, ranks, tails, board, collect, gate)?;
     offer_children(alloc, ranked, ranks, &children, collect)?;
+    if are_longest(ranks, long) {
+        return Ok(());
+    }
     let later = ranks_of(alloc, &children)?;
     let chosen = chosen(alloc, children, collect.floor())?;
     let lists = grown_by(alloc, ranked, ranks, tails, &chosen, &mut board.found)?;
@@ -122,10 +148,17 @@ fn search<C: Collect, G: Gate>(
             break;
         }
         enter(
-            alloc, ranked, ranks, child, &lists[at], &later, board, collect, gate,
+            alloc, ranked, long, ranks, child, &lists[at], &later, board, collect, gate,
         )?;
     }
     Ok(())
+}
+
+/// Whether these ranks and one more are as many as are wanted.
+fn are_longest(ranks: &[u32], long: u32) -> bool
+    ensures { result ≡ true → long ≤ length ranks.now + 1 }
+{
+    long as usize <= ranks.len() + 1
 }
 
 /// Offers the sets that grow a child by later ranks of a list, unless the collector doesn't open it or no cells are left.
@@ -133,6 +166,7 @@ fn search<C: Collect, G: Gate>(
 fn enter<C: Collect, G: Gate>(
     alloc: Global,
     ranked: &Ranked,
+    long: u32,
     ranks: &mut Vec<u32>,
     child: &Child,
     tails: &[Tail<'_>],
@@ -152,6 +186,7 @@ fn enter<C: Collect, G: Gate>(
     requires floor { G.floor gate.now ≤ℤ floor_in (C.state collect.old) }
     requires right { G.IsRightFor gate.now ranked.now.records }
     requires rests { RestsOn (C.state collect.old).rule.table ranked.now.items }
+    requires long { WantsUpto (C.state collect.old).rule ranked.now.items long }
     requires room { HasRoom board.old (length ranked.now.items) }
     ensures ranks { OnOk result (ranks.new.items ≡ ranks.old.items) }
     ensures room { HasRoom board.new (length ranked.now.items) }
@@ -162,7 +197,7 @@ fn enter<C: Collect, G: Gate>(
     }
     board.kept.fill(later)?;
     ranks.push(child.rank)?;
-    search(alloc, ranked, ranks, tails, board, collect, gate)?;
+    search(alloc, ranked, long, ranks, tails, board, collect, gate)?;
     ranks.pop();
     Ok(())
 }

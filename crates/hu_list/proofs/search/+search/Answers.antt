@@ -17,7 +17,8 @@ use Rattle.hu_list.specs.View.{tails_of, lists_of, tail_of}
 use Rattle.hu_list.specs.Board.{HasRoom}
 use Rattle.hu_list.specs.Level.{IsLeft, IsLevel, AreChosen, AreGrown}
 use Rattle.hu_list.proofs.SearchLemmas.{next, next-push, next-below, last-in, barren-reached, empty-barren, chosen-children}
-use Rattle.hu_list.proofs.TurnLemmas.{offered-stopped, so_far-ordered, so_far-rule, so_far-rises, so_far-once, so_far-within, so_far-all, so_far-child, so_far-enough, so_far-left, so_far-next, so_far-some}
+use Rattle.hu_list.proofs.LengthLemmas.{longest-reached}
+use Rattle.hu_list.proofs.TurnLemmas.{offers-as, offered-stopped, so_far-ordered, so_far-rule, so_far-rises, so_far-once, so_far-within, so_far-all, so_far-child, so_far-enough, so_far-left, so_far-next, so_far-some}
 use Rattle.hu_list.proofs.search.+search.Goals.{enter-then-is_empty-via-then-is_empty, enter-then-is_empty-via-else-is_empty+in_ok-opens+then-not-branch, search-else-chosen-test, search-then-chosen-test+then-child-floor}
 use Rattle.hu_list.proofs.search.+search.Goals as goal
 
@@ -74,23 +75,27 @@ search-returns-in_err-offer_children-clause-searches g t c =
     stopped {P = Grows r c.args.ranks.now.items} c.from_residual-in_err-offer_children.result c.from_residual-in_err-offer_children.ensures.0
     (subst (λ set. ReachedSome old (Grows r set) new) c.deref-2.ensures.value some)
 
+pub search-returns-then-are_longest-clause-searches : goal.search-returns-then-are_longest-clause-searches
+search-returns-then-are_longest-clause-searches g t c =
+    let r = c.args.ranked.now in
+    let set = c.args.ranks.now.items in
+    let old = g.C.Collect.state c.args.collect.now in
+    let children = c.in_ok-children.children.items in
+    let level : IsLevel old r set children = subst (λ xs. IsLevel old r xs children) c.deref.ensures.value c.in_ok-children.ensures.level in
+    let reached : c.args.long ≤ length set + 1 =
+    subst (λ xs. c.args.long ≤ length xs + 1) c.deref-4.ensures.value (c.are_longest.ensures c.if-are_longest.true) in
+    longest-reached r set c.args.long children c.requires.rules c.requires.ordered c.requires.long reached level
+    (offers-as r c.deref-2.ensures.value c.deref-3.ensures.value c.in_ok-offer_children.ensures)
+
 pub search-returns-in_err-later-clause-searches : goal.search-returns-in_err-later-clause-searches
 search-returns-in_err-later-clause-searches g t c =
-    let r = c.args.ranked.now in
-    let old = g.C.Collect.state c.args.collect.now in
-    let new = g.C.Collect.state c.offer_children.new.collect in
-    stopped {P = Grows r c.args.ranks.now.items} c.from_residual-in_err-later.result c.from_residual-in_err-later.ensures.0
-    (subst (λ set. ReachedSome old (Grows r set) new) c.deref-2.ensures.value
-    (offered-stopped r c.deref-2.result.now (ranks_of c.deref-3.result.now) c.in_ok-offer_children.ensures))
+    stopped {P = Grows c.args.ranked.now c.args.ranks.now.items} c.from_residual-in_err-later.result c.from_residual-in_err-later.ensures.0
+    (offered-stopped c.args.ranked.now c.deref-2.ensures.value c.in_ok-offer_children.ensures)
 
 pub search-returns-in_err-chosen-clause-searches : goal.search-returns-in_err-chosen-clause-searches
 search-returns-in_err-chosen-clause-searches g t c =
-    let r = c.args.ranked.now in
-    let old = g.C.Collect.state c.args.collect.now in
-    let new = g.C.Collect.state c.offer_children.new.collect in
-    stopped {P = Grows r c.args.ranks.now.items} c.from_residual-in_err-chosen.result c.from_residual-in_err-chosen.ensures.0
-    (subst (λ set. ReachedSome old (Grows r set) new) c.deref-2.ensures.value
-    (offered-stopped r c.deref-2.result.now (ranks_of c.deref-3.result.now) c.in_ok-offer_children.ensures))
+    stopped {P = Grows c.args.ranked.now c.args.ranks.now.items} c.from_residual-in_err-chosen.result c.from_residual-in_err-chosen.ensures.0
+    (offered-stopped c.args.ranked.now c.deref-2.ensures.value c.in_ok-offer_children.ensures)
 
 pub search-grown_by-requires-clause-children : goal.search-grown_by-requires-clause-children
 search-grown_by-requires-clause-children g t c =
@@ -98,17 +103,13 @@ search-grown_by-requires-clause-children g t c =
     let right : AreChildren r c.deref.result.now c.in_ok-chosen.chosen.items =
     chosen-children r c.deref.result.now (to_z w128 (of_z w128 c.floor.result)) c.in_ok-children.children.items c.in_ok-chosen.chosen.items
     c.in_ok-children.ensures.level.right c.in_ok-chosen.ensures in
-    subst (λ set. AreChildren r set c.deref-6.result.now) (c.deref.ensures.value ∙ sym c.deref-5.ensures.value)
-    (subst (AreChildren r c.deref.result.now) (sym c.deref-6.ensures.value) right)
+    subst (λ set. AreChildren r set c.deref-7.result.now) (c.deref.ensures.value ∙ sym c.deref-6.ensures.value)
+    (subst (AreChildren r c.deref.result.now) (sym c.deref-7.ensures.value) right)
 
 pub search-returns-in_err-lists-clause-searches : goal.search-returns-in_err-lists-clause-searches
 search-returns-in_err-lists-clause-searches g t c =
-    let r = c.args.ranked.now in
-    let old = g.C.Collect.state c.args.collect.now in
-    let new = g.C.Collect.state c.offer_children.new.collect in
-    stopped {P = Grows r c.args.ranks.now.items} c.from_residual-in_err-lists.result c.from_residual-in_err-lists.ensures.0
-    (subst (λ set. ReachedSome old (Grows r set) new) c.deref-2.ensures.value
-    (offered-stopped r c.deref-2.result.now (ranks_of c.deref-3.result.now) c.in_ok-offer_children.ensures))
+    stopped {P = Grows c.args.ranked.now c.args.ranks.now.items} c.from_residual-in_err-lists.result c.from_residual-in_err-lists.ensures.0
+    (offered-stopped c.args.ranked.now c.deref-2.ensures.value c.in_ok-offer_children.ensures)
 
 pub search-chosen-init : goal.search-chosen-init
 search-chosen-init g t c =
@@ -121,18 +122,18 @@ search-chosen-init g t c =
     let items = c.deref-child-items.result.now in
     let lists = c.in_ok-lists.lists.items in
     let level : IsLevel old r set children = subst (λ xs. IsLevel old r xs children) c.deref.ensures.value c.in_ok-children.ensures.level in
-    let ranks : later ≡ ranks_of children = c.in_ok-later.ensures ∙ ap ranks_of c.deref-4.ensures.value in
+    let ranks : later ≡ ranks_of children = c.in_ok-later.ensures ∙ ap ranks_of c.deref-5.ensures.value in
     let offers : Reached old (IsOneOf r set later) mid =
-    subst (λ xs. Reached old (IsOneOf r xs later) mid) c.deref-2.ensures.value
-    (subst (λ zs. Reached old (IsOneOf r c.deref-2.result.now zs) mid) (ap ranks_of c.deref-3.ensures.value ∙ sym ranks) c.in_ok-offer_children.ensures) in
+    subst (λ zs. Reached old (IsOneOf r set zs) mid) (sym ranks)
+    (offers-as r c.deref-2.ensures.value c.deref-3.ensures.value c.in_ok-offer_children.ensures) in
     let floor : to_z w128 (of_z w128 c.floor.result) ≡ floor_in mid = omega (arith, ints, c.floor.type_inv) ∙ c.floor.ensures.value in
     let are : AreChosen (floor_in mid) children items =
     subst (AreChosen (floor_in mid) children) (sym c.deref-child-items.ensures.value)
     (subst (λ f. AreChosen f children c.in_ok-chosen.chosen.items) floor c.in_ok-chosen.ensures) in
-    let same : c.deref-6.result.now ≡ items = c.deref-6.ensures.value ∙ sym c.deref-child-items.ensures.value in
+    let same : c.deref-7.result.now ≡ items = c.deref-7.ensures.value ∙ sym c.deref-child-items.ensures.value in
     let grown : AreGrown r set items (lists_of lists) =
     subst (λ xs. AreGrown r set xs (lists_of lists)) same
-    (subst (λ xs. AreGrown r xs c.deref-6.result.now (lists_of lists)) c.deref-5.ensures.value c.in_ok-lists.ensures.lists) in
+    (subst (λ xs. AreGrown r xs c.deref-7.result.now (lists_of lists)) c.deref-6.ensures.value c.in_ok-lists.ensures.lists) in
     record {
       ranks = refl;
       room = record {
