@@ -19,7 +19,7 @@ use hu_base::Base;
 use hu_closed::{ClosedOnly, RecordSets};
 use hu_collect::{Collect, Limited};
 use hu_kind::{Entry, Key, NoMemory, Record};
-use hu_totals::{Ranked, Totals};
+use hu_totals::{RankOrder, Ranked, Totals};
 use indexmap::IndexMap;
 use std::alloc::Global;
 
@@ -139,7 +139,7 @@ fn entries_of<G: Gates>(
     ensures { IfOk result (λ entries. entries.items ≡ made (within (option_copied batch.entry) (rule_in collect)) (content_in collect) (patterns_of closed (records_of base.now))) }
 {
     let totals = Totals::of(alloc, base)?;
-    let ranked = Ranked::of(alloc, base, &totals, collect.floor())?;
+    let ranked = Ranked::ordered(alloc, base, &totals, collect.floor(), RankOrder::Value)?;
     if closed {
         closed_entries(alloc, base, &ranked, gates, collect, batch)
     } else {

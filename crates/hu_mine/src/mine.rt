@@ -22,7 +22,7 @@ use hu_closed::{ClosedOnly, RecordSets};
 use hu_collect::{Collect, Limited};
 use hu_kind::{Entry, NoMemory, Record, SeqRecord};
 use hu_plain::{mine_items, mine_sequences};
-use hu_totals::{Ranked, Totals};
+use hu_totals::{RankOrder, Ranked, Totals};
 use std::alloc::Global;
 
 /// The first `top` itemsets, or all of them, that earn at least `least` in all records of the batches, in the one order.
@@ -121,7 +121,7 @@ fn ranked_items(
 {
     let totals = Totals::of(alloc, base)?;
     let start = start_of(alloc, &totals, least, top)?;
-    let ranked = Ranked::of(alloc, base, &totals, start)?;
+    let ranked = Ranked::ordered(alloc, base, &totals, start, RankOrder::Value)?;
     items_from(alloc, base, &ranked, engine, start, top)
 }
 
@@ -158,7 +158,7 @@ fn ranked_closed(
     ensures { IfOk result (λ entries. entries.items ≡ closed_answer (records_of base.now) least top) }
 {
     let totals = Totals::of(alloc, base)?;
-    let ranked = Ranked::of(alloc, base, &totals, least)?;
+    let ranked = Ranked::ordered(alloc, base, &totals, least, RankOrder::Value)?;
     let sets = RecordSets::of(alloc, base)?;
     closed_from(alloc, base, &ranked, &sets, engine, least, top)
 }

@@ -4,13 +4,14 @@ use Rattle.hu_kind.specs.Record.{IsRecord}
 use Rattle.hu_base.specs.Base.{records_of}
 use Rattle.hu_kept.specs.Limited.{content_in}
 use Rattle.hu_closed.specs.ClosedOnly.{inner_of, records_in, table_of}
-use Rattle.hu_closed.proofs.lemmas.RankLemmas.{IsRankingOf-made}
+use Rattle.hu_closed.proofs.lemmas.RankLemmas.{IsRankingOf-ordered}
 use Rattle.hu_kept.proofs.ClosedParts.{made-closed_around}
 use Rattle.hu_kept.proofs.renewal.closed_entries.Goals as goal
 
 pub new-collect-requires-clause-base : goal.new-collect-requires-clause-base
 new-collect-requires-clause-base g c =
-    IsRankingOf-made c.requires.ranks.0 (records_of c.args.base.now) c.in_ok-sets.sets c.args.ranked.now c.in_ok-sets.ensures c.requires.ranks.1
+    let ranks = c.requires.ranks in
+    IsRankingOf-ordered ranks.0 ranks.1 (records_of c.args.base.now) c.in_ok-sets.sets c.args.ranked.now c.in_ok-sets.ensures ranks.2
 
 pub returns : goal.returns
 returns g c =
