@@ -63,7 +63,7 @@ any_some None Q f = tt
 any_some (Some x) Q f = f x
 
 -- a name at a place is one of the names
-place_is_among : (names : List (List ℕ)) (i : ℕ) (name : List ℕ) → slice_get names i ≡ Some name → Contains names name
+pub place_is_among : (names : List (List ℕ)) (i : ℕ) (name : List ℕ) → slice_get names i ≡ Some name → Contains names name
 place_is_among names i name place = (i, slice_get_within names i name place, get_or_from_slice_get names i name name place)
 
 -- ---- what is kept

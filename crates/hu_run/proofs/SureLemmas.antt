@@ -1,33 +1,121 @@
--- Where no count can rise.
-use Rattle.std.proofs.Common.{◌≡◌, ℕ, List, Result, Ok, Err, Option, Some, None, refl, arith}
-use Rattle.std.specs.Prelude.{◌⊎◌, IsOk, IsOkAnd, IfOk, IfSome}
+-- Where neither a read of a named file nor the writing of the text can fail.
+use Rattle.std.proofs.Common.{◌≡◌, ℕ, ◌≤◌, List, Result, Ok, Err, Option, Some, None, refl, sym, ap, ◌∙◌, inl, inr, arith, subst}
+use Rattle.std.specs.Prelude.{◌≢◌, ◌⊎◌, IsOk, IsErr, IsOkAnd, IfOk, IfSome, ⊤, length}
+use Rattle.std.specs.List.{Contains}
+use Rattle.std.proofs.lemmas.Bool.{cases_order}
 use Rattle.hu_io.specs.Count.{Rose}
-use Rattle.hu_run.specs.Job.{job, names_of}
-use Rattle.hu_run.specs.Ending.{Ending, ending, status_of}
-use Rattle.hu_run.specs.Run.{Streams, Runs, WhereTold, Unharmed}
-use Rattle.hu_run.specs.Laws.{IsSurelyDone, sure_streams}
+use Rattle.hu_io.specs.State.{Broke}
+use Rattle.hu_io.specs.MemoryFiles.{FilesView, NamedFilesNeverFail}
+use Rattle.hu_io.specs.MemorySink.{SinkView, RoomySinksNeverFail, sink_state}
+use Rattle.hu_run.specs.Job.{Asked, job, names_of}
+use Rattle.hu_run.specs.Ending.{Ending, writes, refuses, lacks, ending, status_of}
+use Rattle.hu_run.specs.Run.{Streams, Runs, Writing}
+use Rattle.hu_run.specs.Laws.{IsSurelyDone, IsDoneInMemory, EndsAsTold, HasRoom, IsUntroubled, sure_streams, memory_streams}
+use Rattle.hu_run.proofs.EndLemmas.{place_is_among}
 
-ok_and : {A E : Type 0} (r : Result A E) (Q : A → Type 0) → ((x : A) → Q x) → IsOk r → IsOkAnd r Q
-ok_and (Ok x) Q f ok = f x
-ok_and (Err e) Q f ok = absurd (cc)
+-- ---- results and options
 
-if_ok_known : {A E : Type 0} (r : Result A E) (P Q : A → Type 0) → (IsOk r → (x : A) → P x → Q x) → IfOk r P → IfOk r Q
-if_ok_known (Ok x) P Q f p = f refl x p
-if_ok_known (Err e) P Q f p = tt
+known_ok : {A E : Type 0} (r : Result A E) (Q : A → Type 0) → ((x : A) → r ≡ Ok x → Q x) → IfOk r Q
+known_ok (Ok x) Q f = f x refl
+known_ok (Err e) Q f = tt
 
-if_some : {A : Type 0} (o : Option A) (P Q : A → Type 0) → ((x : A) → P x → Q x) → IfSome o P → IfSome o Q
-if_some None P Q f p = tt
-if_some (Some x) P Q f p = f x p
+known_some : {A : Type 0} (o : Option A) (Q : A → Type 0) → ((x : A) → o ≡ Some x → Q x) → IfSome o Q
+known_some None Q f = tt
+known_some (Some x) Q f = f x refl
 
--- the status is that of the ending, or want of memory
-pub unharmed_status : (s : Streams) (status : ℕ) → Runs s status → ((name : List ℕ) → ¬ Rose (s.files.faults name) (s.files_after.faults name)) → ¬ Rose s.out.faults s.out_after.faults
-    → WhereTold s (λ e. (status ≡ status_of e) ⊎ (status ≡ 5))
-unharmed_status s status runs files out =
-    if_ok_known (job s.words) _ _ (λ ok asked told.
-    if_some (ending asked s.files.contents (names_of asked s.words)) _ _ (λ e complete.
-    complete (record { files = ok_and (job s.words) _ (λ a name among. files name) ok; out = out })) told)
-    runs.complete
+of_ok : {A E : Type 0} (r : Result A E) (x : A) (P : A → Type 0) → r ≡ Ok x → IsOkAnd r P → P x
+of_ok r x P is fact = subst (λ s. IsOkAnd s P) is fact
+
+if_of_ok : {A E : Type 0} (r : Result A E) (x : A) (P : A → Type 0) → r ≡ Ok x → IfOk r P → P x
+if_of_ok r x P is fact = subst (λ s. IfOk s P) is fact
+
+of_some : {A : Type 0} (o : Option A) (x : A) (P : A → Type 0) → o ≡ Some x → IfSome o P → P x
+of_some o x P is fact = subst (λ s. IfSome s P) is fact
+
+-- ---- endings
+
+-- the writing of the text of an ending doesn't fail
+abbrev Unbroken : Streams → Ending → Type 0
+Unbroken s (writes text) = ¬ Broke s.out s.out_after text
+Unbroken s (refuses name refusal) = ⊤
+Unbroken s (lacks name) = ⊤
+
+not_broken : (s : Streams) (e : Ending) → Unbroken s e → Writing (Broke s.out s.out_after) e → ⊥
+not_broken s (writes text) never broke = never broke
+not_broken s (refuses name refusal) never broke = broke
+not_broken s (lacks name) never broke = broke
+
+status_of_text : (fact : List ℕ → Type 0) (e : Ending) → Writing fact e → 0 ≡ status_of e
+status_of_text fact (writes text) is = refl
+status_of_text fact (refuses name refusal) is = absurd is
+status_of_text fact (lacks name) is = absurd is
+
+-- what leaves a status of 0, 1 or 5
+zero_one_five : (status n : ℕ) → status ≤ 5 → (status ≡ 0 → 0 ≡ n) → (status ≡ 1 → 1 ≡ n) → status ≢ 2 → status ≢ 3 → status ≢ 4
+    → (status ≡ n) ⊎ (status ≡ 5)
+zero_one_five status n within zero one two three four = elim (cases_order status 1) [
+  | inl is ↦ inl (is ∙ one is)
+  | inr (inl less) ↦ let is : status ≡ 0 = omega arith in inl (is ∙ zero is)
+  | inr (inr more) ↦ inr (omega (arith, two, three, four))
+]
+
+-- where no read of a named file and no writing of the text fails, the status is that of the ending, or want of memory
+ends_as_told : (s : Streams) (status : ℕ) → Runs s status
+    → IfOk (job s.words) (λ asked. (name : List ℕ) → Contains (names_of asked s.words) name → ¬ Rose (s.files.faults name) (s.files_after.faults name))
+    → IfOk (job s.words) (λ asked. IfSome (ending asked s.files.contents (names_of asked s.words)) (Unbroken s))
+    → EndsAsTold s status
+ends_as_told s status runs files out = known_ok (job s.words) _ (λ asked is. known_some (comes_to asked) _ (λ e comes.
+    zero_one_five status (status_of e) runs.within
+    (λ zero. status_of_text _ e (of_some (comes_to asked) e _ comes (of_ok (job s.words) asked _ is (runs.done zero))))
+    (λ one. refused asked is e comes one)
+    (λ two. no_fault asked is (runs.no_job.0 two))
+    (λ three. read asked is three)
+    (λ four. not_broken s e (of_some (comes_to asked) e _ comes (if_of_ok (job s.words) asked _ is out))
+    (of_some (comes_to asked) e _ comes (of_ok (job s.words) asked _ is (runs.broken four))))))
+  where
+    comes_to : Asked → Option Ending
+    comes_to asked = ending asked s.files.contents (names_of asked s.words)
+
+    refused : (asked : Asked) → job s.words ≡ Ok asked → (e : Ending) → comes_to asked ≡ Some e → status ≡ 1 → 1 ≡ status_of e
+    refused asked is e comes one =
+        let told = of_ok (job s.words) asked _ is (runs.refused one) in
+        sym (ap status_of (of_some (comes_to asked) e _ comes told.3))
+
+    no_fault : (asked : Asked) → job s.words ≡ Ok asked → IsErr (job s.words) → ⊥
+    no_fault asked is err = cc
+
+    read : (asked : Asked) → job s.words ≡ Ok asked → status ≡ 3 → ⊥
+    read asked is three =
+        let told = of_ok (job s.words) asked _ is (runs.unread three) in
+        if_of_ok (job s.words) asked _ is files told.1 (place_is_among (names_of asked s.words) told.0 told.1 told.2) told.3
+
+-- ---- files and sinks that never fail
 
 pub surely_done : IsSurelyDone
 surely_done words files files_after err err_after status runs =
-    unharmed_status (sure_streams words files files_after err err_after) status runs (λ name rose. absurd (omega (arith, rose))) (λ rose. absurd (omega (arith, rose)))
+    ends_as_told (sure_streams words files files_after err err_after) status runs
+    (known_ok (job words) _ (λ asked is name among rose. omega (arith, rose)))
+    (known_ok (job words) _ (λ asked is. known_some _ _ (λ e comes. never e)))
+  where
+    never : (e : Ending) → Unbroken (sure_streams words files files_after err err_after) e
+    never (writes text) = λ broke. omega (arith, broke.rose)
+    never (refuses name refusal) = tt
+    never (lacks name) = tt
+
+-- ---- files and sinks in memory
+
+pub done_in_memory : NamedFilesNeverFail → RoomySinksNeverFail → IsDoneInMemory
+done_in_memory reads puts words files files_after out out_after err err_after status untroubled runs =
+    ends_as_told s status runs
+    (known_ok (job words) _ (λ asked is name among.
+    reads files files_after name untroubled.no_failing_get (if_of_ok (job words) asked _ is untroubled.there name among) runs.files_plan runs.contents))
+    (known_ok (job words) _ (λ asked is. known_some _ _ (λ e comes.
+    unbroken e (of_some _ e _ comes (if_of_ok (job words) asked _ is untroubled.room)))))
+  where
+    s : Streams
+    s = memory_streams words files files_after out out_after err err_after
+
+    unbroken : (e : Ending) → HasRoom out e → Unbroken s e
+    unbroken (writes text) room = puts out out_after text untroubled.no_failing_put room
+    unbroken (refuses name refusal) room = tt
+    unbroken (lacks name) room = tt

@@ -1,8 +1,10 @@
 //! Runs over files and sinks in memory.
 
 mod failures;
+mod limits;
 mod mining;
 mod refusals;
+mod sizes;
 
 use crate::run;
 use hu_io::{MemoryFiles, MemorySink};
@@ -31,15 +33,13 @@ const GREATEST: &str =
 const PAST_THE_GREATEST: &str =
     "1:170141183460469231731687303715884105727:170141183460469231731687303715884105727\n2:1:1\n";
 
+const GREATEST_SEQUENCE: &str = "1[170141183460469231731687303715884105727] -1 -2\n";
+
 const FORTY_ITEMS: &str =
     "1 2 3 4 5 6 7 8 9 10 11 12 13 14 15 16 17 18 19 20 21 22 23 24 25 26 27 28 29 30 31 32 33 34 35 36 37 38 39 40:40:1 1 1 1 1 1 1 1 1 1 1 1 1 1 1 1 1 1 1 1 1 1 1 1 1 1 1 1 1 1 1 1 1 1 1 1 1 1 1 1\n";
 
-const BASE_A_AT_30: &str =
-    "2 3 4 5 #UTIL: 40\n2 3 5 #UTIL: 37\n2 4 5 #UTIL: 36\n2 3 4 #UTIL: 34\n1 3 5 #UTIL: 31\n2 5 #UTIL: 31\n1 2 3 4 5 6 #UTIL: 30\n2 4 #UTIL: 30\n";
-
-const ITEM_ENGINES: [&str; 4] = ["plain", "lists", "project", "kept"];
-
-const SEQUENCE_ENGINES: [&str; 2] = ["plain", "chain"];
+const FORTY_ITEMSETS: &str =
+    "1[1] -1 2[1] -1 3[1] -1 4[1] -1 5[1] -1 6[1] -1 7[1] -1 8[1] -1 9[1] -1 10[1] -1 11[1] -1 12[1] -1 13[1] -1 14[1] -1 15[1] -1 16[1] -1 17[1] -1 18[1] -1 19[1] -1 20[1] -1 21[1] -1 22[1] -1 23[1] -1 24[1] -1 25[1] -1 26[1] -1 27[1] -1 28[1] -1 29[1] -1 30[1] -1 31[1] -1 32[1] -1 33[1] -1 34[1] -1 35[1] -1 36[1] -1 37[1] -1 38[1] -1 39[1] -1 40[1] -1 -2 SUtility:40\n";
 
 const LATER: &str = "1[2] -1 1[5] -1 2[3] -1 -2 SUtility:10\n";
 
@@ -49,40 +49,58 @@ const FOUR: &str =
     "1[1] 2[4] -1 3[10] -1 6[9] -1 7[2] -1 5[1] -1 -2 SUtility:27\n1[1] 4[12] -1 3[20] -1 2[4] -1 5[1] 7[2] -1 -2 SUtility:40\n1[1] -1 2[4] -1 6[9] -1 5[1] -1 -2 SUtility:15\n1[3] 2[4] 3[5] -1 6[3] 7[1] -1 -2 SUtility:16\n";
 
 /// The files that the tests name.
-const FILES: [(&str, &str); 24] = [
+const FILES: [(&str, &str); 25] = [
     ("a", BASE_A),
+    ("front", FIRST_THREE),
+    ("back", LAST_TWO),
     ("wrong", WRONG_TOTAL),
     ("headers", WITH_HEADERS),
-    ("signed", SIGNED),
-    ("greatest", GREATEST),
-    ("past", PAST_THE_GREATEST),
     ("empty", ""),
     ("comments", "# shop 7\n# shop 8\n"),
+    ("signed", SIGNED),
     ("zero", "1 2:5:5 0\n"),
     ("lawful", "1 2:5:8 -3\n1 2:8:8 -3\n"),
     ("unlawful", "1 2:6:8 -3\n"),
-    ("one", "2:1:1\n"),
-    ("twice", "1 1:4:2 2\n"),
-    ("counts", "1 2:3:3\n"),
-    ("parts", "1:2\n"),
-    ("none", ":0:\n"),
-    ("number", "1:1:1\n1 x:3:1 y\n"),
     ("pair", "1 2:10:5 5\n3:1:1\n"),
+    ("greatest", GREATEST),
+    ("past", PAST_THE_GREATEST),
+    ("one", "2:1:1\n"),
     ("forty", FORTY_ITEMS),
-    ("front", FIRST_THREE),
-    ("back", LAST_TWO),
     ("later", LATER),
     ("places", PLACES),
     ("four", FOUR),
+    ("untold", "3[1] 1[2] -1 -2\n"),
+    ("apart", "1[2] -1 1[3] -1 -2 SUtility:5\n"),
+    ("heavy", GREATEST_SEQUENCE),
+    ("light", "2[1] -1 -2\n"),
+    ("open", "1[2] -1 -2\n1[2] -2\n"),
+    ("itemsets", FORTY_ITEMSETS),
 ];
 
-/// The words of a text, with an engine in the place of `ENGINE`.
-fn words_of(alloc: Global, engine: &str, text: &str) -> Result<Vec<String>, NoMemory> {
+const BASE_A_AT_30: &str =
+    "2 3 4 5 #UTIL: 40\n2 3 5 #UTIL: 37\n2 4 5 #UTIL: 36\n2 3 4 #UTIL: 34\n1 3 5 #UTIL: 31\n2 5 #UTIL: 31\n1 2 3 4 5 6 #UTIL: 30\n2 4 #UTIL: 30\n";
+
+/// The tasks with their engines.
+const ITEM_JOBS: [&str; 4] = ["items plain", "items lists", "items project", "items kept"];
+
+const CLOSED_JOBS: [&str; 4] = [
+    "closed plain",
+    "closed lists",
+    "closed project",
+    "closed kept",
+];
+
+const SEQUENCE_JOBS: [&str; 2] = ["seq plain", "seq chain"];
+
+/// The words of a task with its engine, and the words after them.
+fn words_of(alloc: Global, job: &str, rest: &str) -> Result<Vec<String>, NoMemory> {
     let mut words = Vec::new(alloc);
-    for part in text.split_whitespace() {
-        let mut word = String::new(alloc);
-        word.push_str(if part == "ENGINE" { engine } else { part })?;
-        words.push(word)?;
+    for text in [job, rest] {
+        for part in text.split_whitespace() {
+            let mut word = String::new(alloc);
+            word.push_str(part)?;
+            words.push(word)?;
+        }
     }
     Ok(words)
 }
@@ -113,16 +131,16 @@ fn ends(
     Ok(())
 }
 
-/// Asserts that runs of these words end with a status, and with these texts on the two sinks.
+/// Asserts that runs of a job end with a status, and with these texts on the two sinks.
 fn each_ends(
     rt: &impl Abort,
     alloc: Global,
-    engine: &str,
+    job: &str,
     status: u8,
     cases: &[(&str, &str, &str)],
 ) -> Result<(), Fail> {
-    for (text, written, told) in cases {
-        let words = words_of(alloc, engine, *text)?;
+    for (rest, written, told) in cases {
+        let words = words_of(alloc, job, *rest)?;
         let mut files = files(alloc)?;
         ends(rt, alloc, &words, &mut files, (status, *written, *told))?;
     }
