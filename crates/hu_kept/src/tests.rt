@@ -86,6 +86,11 @@ fn appends(
 ) -> Result<(), Fail> {
     let batch = batch_after(rt, alloc, 0, records)?;
     assert_eq!(rt; kept.append(batch), Ok(changes));
+    has(rt, alloc, kept, text)
+}
+
+/// Compares which entries there are.
+fn has(rt: &impl Abort, alloc: Global, kept: &Kept, text: &str) -> Result<(), Fail> {
     let entries = kept.entries(alloc)?;
     assert_eq!(rt; told(alloc, &entries)?.as_str(), text);
     Ok(())
@@ -217,9 +222,12 @@ fn sum_too_large(rt: HostRuntime) -> Result<(), Fail> {
         too_much,
         Err(AppendFault::SumTooLarge { before, added: 10 })
     );
+    let as_before = "2 #UTIL: 170141183460469231731687303715884105718 #SUP: 1\n";
+    has(&rt, rt.alloc(), &kept, as_before)?;
     let just_enough = kept.append(batch_after(&rt, rt.alloc(), 70, &[&[(2, 4), (3, -5)]])?);
     assert_eq!(rt; just_enough, Ok(counts(0, 1, 0)));
-    Ok(())
+    let more = "2 #UTIL: 170141183460469231731687303715884105722 #SUP: 2\n";
+    has(&rt, rt.alloc(), &kept, more)
 }
 
 /// A gate that lets every pair join, and counts how often it is asked.
