@@ -7,5 +7,5 @@ pub mod View
 pub mod Passes
 pub mod Level
 pub mod Board
-pub mod Rows
+pub mod Worked
 pub mod Lengths

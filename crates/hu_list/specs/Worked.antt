@@ -1,5 +1,5 @@
 -- Worked rows: lists of base A with the ranks of floor 30, by computation.
-use Rattle.std.specs.Prelude.{◌≡◌, ℕ, pos, List, [], ◌∷◌, refl}
+use Rattle.std.specs.Prelude.{◌≡◌, ℕ, ℤ, pos, negsuc, List, [], ◌∷◌, refl}
 use Rattle.hu_kind.specs.Worked.{base_a}
 use Rattle.hu_totals.specs.Ranked.{ranked}
 use Rattle.hu_list.specs.declared.list.Node.{Node}
@@ -53,3 +53,17 @@ sum_of_4_2_5 = refl
 
 pub bound_of_4_2_5 : bound_of (base_a_list (2 ∷ 3 ∷ 5 ∷ [])) ≡ pos 40
 bound_of_4_2_5 = refl
+
+-- an item that costs 10 in one record and earns 4 in another: in each record the bound is at least 0
+abbrev pub signed : List (List (ℕ × ℤ))
+signed =
+    ((1, negsuc 9) ∷ (2, pos 3) ∷ [])
+    ∷ ((1, pos 4) ∷ (2, pos 1) ∷ (3, pos 6) ∷ [])
+    ∷ ((2, pos 2) ∷ (3, pos 3) ∷ [])
+    ∷ []
+
+pub signed_sum_of_1 : own_sum (list_of (ranked (pos 10) signed).records (0 ∷ [])) ≡ negsuc 5
+signed_sum_of_1 = refl
+
+pub signed_bound_of_1 : bound_of (list_of (ranked (pos 10) signed).records (0 ∷ [])) ≡ pos 11
+signed_bound_of_1 = refl
