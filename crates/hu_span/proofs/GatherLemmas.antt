@@ -1,184 +1,189 @@
--- Gathering marks: what is left to mark, which cells a place tells, and that a pattern grows just by what was gathered.
-use Rattle.std.proofs.Common.{◌≡◌, ℕ, zero, suc, ◌<◌, ◌≤◌, ◌+◌, ◌-◌, ◌||◌, Bool, true, false, cond, eqb, ℤ, is_some, List, [], ◌∷◌, ◌++◌, map, length, get_or, take, drop, flat_map, refl, sym, ap, ◌∙◌, subst, arith, append_assoc, append-nil, add-one}
-use Rattle.std.specs.List.{list_any, AllByRecursion}
-use Rattle.std.specs.List.Sorted.{IsStrictlySortedBy}
-use Rattle.std.proofs.lemmas.List.{take_rest, length-map, drop_all}
-use Rattle.std.proofs.lemmas.Bool.{eqb-true}
-use Rattle.hu_kind.specs.declared.item.Cell.{Cell}
-use Rattle.hu_kind.specs.Cell.{pairs_of}
+-- The marks of an item among those that are gathered are the places of the grown pattern.
+use Rattle.std.proofs.Common.{◌≡◌, Some, ℕ, zero, suc, ◌+◌, ◌<◌, Bool, true, false, cond, eqb, ℤ, pos, ◌+ℤ◌, ◌-ℤ◌, ◌≤ℤ◌, ◌<ℤ◌, Option, option_to_list, List, []}
+use Rattle.std.proofs.Common.{◌∷◌, ◌++◌, map, length, drop, refl, sym, ap, ◌∙◌, subst, arith}
+use Rattle.std.specs.List.{flat_map, AllByRecursion}
+use Rattle.std.proofs.lemmas.Int.{ints}
+use Rattle.std.proofs.lemmas.Bool.{eqb-true, ne_eqb}
+use Rattle.std.proofs.lemmas.List.{map-append}
 use Rattle.hu_kind.specs.Order.{Ascend}
-use Rattle.hu_kind.specs.Record.{has, items_in, IsItemset}
-use Rattle.hu_kind.specs.Sequence.{best_utility, IsSequence}
-use Rattle.hu_kind.proofs.lemmas.Members.{Member, Member-from_flat_map}
-use Rattle.hu_kind.proofs.lemmas.Occurring.{at_member}
-use Rattle.hu_kind.proofs.lemmas.RecordLemmas.{list_any-map}
-use Rattle.hu_span.proofs.Subsequences.{each-weaker}
-use Rattle.hu_collect.specs.Laws.{SameMembers}
+use Rattle.hu_kind.specs.Record.{has, items_in, total, IsItemset}
+use Rattle.hu_kind.proofs.lemmas.Each.{each-weaker, each-append}
+use Rattle.hu_kind.proofs.lemmas.Occurring.{at_member, has-member}
 use Rattle.hu_chain.specs.declared.chain.Growth.{Growth}
 use Rattle.hu_chain.specs.declared.chain.Growth.TheVariants.{IntoLast, AfterLast}
 use Rattle.hu_chain.specs.declared.place.Place.{Place}
-use Rattle.hu_chain.specs.Pattern.{last_item}
-use Rattle.hu_chain.specs.Grown.{grown, CanGrow}
-use Rattle.hu_chain.specs.Place.{cell_of, chain_of, element_at}
 use Rattle.hu_chain.specs.Bound.{KeepsRules}
-use Rattle.hu_chain.specs.Search.{follows, IsPlaceOf, IsPlain}
+use Rattle.hu_chain.specs.Grown.{grown, CanGrow}
+use Rattle.hu_chain.specs.Pattern.{last_item}
+use Rattle.hu_chain.specs.Place.{cell_of, chain_of, element_at, totals}
+use Rattle.hu_chain.specs.Search.{best_past, found, found_at, followed_places, joined_places, left_past, walked, IsPlaceOf, IsPlain}
 use Rattle.hu_chain.proofs.lemmas.Bounds.{plain-rules}
-use Rattle.hu_chain.proofs.lemmas.Cells.{cell_of-within, pairs-drop}
-use Rattle.hu_chain.proofs.lemmas.Growing.{chain_of-rules, occurs-after, occurs-into_after}
+use Rattle.hu_chain.proofs.lemmas.Cells.{each-drop, Ascend-drop}
+use Rattle.hu_chain.proofs.lemmas.Gathered.{chain_of-grown, grown_places}
+use Rattle.hu_chain.proofs.lemmas.Growing.{chain_of-rules, chain_of-start}
+use Rattle.hu_chain.proofs.lemmas.Patterns.{Ends-can_grow}
 use Rattle.hu_span.specs.declared.mark.Mark.{Mark}
-use Rattle.hu_span.specs.declared.row.Row.{Row}
-use Rattle.hu_span.specs.Mark.{mark_cmp, mark_of, marks_from, numbers_where, rows_with}
-use Rattle.hu_span.specs.Row.{IsReached, IsRow}
-use Rattle.hu_span.specs.Gather.{all_items, items_beside, items_later, row_items, AreMarks, IsCellOf}
-use Rattle.hu_span.proofs.RowLemmas.{Ends-reached}
-use Rattle.hu_span.proofs.MarkLemmas.{is_among, rows_with-numbers}
+use Rattle.hu_span.specs.Gather.{beside_marks, cells_after, later_marks, row_marks, tail_marks, walk_marks}
+use Rattle.hu_span.specs.Growing.{Records}
+use Rattle.hu_span.specs.Mark.{is_of, mark_at, marks_from, marks_with}
+use Rattle.hu_span.proofs.MarkLemmas.{filter-append}
 
--- ---- one more thing
+module _ (item row : ℕ) where
+  -- the marks of the item
+  abbrev marks_at : List Place → List Mark
+  marks_at places = map (mark_at row item) places
 
-pub marks-next : {A : Type 0} (items : A → List ℕ) (xs : List A) (k : ℕ) (x : A) (made next whole : List Mark) → k < length xs → x ≡ get_or xs k x → made ++ marks_from items k (drop k xs) ≡ whole → next ≡ made ++ map (mark_of k) (items x)
-    → next ++ marks_from items (k + 1) (drop (k + 1) xs) ≡ whole
-marks-next items xs k x made next whole within is so_far more =
-    let part = map (mark_of k) (items x) in
-    let rest = marks_from items (suc k) (drop (suc k) xs) in
-    let split : marks_from items k (drop k xs) ≡ part ++ rest = ap (marks_from items k) (drop-at xs k x within is) in
-    rw add-one (ap (λ ms. ms ++ rest) more ∙ append_assoc made part rest ∙ sym (ap (λ ms. made ++ ms) split) ∙ so_far)
+  -- ---- in an element
+
+  tail-none : (e c : ℕ) (best ahead : ℤ) (cells : List (ℕ × ℤ)) → AllByRecursion (λ x. item < x) (items_in cells)
+      → marks_with item (tail_marks row e c best ahead cells) ≡ []
+  tail-none e c best ahead [] above = refl
+  tail-none e c best ahead (cell ∷ cells) above =
+      let first : item < cell.0 = above.0 in
+      let other : eqb item cell.0 ≡ false = ne_eqb item cell.0 (λ same. absurd (omega (arith, first, same))) in
+      rw other (tail-none e (suc c) (best) (ahead -ℤ cell.1) cells above.1)
+
+  pub tail-found : (e c : ℕ) (best ahead later : ℤ) (cells : List (ℕ × ℤ)) → Ascend (items_in cells) → ahead ≡ total cells +ℤ later
+      → marks_with item (tail_marks row e c best ahead cells) ≡ marks_at (option_to_list (found e c item best later cells))
+  tail-found e c best ahead later [] up is = refl
+  tail-found e c best ahead later (cell ∷ cells) up is = by (eqb item cell.0) refl (tail-found e (suc c) best (ahead -ℤ cell.1) later cells up.1 left)
+    where
+      left : (ahead -ℤ cell.1) ≡ total cells +ℤ later
+      left = omega (arith, ints, is)
+
+      place : ℤ → Place
+      place rest = record { element = e; cell = c; best = best +ℤ cell.1; rest = rest }
+
+      by : (b : Bool) → eqb item cell.0 ≡ b
+          → marks_with item (tail_marks row e (suc c) best (ahead -ℤ cell.1) cells) ≡ marks_at (option_to_list (found e (suc c) item best later cells))
+          → cond b (mark_at row cell.0 (record { element = e; cell = c; best = best +ℤ cell.1; rest = ahead -ℤ cell.1 })
+          ∷ marks_with item (tail_marks row e (suc c) best (ahead -ℤ cell.1) cells))
+          (marks_with item (tail_marks row e (suc c) best (ahead -ℤ cell.1) cells))
+          ≡ marks_at (option_to_list (cond b (Some (record { element = e; cell = c; best = best +ℤ cell.1; rest = total cells +ℤ later }))
+          (found e (suc c) item best later cells)))
+      by true same rest =
+          let here : item ≡ cell.0 = eqb-true item cell.0 same in
+          let none = tail-none e (suc c) best (ahead -ℤ cell.1) cells (subst (λ i. AllByRecursion (λ x. i < x) (items_in cells)) (sym here) up.0) in
+          (λ j. mark_at row (sym here j) (place (left j)) ∷ none j)
+      by false other rest = rest
+
+  -- what stands up to a smaller item is passed over
+  found-skip : (e c last : ℕ) (best later : ℤ) (cells : List (ℕ × ℤ)) → Ascend (items_in cells) → has last cells ≡ true → last < item
+      → found e c item best later cells ≡ found e (c + suc (cell_of last cells)) item best later (drop (suc (cell_of last cells)) cells)
+  found-skip e c last best later [] up h below = cc
+  found-skip e c last best later (cell ∷ cells) up h below = by (eqb last cell.0) refl (found-skip e (suc c) last best later cells up.1)
+    where
+      by : (b : Bool) → eqb last cell.0 ≡ b
+          → (has last cells ≡ true → last < item
+          → found e (suc c) item best later cells ≡ found e (suc c + suc (cell_of last cells)) item best later (drop (suc (cell_of last cells)) cells))
+          → found e c item best later (cell ∷ cells)
+          ≡ found e (c + suc (cell_of last (cell ∷ cells))) item best later (drop (suc (cell_of last (cell ∷ cells))) (cell ∷ cells))
+      by true same ih =
+          let here : last ≡ cell.0 = eqb-true last cell.0 same in
+          let other : eqb item cell.0 ≡ false = ne_eqb item cell.0 (λ x. absurd (omega (arith, here, below, x))) in
+          let next : suc c ≡ c + 1 = omega arith in
+          simp (same, other) (ap (λ n. found e n item best later cells) next)
+      by false same ih =
+          let more : has last cells ≡ true = simp same at h in
+          let before : cell.0 < last = at_member (λ x. cell.0 < x) last (items_in cells) up.0 (has-member last cells more) in
+          let other : eqb item cell.0 ≡ false = ne_eqb item cell.0 (λ x. absurd (omega (arith, before, below, x))) in
+          let next : suc c + suc (cell_of last cells) ≡ c + suc (suc (cell_of last cells)) = omega arith in
+          simp (same, other) (ih more below ∙ ap (λ n. found e n item best later (drop (suc (cell_of last cells)) cells)) next)
+
+  module _ (elements : List (List (ℕ × ℤ))) (last : ℕ) (plain : AllByRecursion IsPlain elements) where
+    plain-at : (es : List (List (ℕ × ℤ))) (e : ℕ) → AllByRecursion IsPlain es → Ascend (items_in (element_at es e))
+    plain-at [] e all = tt
+    plain-at (cells ∷ es) zero all = let first = all.0 in first.ascending
+    plain-at (cells ∷ es) (suc e) all = plain-at es e all.1
+
+    -- ---- beside places
+
+    beside-found : (place : Place) → IsPlaceOf elements last place → last < item
+        → marks_with item (beside_marks elements row place) ≡ marks_at (option_to_list (found_at elements item place.element place.best))
+    beside-found place is below =
+        let e = place.element in
+        let cells = element_at elements e in
+        let up = plain-at elements e plain in
+        let later = totals (drop (suc e) elements) in
+        let skip = found-skip e 0 last place.best later cells up is.has below in
+        let none : 0 + suc (cell_of last cells) ≡ suc (cell_of last cells) = omega arith in
+        let seen : found e 0 item place.best later cells ≡ found e (suc place.cell) item place.best later (drop (suc place.cell) cells) =
+        skip ∙ ap (λ n. found e n item place.best later (drop (suc (cell_of last cells)) cells)) none ∙ ap
+        (λ k. found e (suc k) item place.best later (drop (suc k) cells)) (sym is.cell) in
+        tail-found e (suc place.cell) place.best place.rest later (cells_after elements place) (Ascend-drop (suc place.cell) cells up) is.rest
+        ∙ ap (λ f. marks_at (option_to_list f)) (sym seen)
+
+    joined-found : (places : List Place) → AllByRecursion (IsPlaceOf elements last) places → last < item
+        → marks_with item (flat_map (beside_marks elements row) places) ≡ marks_at (joined_places elements item places)
+    joined-found [] is below = refl
+    joined-found (place ∷ places) is below =
+        let f = option_to_list (found_at elements item place.element place.best) in
+        filter-append (is_of item) (beside_marks elements row place) (flat_map (beside_marks elements row) places)
+        ∙ (λ j. beside-found place is.0 below j ++ joined-found places is.1 below j)
+        ∙ sym (map-append (mark_at row item) f (joined_places elements item places))
+
+    -- ---- in later elements
+
+    walk-found : (e : ℕ) (best ahead : ℤ) (places : List Place) (later : List (List (ℕ × ℤ))) → AllByRecursion IsPlain later → ahead ≡ totals later
+        → marks_with item (walk_marks row e best ahead places later) ≡ marks_at (walked item e best places later)
+    walk-found e best ahead places [] all is = refl
+    walk-found e best ahead places (cells ∷ later) all is =
+        let first = all.0 in
+        let left : (ahead -ℤ total cells) ≡ totals later = omega (arith, ints, is) in
+        let best' = best_past e best places in
+        let places' = left_past e places in
+        let f = option_to_list (found e 0 item best (totals later) cells) in
+        filter-append (is_of item) (tail_marks row e 0 best ahead cells) (walk_marks row (suc e) best' (ahead -ℤ total cells) places' later)
+        ∙ (λ j. tail-found e 0 best ahead (totals later) cells first.ascending is j ++ walk-found (suc e) best'
+        (ahead -ℤ total cells) places' later all.1 left j)
+        ∙ sym (map-append (mark_at row item) f (walked item (suc e) best' places' later))
+
+    followed-found : (places : List Place) → AllByRecursion (IsPlaceOf elements last) places
+        → marks_with item (later_marks elements row places) ≡ marks_at (followed_places elements item places)
+    followed-found [] is = refl
+    followed-found (place ∷ places) is =
+        let first = is.0 in
+        let rest = first.rest in
+        let left : (place.rest -ℤ total (cells_after elements place)) ≡ totals (drop (suc place.element) elements) = omega (arith, ints, rest) in
+        walk-found (suc place.element) place.best (place.rest -ℤ total (cells_after elements place)) places (drop (suc place.element) elements)
+        (each-drop IsPlain (suc place.element) elements plain) left
+
+-- ---- in all records
+
+-- the marks by a kind of growth in records, of which the first has a number
+abbrev pub grown_from : Growth → List (List ℕ) → ℕ → Records → List Mark
+grown_from growth pattern row [] = []
+grown_from growth pattern row (r ∷ rs) = row_marks growth r row (chain_of pattern r) ++ grown_from growth pattern (suc row) rs
+
+row-found : (growth : Growth) (pattern : List (List ℕ)) (item row : ℕ) (r : List (List (ℕ × ℤ))) → KeepsRules r → CanGrow growth pattern item
+    → marks_with item (row_marks growth r row (chain_of pattern r)) ≡ map (mark_at row item) (chain_of (grown growth pattern item) r)
+row-found IntoLast pattern item row r rules can =
+    let is = chain_of-rules pattern r (Ends-can_grow IntoLast pattern item can) in
+    joined-found item row r (last_item pattern) (plain-rules r rules) (chain_of pattern r) is can.below
+    ∙ ap (map (mark_at row item)) (sym (chain_of-grown IntoLast pattern item r can))
+row-found AfterLast pattern item row r rules can =
+    let is = chain_of-rules pattern r can in
+    followed-found item row r (last_item pattern) (plain-rules r rules) (chain_of pattern r) is
+    ∙ ap (map (mark_at row item)) (sym (chain_of-grown AfterLast pattern item r can))
+
+pub grown-found : (growth : Growth) (pattern : List (List ℕ)) (item row : ℕ) (rs : Records) → AllByRecursion KeepsRules rs → CanGrow growth pattern item
+    → marks_with item (grown_from growth pattern row rs) ≡ marks_from (grown growth pattern item) item row rs
+grown-found growth pattern item row [] rules can = refl
+grown-found growth pattern item row (r ∷ rs) rules can =
+    filter-append (is_of item) (row_marks growth r row (chain_of pattern r)) (grown_from growth pattern (suc row) rs)
+    ∙ (λ j. row-found growth pattern item row r rules.0 can j ++ grown-found growth pattern item (suc row) rs rules.1 can j)
+
+-- the marks of all cells of records
+abbrev pub first_from : ℕ → Records → List Mark
+first_from row [] = []
+first_from row (r ∷ rs) = walk_marks row 0 (pos 0) (totals r) [] r ++ first_from (suc row) rs
+
+pub first-found : (item row : ℕ) (rs : Records) → AllByRecursion KeepsRules rs → marks_with item (first_from row rs) ≡ marks_from ((item ∷ []) ∷ []) item row rs
+first-found item row [] rules = refl
+first-found item row (r ∷ rs) rules =
+    filter-append (is_of item) (walk_marks row 0 (pos 0) (totals r) [] r) (first_from (suc row) rs)
+    ∙ (λ j. here j ++ first-found item (suc row) rs rules.1 j)
   where
-    drop-at : {A : Type 0} (ys : List A) (j : ℕ) (y : A) → j < length ys → y ≡ get_or ys j y → drop j ys ≡ y ∷ drop (suc j) ys
-    drop-at [] j y inside same = absurd (omega arith)
-    drop-at (z ∷ ys) zero y inside same = ap (λ w. w ∷ ys) (sym same)
-    drop-at (z ∷ ys) (suc j) y inside same = drop-at ys j y (omega arith) same
-
-pub each-next : {A : Type 0} (P : A → Type 0) (xs : List A) (k : ℕ) (x : A) → k < length xs → x ≡ get_or xs k x → AllByRecursion P (take k xs) → P x → AllByRecursion P (take (k + 1) xs)
-each-next P [] k x within is all here = absurd (omega arith)
-each-next P (y ∷ xs) zero x within is all here = (subst P is here, tt)
-each-next P (y ∷ xs) (suc k) x within is all here = rw add-one (all.0, let ih = each-next P xs k x (omega arith) is all.1 here in rw add-one at ih)
-
--- what holds of each element holds of one
-pub each-at : {A : Type 0} (P : A → Type 0) (xs : List A) (k : ℕ) (d : A) → AllByRecursion P xs → k < length xs → P (get_or xs k d)
-each-at P [] k d all within = absurd (omega arith)
-each-at P (x ∷ xs) zero d all within = all.0
-each-at P (x ∷ xs) (suc k) d all within = each-at P xs k d all.1 (omega arith)
-
--- ---- the cells after a place
-
-element_at-any : (elements : List (List (ℕ × ℤ))) (e : ℕ) (d : List (ℕ × ℤ)) → e < length elements → element_at elements e ≡ get_or elements e d
-element_at-any [] e d within = absurd (omega arith)
-element_at-any (cells ∷ elements) zero d within = refl
-element_at-any (cells ∷ elements) (suc e) d within = element_at-any elements e d (omega arith)
-
-pub cells-after : (elements : List (List (ℕ × ℤ))) (place : Place) (element : List (ℕ × ℤ)) (cells : List Cell) → IsCellOf elements place → element ≡ get_or elements place.element element → pairs_of cells ≡ element
-    → pairs_of (take (length cells - (place.cell + 1)) (drop (place.cell + 1) cells)) ≡ drop (place.cell + 1) (element_at elements place.element)
-cells-after elements place element cells is at same =
-    let n = place.cell + 1 in
-    ap pairs_of (take_rest cells n) ∙ pairs-drop n cells ∙ ap (λ cs. drop n cs) (same ∙ at ∙ sym (element_at-any elements place.element element is.0))
-
-pub cells-few : (elements : List (List (ℕ × ℤ))) (place : Place) (element : List (ℕ × ℤ)) (cells : List Cell) → IsCellOf elements place → element ≡ get_or elements place.element element → pairs_of cells ≡ element → place.cell + 1 ≤ length cells
-cells-few elements place element cells is at same =
-    let here = element_at-any elements place.element element is.0 in
-    omega (arith, is.1, ap length (here ∙ sym at ∙ sym same), length-map cells pair)
-  where
-    pair : Cell → ℕ × ℤ
-    pair cell = (cell.item.0, cell.value)
-
-element-within : (elements : List (List (ℕ × ℤ))) (e item : ℕ) → has item (element_at elements e) ≡ true → e < length elements
-element-within [] e item h = cc
-element-within (cells ∷ elements) zero item h = omega arith
-element-within (cells ∷ elements) (suc e) item h = let ih = element-within elements e item h in omega arith
-
--- the places of a row are those of cells
-pub row-cells : (pattern : List (List ℕ)) (row : Row) → IsReached pattern → IsRow pattern row → AllByRecursion (IsCellOf row.seq.now) row.chain
-row-cells pattern row reached is =
-    subst (AllByRecursion (IsCellOf row.seq.now)) (sym is.chain)
-    (each-weaker (IsPlaceOf row.seq.now (last_item pattern)) (IsCellOf row.seq.now) (chain_of pattern row.seq.now)
-    (λ place at. (
-      element-within row.seq.now place.element (last_item pattern) at.has,
-      omega (arith, at.cell, cell_of-within (last_item pattern) (element_at row.seq.now place.element) at.has),
-    ))
-    (chain_of-rules pattern row.seq.now (Ends-reached pattern reached)))
-
--- ---- the rules of records
-
-pub KeepsRules-from : (elements : List (List (ℕ × ℤ))) → IsSequence elements → AllByRecursion IsItemset elements → KeepsRules elements
-KeepsRules-from elements sequence itemsets = record { sequence = sequence; itemsets = itemsets }
-
--- ---- what a pattern grows by
-
-among-append : (item : ℕ) (xs ys : List ℕ) → is_among item (xs ++ ys) ≡ (is_among item xs || is_among item ys)
-among-append item [] ys = refl
-among-append item (x ∷ xs) ys = by (eqb item x) (among-append item xs ys)
-  where
-    by : (b : Bool) → is_among item (xs ++ ys) ≡ (is_among item xs || is_among item ys) → (b || is_among item (xs ++ ys)) ≡ ((b || is_among item xs) || is_among item ys)
-    by true rest = refl
-    by false rest = rest
-
-among-flat : {A : Type 0} (item : ℕ) (f : A → List ℕ) (xs : List A) → is_among item (flat_map f xs) ≡ list_any (λ x. is_among item (f x)) xs
-among-flat item f [] = refl
-among-flat item f (x ∷ xs) = among-append item (f x) (flat_map f xs) ∙ ap (λ b. is_among item (f x) || b) (among-flat item f xs)
-
-among-items : (item : ℕ) (cells : List (ℕ × ℤ)) → is_among item (items_in cells) ≡ has item cells
-among-items item cells = list_any-map (λ other. eqb item other) (λ (cell : ℕ × ℤ). cell.0) cells
-
-any-same : {A : Type 0} (p q : A → Bool) (xs : List A) → ((x : A) → p x ≡ q x) → list_any p xs ≡ list_any q xs
-any-same p q [] same = refl
-any-same p q (x ∷ xs) same = (λ j. same x j || any-same p q xs same j)
-
-among-beside : (item : ℕ) (elements : List (List (ℕ × ℤ))) (places : List Place)
-    → is_among item (flat_map (items_beside elements) places) ≡ list_any (λ place. has item (drop (suc place.cell) (element_at elements place.element))) places
-among-beside item elements places =
-    among-flat item (items_beside elements) places
-    ∙ any-same (λ place. is_among item (items_beside elements place)) (λ (place : Place). has item (drop (suc place.cell) (element_at elements place.element))) places
-    (λ place. among-items item (drop (suc place.cell) (element_at elements place.element)))
-
-pub among-all : (item : ℕ) (elements : List (List (ℕ × ℤ))) → is_among item (all_items elements) ≡ list_any (has item) elements
-among-all item elements = among-flat item items_in elements ∙ any-same (λ cells. is_among item (items_in cells)) (has item) elements (among-items item)
-
-among-later : (item : ℕ) (elements : List (List (ℕ × ℤ))) (places : List Place) → is_among item (items_later elements places) ≡ follows item elements places
-among-later item elements [] = refl
-among-later item elements (place ∷ places) = among-all item (drop (suc place.element) elements)
-
--- an item was gathered where the pattern that it makes occurs
-pub gathered-occurs : (growth : Growth) (pattern : List (List ℕ)) (item : ℕ) (row : Row) → IsReached pattern → IsRow pattern row → CanGrow growth pattern item
-    → is_among item (row_items growth row) ≡ is_some (best_utility (grown growth pattern item) row.seq.now)
-gathered-occurs IntoLast pattern item row reached is can =
-    among-beside item row.seq.now row.chain
-    ∙ ap (λ places. list_any (λ place. has item (drop (suc place.cell) (element_at row.seq.now place.element))) places) is.chain
-    ∙ sym (occurs-into_after pattern item row.seq.now can (plain-rules row.seq.now is.rules))
-gathered-occurs AfterLast pattern item row reached is can =
-    among-later item row.seq.now row.chain
-    ∙ ap (follows item row.seq.now) is.chain
-    ∙ sym (occurs-after pattern item row.seq.now can)
-
--- and the pattern can grow by it
-above-after : (last item : ℕ) (cells : List (ℕ × ℤ)) → Ascend (items_in cells) → has last cells ≡ true → Member item (items_in (drop (suc (cell_of last cells)) cells)) → last < item
-above-after last item [] up h m = absurd m
-above-after last item (cell ∷ cells) up h m = by (eqb last cell.0) refl h m (above-after last item cells up.1)
-  where
-    by : (b : Bool) → eqb last cell.0 ≡ b → (b || has last cells) ≡ true → Member item (items_in (drop (suc (cond b 0 (suc (cell_of last cells)))) (cell ∷ cells)))
-        → (has last cells ≡ true → Member item (items_in (drop (suc (cell_of last cells)) cells)) → last < item) → last < item
-    by true e i k later = let above = at_member (λ z. cell.0 < z) item (items_in cells) up.0 k in omega (arith, eqb-true last cell.0 e, above)
-    by false e i k later = later i k
-
-pub gathered-grows : (growth : Growth) (pattern : List (List ℕ)) (item : ℕ) (row : Row) → IsReached pattern → IsRow pattern row → Member item (row_items growth row) → CanGrow growth pattern item
-gathered-grows AfterLast pattern item row reached is m = Ends-reached pattern reached
-gathered-grows IntoLast pattern item row reached is m =
-    let elements = row.seq.now in
-    let last = last_item pattern in
-    let m' = subst (λ places. Member item (flat_map (items_beside elements) places)) is.chain m in
-    let found = Member-from_flat_map (items_beside elements) item (chain_of pattern elements) m' in
-    let place = found.0 in
-    let at = at_member (IsPlaceOf elements last) place (chain_of pattern elements) (chain_of-rules pattern elements (Ends-reached pattern reached)) found.1 in
-    let plain = each-at IsPlain elements place.element [] (plain-rules elements is.rules) (element-within elements place.element last at.has) in
-    let here = subst (λ n. Member item (items_in (drop (suc n) (element_at elements place.element)))) at.cell found.2 in
-    record { ends = Ends-reached pattern reached; below = above-after last item (element_at elements place.element) plain.ascending at.has here }
-
--- ---- all marks
-
-pub AreMarks-from : {A : Type 0} (items : A → List ℕ) (xs : List A) (k : ℕ) (made kept : List Mark) → length xs ≤ k → made ++ marks_from items k (drop k xs) ≡ marks_from items 0 xs → IsStrictlySortedBy mark_cmp kept → SameMembers made kept → AreMarks items xs kept
-AreMarks-from items xs k made kept end so_far sorted same =
-    let none : marks_from items k (drop k xs) ≡ [] = ap (marks_from items k) (drop_all k xs end) in
-    let whole : made ≡ marks_from items 0 xs = sym (append-nil made) ∙ sym (ap (λ ms. made ++ ms) none) ∙ so_far in
-    record { sorted = sorted; same = subst (λ ms. SameMembers ms kept) whole same }
-
--- the rows of an item's marks are those in which it was gathered
-pub AreMarks-numbers : {A : Type 0} (items : A → List ℕ) (item : ℕ) (xs : List A) (marks : List Mark) → AreMarks items xs marks → rows_with item marks ≡ numbers_where (λ x. is_among item (items x)) 0 xs
-AreMarks-numbers items item xs marks are = rows_with-numbers items item xs (marks_from items 0 xs) marks refl are.same are.sorted
+    here : marks_with item (walk_marks row 0 (pos 0) (totals r) [] r) ≡ map (mark_at row item) (chain_of ((item ∷ []) ∷ []) r)
+    here = walk-found item row r 0 (plain-rules r rules.0) 0 (pos 0) (totals r) [] r (plain-rules r rules.0) refl ∙ ap (map (mark_at row item))
+        (sym (chain_of-start item r))

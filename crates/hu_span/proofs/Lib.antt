@@ -1,12 +1,11 @@
 pub mod Subsequences
 mod StepLemmas
-mod RowLemmas
 mod MarkLemmas
 mod GatherLemmas
-mod CandidateLemmas
-mod Parted
-mod Turns
-mod SearchLemmas
+mod NumberLemmas
+mod TallyLemmas
 mod ReachLemmas
-mod TurnLemmas
-mod ItemTurns
+mod SearchLemmas
+mod ChildLemmas
+mod WalkLemmas
+mod RowsLemmas

@@ -1,292 +1,321 @@
--- What one turn of a search makes: a pattern is offered, and then what grows from it.
-use Rattle.std.proofs.Common.{◌≡◌, ℕ, zero, suc, ◌<◌, ◌≤◌, ◌+◌, cond, ℤ, pos, ◌+ℤ◌, ◌≤ℤ◌, ◌<ℤ◌, Option, None, Some, is_some, unwrap_or, List, [], ◌∷◌, filter, length, get_or, take, refl, sym, ap, ◌∙◌, subst, ◌⊎◌, inl, inr, arith, Contains}
+-- What a search makes that offers all children of a pattern and then enters them best bound first.
+use Rattle.std.proofs.Common.{◌≡◌, ℕ, zero, suc, ◌<◌, ◌≤◌, ◌+◌, true, ℤ, ◌<ℤ◌, ◌≤ℤ◌, List, [], ◌∷◌, ◌++◌, length, get_or, take, drop, refl, sym, ap, ◌∙◌, subst}
+use Rattle.std.proofs.Common.{inl, inr, ◌⊎◌, arith, Contains, Result, Ok, Err, IsErr, IfOk}
 use Rattle.std.specs.List.{AllByRecursion}
+use Rattle.std.proofs.lemmas.Bool.{false≢true}
 use Rattle.std.proofs.lemmas.Int.{ints}
-use Rattle.std.proofs.lemmas.List.{take_all}
-use Rattle.std.proofs.lemmas.List.Sums.{sum_by-cons}
+use Rattle.std.proofs.lemmas.List.{take_more}
+use Rattle.std.proofs.lemmas.List.Elements.{Contains-append_left, Contains-push, Contains-push_cases}
 use Rattle.hu_kind.specs.declared.entry.Entry.{Entry}
-use Rattle.hu_kind.specs.Sequence.{best_utility, sequence_entry, sequence_key, sequence_support, sequence_utility}
-use Rattle.hu_kind.proofs.lemmas.Members.{Member, Contains-from_member, Member-from_contains}
+use Rattle.hu_kind.specs.Sequence.{sequence_entry, sequence_support}
+use Rattle.hu_kind.proofs.lemmas.Each.{each-get}
+use Rattle.hu_kind.proofs.lemmas.Members.{Member, Member-from_contains, Contains-from_member}
 use Rattle.hu_kind.proofs.lemmas.Occurring.{at_member}
-use Rattle.hu_collect.specs.Rule.{Rule, made, floor_of, IsKept}
-use Rattle.hu_collect.specs.Laws.{MakesInTurn, KeepsFloor}
+use Rattle.hu_collect.specs.Rule.{passes}
+use Rattle.hu_collect.specs.State.{State, offered, floor_in, IsInOrder, Reached, ReachedSome}
+use Rattle.hu_collect.proofs.lemmas.Searching.{empty-contains, reached-rule, reached-in_order, reached-floor, reached-none, reached-one, reached-then}
+use Rattle.hu_collect.proofs.lemmas.Searching.{reached-as, some-reached, some-as, some-then}
 use Rattle.hu_chain.specs.declared.chain.Growth.{Growth}
-use Rattle.hu_chain.specs.declared.chain.Growth.TheVariants.{IntoLast, AfterLast}
-use Rattle.hu_chain.specs.Pattern.{Ends}
-use Rattle.hu_chain.specs.Grown.{grown, CanGrow, IsGrownFrom, Leads}
-use Rattle.hu_chain.specs.Bound.{KeepsRules}
-use Rattle.hu_chain.proofs.lemmas.Bounds.{grown-first, grown_from-none}
+use Rattle.hu_chain.specs.Grown.{grown, CanGrow, Leads, IsGrownFrom}
+use Rattle.hu_chain.proofs.lemmas.Bounds.{grown-first}
+use Rattle.hu_chain.proofs.lemmas.Patterns.{Ends-grown}
 use Rattle.hu_chain.proofs.lemmas.Reached.{grown_from-itself}
-use Rattle.hu_span.specs.declared.candidate.Candidate.{Candidate}
-use Rattle.hu_span.specs.declared.row.Row.{Row}
-use Rattle.hu_span.specs.Candidate.{bounds_at, stepped, AreCandidates, IsCandidate}
-use Rattle.hu_span.specs.Growing.{Grows, GrowsOn}
-use Rattle.hu_span.specs.Makes.{MakesReaching, MakesSomeOf}
-use Rattle.hu_span.specs.Row.{sequences_of, utility_of, IsLevel, IsRow}
-use Rattle.hu_span.proofs.CandidateLemmas.{utility-reduced}
-use Rattle.hu_span.proofs.Turns.{kept-made, MakesReaching-as, MakesReaching-none, MakesReaching-then, MakesSomeOf-as, MakesSomeOf-then}
+use Rattle.hu_span.specs.declared.child.Child.{Child}
+use Rattle.hu_span.specs.Child.{child_entry, stepped, AreChildren, IsChild, Fall}
+use Rattle.hu_span.specs.Gather.{MayTake}
+use Rattle.hu_span.specs.Growing.{AreRecords, GrowsOn, IsBegun, Records}
+use Rattle.hu_span.specs.Search.{IsBelow, IsOneOf, IsOpened, IsSoFar, IsUpto, Opens}
+use Rattle.hu_span.specs.declared.step.Step.{Step}
+use Rattle.hu_span.specs.Step.{pattern_of}
+use Rattle.std.specs.declared.vec.Vec.{Vec}
+use Rattle.std.specs.declared.alloc.Global.{Global}
+use Rattle.hu_span.proofs.ReachLemmas.{can-reached, grown-reached, may-reached, support-before}
 
--- ---- the entry of a pattern
+-- ---- the first of some children
 
-pub utility-rows : (pattern : List (List ℕ)) (rows : List Row) → AllByRecursion (IsRow pattern) rows → utility_of rows ≡ sequence_utility (sequences_of rows) pattern
-utility-rows pattern [] all = refl
-utility-rows pattern (row ∷ rows) all = let is = all.0 in (λ j. is.utility j +ℤ utility-rows pattern rows all.1 j)
+contains-before : (children : List Child) (i : ℕ) (d child : Child) → i < length children → Contains (take i children) child
+    → Contains (take (i + 1) children) child
+contains-before children i d child within c =
+    subst (λ cs. Contains cs child) (sym (take_more children i d within)) (Contains-append_left (take i children) (get_or children i d ∷ []) child c)
 
-support-cons : (pattern : List (List ℕ)) (r : List (List (ℕ × ℤ))) (rs : List (List (List (ℕ × ℤ)))) → sequence_support (r ∷ rs) pattern ≡ cond (is_some (best_utility pattern r)) 1 0 + sequence_support rs pattern
-support-cons pattern r rs = sum_by-cons (λ s. cond (is_some (best_utility pattern s)) 1 0) r rs
+contains-here : (children : List Child) (i : ℕ) (d : Child) → i < length children → Contains (take (i + 1) children) (get_or children i d)
+contains-here children i d within =
+    subst (λ cs. Contains cs (get_or children i d)) (sym (take_more children i d within)) (Contains-push (take i children) (get_or children i d))
 
-pub support-rows : (pattern : List (List ℕ)) (rows : List Row) → AllByRecursion (IsRow pattern) rows → sequence_support (sequences_of rows) pattern ≡ length rows
-support-rows pattern [] all = refl
-support-rows pattern (row ∷ rows) all =
-    let is = all.0 in
-    let here : ◌≡◌ {A = ℕ} (cond (is_some (best_utility pattern row.seq.now)) 1 0) 1 = ap (λ b. cond b 1 0) is.occurs in
-    omega (arith, support-cons pattern row.seq.now (sequences_of rows), here, support-rows pattern rows all.1)
+contains-cases : (children : List Child) (i : ℕ) (d child : Child) → i < length children → Contains (take (i + 1) children) child
+    → Contains (take i children) child ⊎ (get_or children i d ≡ child)
+contains-cases children i d child within c =
+    Contains-push_cases (take i children) (get_or children i d) child (subst (λ cs. Contains cs child) (take_more children i d within) c)
 
-pub level-rules : (pattern : List (List ℕ)) (rows : List Row) → AllByRecursion (IsRow pattern) rows → AllByRecursion KeepsRules (sequences_of rows)
-level-rules pattern [] all = tt
-level-rules pattern (row ∷ rows) all = (let is = all.0 in is.rules, level-rules pattern rows all.1)
+Member-front : {A : Type 0} (x : A) (xs : List A) (i : ℕ) → Member x (take i xs) → Member x xs
+Member-front x xs zero m = absurd m
+Member-front x [] (suc i) m = absurd m
+Member-front x (y ∷ ys) (suc i) (inl e) = inl e
+Member-front x (y ∷ ys) (suc i) (inr m) = inr (Member-front x ys i m)
 
--- the entry of a pattern, by its parts
-pub offered-entry : (pattern : List (List ℕ)) (rows : List Row) (rule : Rule) (content new : List Entry) (key : List ℤ) (earned : ℤ) (n : ℕ) → AllByRecursion (IsRow pattern) rows → key ≡ sequence_key pattern → earned ≡ utility_of rows → n ≡ length rows
-    → new ≡ made rule content ((record { key = key; utility = earned; support = n }) ∷ []) → new ≡ made rule content (sequence_entry (sequences_of rows) pattern ∷ [])
-offered-entry pattern rows rule content new key earned n all k u s is =
-    let utility = u ∙ utility-rows pattern rows all in
-    let support = s ∙ sym (support-rows pattern rows all) in
-    is ∙ (λ j. made rule content ((record { key = k j; utility = utility j; support = support j }) ∷ []))
+contains-front : (children : List Child) (i : ℕ) (child : Child) → Contains (take i children) child → Contains children child
+contains-front children i child c = Contains-from_member child children (Member-front child children i (Member-from_contains child (take i children) c))
 
--- ---- fewer records tell the same of what grows
+Member-parts : {A : Type 0} (x : A) (xs : List A) (i : ℕ) → Member x xs → Member x (take i xs) ⊎ Member x (drop i xs)
+Member-parts x [] i m = absurd m
+Member-parts x (y ∷ ys) zero m = inr m
+Member-parts x (y ∷ ys) (suc i) (inl e) = inl (inl e)
+Member-parts x (y ∷ ys) (suc i) (inr m) = elim (Member-parts x ys i m) [ inl here ↦ inl (inr here) | inr later ↦ inr later ]
 
-module _ (pattern other : List (List ℕ)) (ends : Ends pattern) (from : IsGrownFrom pattern other) where
-  utility-filter : (records : List (List (List (ℕ × ℤ)))) → AllByRecursion KeepsRules records → sequence_utility (filter (λ r. is_some (best_utility pattern r)) records) other ≡ sequence_utility records other
-  utility-filter [] all = refl
-  utility-filter (r ∷ records) all = by (best_utility pattern r) refl (utility-filter records all.1)
-    where
-      by : (u : Option ℤ) → best_utility pattern r ≡ u → sequence_utility (filter (λ s. is_some (best_utility pattern s)) records) other ≡ sequence_utility records other
-          → sequence_utility (cond (is_some u) (r ∷ filter (λ s. is_some (best_utility pattern s)) records) (filter (λ s. is_some (best_utility pattern s)) records)) other ≡ unwrap_or (best_utility other r) (pos 0) +ℤ sequence_utility records other
-      by (Some u) e rest = ap (λ s. unwrap_or (best_utility other r) (pos 0) +ℤ s) rest
-      by None e rest =
-          let none = grown_from-none pattern other r all.0 ends from e in
-          let zero' : unwrap_or (best_utility other r) (pos 0) ≡ pos 0 = ap (λ u. unwrap_or u (pos 0)) none in
-          omega (arith, ints, rest, zero')
+-- bounds that fall: a later one is no greater
+fall-later : (children : List Child) (i : ℕ) (d child : Child) → Fall children → Member child (drop i children) → child.bound ≤ℤ (get_or children i d).bound
+fall-later [] zero d child fall m = absurd m
+fall-later [] (suc i) d child fall m = absurd m
+fall-later (c ∷ cs) zero d child fall (inl e) = subst (λ other. other.bound ≤ℤ c.bound) e (omega (arith, ints))
+fall-later (c ∷ cs) zero d child fall (inr m) = at_member (λ later. later.bound ≤ℤ c.bound) child cs fall.0 m
+fall-later (c ∷ cs) (suc i) d child fall m = fall-later cs i d child fall.1 m
 
-  support-filter : (records : List (List (List (ℕ × ℤ)))) → AllByRecursion KeepsRules records → sequence_support (filter (λ r. is_some (best_utility pattern r)) records) other ≡ sequence_support records other
-  support-filter [] all = refl
-  support-filter (r ∷ records) all = by (best_utility pattern r) refl (support-filter records all.1)
-    where
-      by : (u : Option ℤ) → best_utility pattern r ≡ u → sequence_support (filter (λ s. is_some (best_utility pattern s)) records) other ≡ sequence_support records other
-          → sequence_support (cond (is_some u) (r ∷ filter (λ s. is_some (best_utility pattern s)) records) (filter (λ s. is_some (best_utility pattern s)) records)) other ≡ sequence_support (r ∷ records) other
-      by (Some u) e rest = omega (arith, support-cons other r (filter (λ s. is_some (best_utility pattern s)) records), support-cons other r records, rest)
-      by None e rest =
-          let none = grown_from-none pattern other r all.0 ends from e in
-          let zero' : ◌≡◌ {A = ℕ} (cond (is_some (best_utility other r)) 1 0) 0 = ap (λ u. cond (is_some u) 1 0) none in
-          omega (arith, support-cons other r records, rest, zero')
+fall-past : (children : List Child) (i : ℕ) (child : Child) → length children ≤ i → Member child (drop i children) → ⊥
+fall-past [] zero child past m = m
+fall-past [] (suc i) child past m = m
+fall-past (c ∷ cs) zero child past m = absurd (omega arith)
+fall-past (c ∷ cs) (suc i) child past m = fall-past cs i child (omega arith) m
 
-  pub entry-filter : (records : List (List (List (ℕ × ℤ)))) → AllByRecursion KeepsRules records → sequence_entry (filter (λ r. is_some (best_utility pattern r)) records) other ≡ sequence_entry records other
-  entry-filter records all = let u = utility-filter records all in let s = support-filter records all in cc
+module _ (records : Records) (pattern : List (List ℕ)) where
+  -- ---- offers of children
 
-  pub occurs-filter : (records : List (List (List (ℕ × ℤ)))) → AllByRecursion KeepsRules records → 0 < sequence_support (filter (λ r. is_some (best_utility pattern r)) records) other → 0 < sequence_support records other
-  occurs-filter records all some = subst (λ n. 0 < n) (support-filter records all) some
+  pub offered-none : (s : State) → IsInOrder s → Reached s (IsOneOf records pattern []) s
+  offered-none s ordered = reached-none {P = IsOneOf records pattern []} s ordered (λ e one pass high. empty-contains one.child one.among)
 
-  pub filter-occurs : (records : List (List (List (ℕ × ℤ)))) → AllByRecursion KeepsRules records → 0 < sequence_support records other → 0 < sequence_support (filter (λ r. is_some (best_utility pattern r)) records) other
-  filter-occurs records all some = subst (λ n. 0 < n) (sym (support-filter records all)) some
+  one-as : {cs ds : List Child} {e : Entry} (one : IsOneOf records pattern cs e) → Contains ds one.child → IsOneOf records pattern ds e
+  one-as one among = record { child = one.child; among = among; is = one.is }
 
--- ---- a pattern itself, or on from it
+  below-as : {cs ds : List Child} {e : Entry} (below : IsBelow records pattern cs e) → Contains ds below.child → IsBelow records pattern ds e
+  below-as below among = record { child = below.child; among = among; grows = below.grows }
 
--- an entry is that of the pattern
-abbrev pub IsOwn : List (List (List (ℕ × ℤ))) → List (List ℕ) → Entry → Type 0
-IsOwn records pattern entry = entry ≡ sequence_entry records pattern
+  pub offered-next : {old s t : State} (children : List Child) (i : ℕ) (d : Child) → i < length children → IsInOrder old
+      → Reached old (IsOneOf records pattern (take i children)) s → t ≡ offered s (child_entry records pattern (get_or children i d) ∷ [])
+      → Reached old (IsOneOf records pattern (take (i + 1) children)) t
+  offered-next {old} {s} {t} children i d within ordered first is =
+      let entry = child_entry records pattern (get_or children i d) in
+      reached-then {P = IsOneOf records pattern (take i children)} {Q = λ e. entry ≡ e} {R = IsOneOf records pattern (take (i + 1) children)} ordered
+      (λ e one. one-as one (contains-before children i d one.child within one.among))
+      (λ e same. record { child = get_or children i d; among = contains-here children i d within; is = sym same })
+      (λ e one pass high. elim (contains-cases children i d one.child within one.among) [
+        | inl before ↦ inl (one-as one before)
+        | inr same ↦ inr (ap (child_entry records pattern) same ∙ sym one.is)
+      ])
+      first (reached-one s entry t is)
 
-grows-cases : (records : List (List (List (ℕ × ℤ)))) (pattern : List (List ℕ)) (e : Entry) → Grows records pattern e → IsOwn records pattern e ⊎ GrowsOn records pattern e
-grows-cases records pattern e g = by g.from.steps g.from.leads
-  where
-    by : (steps : List (Growth × ℕ)) → Leads steps pattern g.other → IsOwn records pattern e ⊎ GrowsOn records pattern e
-    by [] leads = inl (g.is ∙ ap (sequence_entry records) (sym leads))
-    by (step ∷ steps) leads = inr (record {
-      growth = step.0;
-      item = step.1;
-      can = leads.0;
-      grows = record { other = g.other; from = record { steps = steps; leads = leads.1 }; occurs = g.occurs; is = g.is };
-    })
+  -- want of memory after some were offered
+  pub some-offered : {old s t : State} (children : List Child) (i : ℕ) → Reached old (IsOneOf records pattern (take i children)) s → t ≡ s
+      → ReachedSome old (IsOneOf records pattern children) t
+  some-offered {old} children i first same =
+      subst (ReachedSome old (IsOneOf records pattern children)) (sym same)
+      (some-reached {P = IsOneOf records pattern (take i children)} {R = IsOneOf records pattern children}
+      (λ e one. one-as one (contains-front children i one.child one.among)) first)
 
-pub on-grows : (records : List (List (List (ℕ × ℤ)))) (pattern : List (List ℕ)) (e : Entry) → GrowsOn records pattern e → Grows records pattern e
-on-grows records pattern e g =
-    let inner = g.grows in
-    record { other = inner.other; from = grown-first g.growth pattern inner.other g.item g.can inner.from; occurs = inner.occurs; is = inner.is }
+  -- ---- what grows from a pattern
 
--- ---- the pattern is offered, and then what grows on from it
-
-module _ (turns : MakesInTurn) (floors : KeepsFloor) (rule : Rule) (records fewer : List (List (List (ℕ × ℤ)))) (pattern : List (List ℕ)) (ends : Ends pattern) (rules : AllByRecursion KeepsRules records)
-    (fewer_is : fewer ≡ filter (λ r. is_some (best_utility pattern r)) records) (some : 0 < sequence_support fewer pattern) (content offered : List Entry) (is : offered ≡ made rule content (sequence_entry fewer pattern ∷ [])) where
-  grows-fewer : (e : Entry) → Grows fewer pattern e → Grows records pattern e
-  grows-fewer e g =
-      let g' = subst (λ rs. Grows rs pattern e) fewer_is g in
-      record { other = g'.other; from = g'.from; occurs = occurs-filter pattern g'.other ends g'.from records rules g'.occurs; is = g'.is ∙ entry-filter pattern g'.other ends g'.from records rules }
-
-  fewer-grows : (e : Entry) → Grows records pattern e → Grows fewer pattern e
-  fewer-grows e g =
-      subst (λ rs. Grows rs pattern e) (sym fewer_is)
-      (record { other = g.other; from = g.from; occurs = filter-occurs pattern g.other ends g.from records rules g.occurs; is = g.is ∙ sym (entry-filter pattern g.other ends g.from records rules) })
-
-  own-grows : (e : Entry) → IsOwn fewer pattern e → Grows records pattern e
-  own-grows e own = grows-fewer e (record { other = pattern; from = grown_from-itself pattern; occurs = some; is = own })
-
-  on-fewer : (e : Entry) → GrowsOn fewer pattern e → Grows records pattern e
-  on-fewer e g = grows-fewer e (on-grows fewer pattern e g)
-
-  own-made : MakesReaching rule content (IsOwn fewer pattern) offered
-  own-made = record {
-    entries = sequence_entry fewer pattern ∷ [];
-    each = λ e c. one e (Member-from_contains e (sequence_entry fewer pattern ∷ []) c);
-    enough = λ e own pass reach. Contains-from_member e (sequence_entry fewer pattern ∷ []) (inl (sym own));
-    is = is;
-  }
-    where
-      one : (e : Entry) → Member e (sequence_entry fewer pattern ∷ []) → e ≡ sequence_entry fewer pattern
-      one e (inl same) = sym same
-      one e (inr none) = absurd none
-
-  pub turn-made : (new : List Entry) → MakesReaching rule offered (GrowsOn fewer pattern) new → MakesReaching rule content (Grows records pattern) new
-  turn-made new more =
-      MakesReaching-then turns rule floors {P = IsOwn fewer pattern} {Q = GrowsOn fewer pattern} {R = Grows records pattern} content offered new own-grows on-fewer
-      (λ e g pass reach. grows-cases fewer pattern e (fewer-grows e g)) own-made more
-
-  pub turn-some : (new : List Entry) → MakesSomeOf rule offered (GrowsOn fewer pattern) new → MakesSomeOf rule content (Grows records pattern) new
-  turn-some new more = MakesSomeOf-then turns rule {P = IsOwn fewer pattern} {Q = GrowsOn fewer pattern} {R = Grows records pattern} content offered new own-grows on-fewer own-made more
-
-  pub turn-offered : (new : List Entry) → new ≡ offered → MakesSomeOf rule content (Grows records pattern) new
-  turn-offered new same = MakesSomeOf-as turns rule {P = IsOwn fewer pattern} {R = Grows records pattern} content offered new own-grows own-made same
-
--- ---- one thing after another
-
--- an entry has to do with one of some things
-pub record Among {A : Type 0} (Q : A → Entry → Type 0) (xs : List A) (entry : Entry) : Type 0 where
-  pub thing : A
-  pub among : Member thing xs
-  pub is : Q thing entry
-
-member-push : {A : Type 0} (x : A) (xs : List A) (i : ℕ) (d : A) → i < length xs → Member x (take (suc i) xs) → Member x (take i xs) ⊎ (get_or xs i d ≡ x)
-member-push x [] i d within m = absurd (omega arith)
-member-push x (y ∷ ys) zero d within (inl e) = inr e
-member-push x (y ∷ ys) zero d within (inr m) = absurd m
-member-push x (y ∷ ys) (suc i) d within (inl e) = inl (inl e)
-member-push x (y ∷ ys) (suc i) d within (inr m) = elim (member-push x ys i d (omega arith) m) [ inl a ↦ inl (inr a) | inr b ↦ inr b ]
-
-member-more : {A : Type 0} (x : A) (xs : List A) (i : ℕ) → Member x (take i xs) → Member x (take (suc i) xs)
-member-more x [] zero m = absurd m
-member-more x [] (suc i) m = absurd m
-member-more x (y ∷ ys) zero m = absurd m
-member-more x (y ∷ ys) (suc i) (inl e) = inl e
-member-more x (y ∷ ys) (suc i) (inr m) = inr (member-more x ys i m)
-
-member-here : {A : Type 0} (xs : List A) (i : ℕ) (d : A) → i < length xs → Member (get_or xs i d) (take (suc i) xs)
-member-here [] i d within = absurd (omega arith)
-member-here (y ∷ ys) zero d within = inl refl
-member-here (y ∷ ys) (suc i) d within = inr (member-here ys i d (omega arith))
-
-member-front : {A : Type 0} (x : A) (xs : List A) (i : ℕ) → Member x (take i xs) → Member x xs
-member-front x [] zero m = m
-member-front x [] (suc i) m = m
-member-front x (y ∷ ys) zero m = absurd m
-member-front x (y ∷ ys) (suc i) (inl e) = inl e
-member-front x (y ∷ ys) (suc i) (inr m) = inr (member-front x ys i m)
-
-module _ {A : Type 0} (Q : A → Entry → Type 0) (turns : MakesInTurn) (floors : KeepsFloor) (rule : Rule) (old : List Entry) (xs : List A) where
-  pub among-none : IsKept rule old → MakesReaching rule old (Among Q (take 0 xs)) old
-  among-none kept = MakesReaching-none turns rule {P = Among Q (take 0 xs)} old kept (λ e a pass reach. a.among)
-
-  pub among-kept : (i : ℕ) (content : List Entry) → MakesReaching rule old (Among Q (take i xs)) content → IsKept rule content
-  among-kept i content so_far = kept-made turns rule old so_far.entries content so_far.is
-
-  -- the floor since the search began
-  pub among-floor : (i : ℕ) (content : List Entry) → IsKept rule old → MakesReaching rule old (Among Q (take i xs)) content → floor_of rule old ≤ℤ floor_of rule content
-  among-floor i content kept so_far = subst (λ c. floor_of rule old ≤ℤ floor_of rule c) (sym so_far.is) (floors rule old so_far.entries kept)
-
-  among-front : (i : ℕ) (e : Entry) → Among Q (take i xs) e → Among Q xs e
-  among-front i e a = record { thing = a.thing; among = member-front a.thing xs i a.among; is = a.is }
-
-  module _ (i : ℕ) (x : A) (within : i < length xs) (x_is : x ≡ get_or xs i x) (content : List Entry) (so_far : MakesReaching rule old (Among Q (take i xs)) content) where
-    here-among : (e : Entry) → Q x e → Among Q (take (suc i) xs) e
-    here-among e q = record { thing = x; among = subst (λ y. Member y (take (suc i) xs)) (sym x_is) (member-here xs i x within); is = q }
-
-    more-among : (e : Entry) → Among Q (take i xs) e → Among Q (take (suc i) xs) e
-    more-among e a = record { thing = a.thing; among = member-more a.thing xs i a.among; is = a.is }
-
-    among-cases : (e : Entry) → Among Q (take (suc i) xs) e → Among Q (take i xs) e ⊎ Q x e
-    among-cases e a = elim (member-push a.thing xs i x within a.among) [
-      | inl before ↦ inl (record { thing = a.thing; among = before; is = a.is })
-      | inr same ↦ inr (subst (λ y. Q y e) (sym (x_is ∙ same)) a.is)
-    ]
-
-    pub among-next : (new : List Entry) → MakesReaching rule content (Q x) new → MakesReaching rule old (Among Q (take (suc i) xs)) new
-    among-next new more =
-        MakesReaching-then turns rule floors {P = Among Q (take i xs)} {Q = Q x} {R = Among Q (take (suc i) xs)} old content new more-among here-among (λ e a pass reach. among-cases e a) so_far more
-
-    pub among-some : (new : List Entry) → MakesSomeOf rule content (Q x) new → MakesSomeOf rule old (Among Q xs) new
-    among-some new more =
-        MakesSomeOf-then turns rule {P = Among Q (take i xs)} {Q = Q x} {R = Among Q xs} old content new (λ e a. among-front i e a) (λ e q. among-front (suc i) e (here-among e q)) so_far more
-
-    pub among-as : (new : List Entry) → new ≡ content → MakesSomeOf rule old (Among Q xs) new
-    among-as new same = MakesSomeOf-as turns rule {P = Among Q (take i xs)} {R = Among Q xs} old content new (λ e a. among-front i e a) so_far same
-
-  pub among-upto : (i : ℕ) (content new : List Entry) → MakesReaching rule old (Among Q (take i xs)) content → new ≡ content → MakesSomeOf rule old (Among Q xs) new
-  among-upto i content new so_far same = MakesSomeOf-as turns rule {P = Among Q (take i xs)} {R = Among Q xs} old content new (λ e a. among-front i e a) so_far same
-
-  pub among-all : (i : ℕ) (content : List Entry) → length xs ≤ i → MakesReaching rule old (Among Q (take i xs)) content → MakesReaching rule old (Among Q xs) content
-  among-all i content end so_far = subst (λ ys. MakesReaching rule old (Among Q ys) content) (take_all i xs end) so_far
-
--- ---- what grows from a level
-
--- an entry is that of a pattern that grows through a candidate's step
-abbrev pub Through : List (List (List (ℕ × ℤ))) → List (List ℕ) → Candidate → Entry → Type 0
-Through records pattern candidate entry = Grows records (stepped pattern candidate.step) entry
-
-module _ (pattern : List (List ℕ)) (rows : List Row) (level : IsLevel pattern rows) (found : List Candidate) where
-  -- a candidate whose bound is below the floor can change nothing
-  pub cut-made : MakesInTurn → (rule : Rule) (content : List Entry) (candidate : Candidate) → IsKept rule content → IsCandidate pattern rows candidate → candidate.bound <ℤ floor_of rule content
-      → MakesReaching rule content (Through (sequences_of rows) pattern candidate) content
-  cut-made turns rule content candidate kept is low =
-      MakesReaching-none turns rule {P = Through (sequences_of rows) pattern candidate} content kept
-      (λ e g pass reach.
-      let below = utility-reduced candidate.step.growth pattern g.other candidate.step.item.0 level.reached is.can g.from rows level.each in
-      let sum = ap (bounds_at rows) (sym is.numbers) ∙ sym is.bound in
-      let reaches : floor_of rule content ≤ℤ sequence_utility (sequences_of rows) g.other = subst (λ (x : Entry). floor_of rule content ≤ℤ x.utility) g.is reach in
-      absurd (omega (arith, ints, below, sum, reaches, low)))
-
-  among-on : AllByRecursion (IsCandidate pattern rows) found → (e : Entry) → Among (Through (sequences_of rows) pattern) found e → GrowsOn (sequences_of rows) pattern e
-  among-on all e a =
-      let is = at_member (IsCandidate pattern rows) a.thing found all a.among in
-      let candidate = a.thing in
-      record { growth = candidate.step.growth; item = candidate.step.item.0; can = is.can; grows = a.is }
-
-  pub some-on : (floor : ℤ) (rule : Rule) (old new : List Entry) → AreCandidates pattern rows floor found → MakesSomeOf rule old (Among (Through (sequences_of rows) pattern) found) new → MakesSomeOf rule old (GrowsOn (sequences_of rows) pattern) new
-  some-on floor rule old new are some = record { entries = some.entries; each = λ e c. among-on are.each e (some.each e c); is = some.is }
-
-  on-among : (rule : Rule) (old new : List Entry) → AreCandidates pattern rows (floor_of rule old) found → floor_of rule old ≤ℤ floor_of rule new → (e : Entry) → GrowsOn (sequences_of rows) pattern e → floor_of rule new ≤ℤ e.utility
-      → Among (Through (sequences_of rows) pattern) found e
-  on-among rule old new are rises e g reach =
-      let inner = g.grows in
-      let high : floor_of rule new ≤ℤ sequence_utility (sequences_of rows) inner.other = subst (λ (x : Entry). floor_of rule new ≤ℤ x.utility) inner.is reach in
-      let reaches : floor_of rule old ≤ℤ sequence_utility (sequences_of rows) inner.other = omega (arith, ints, rises, high) in
-      let c = by g.growth g.can inner.from inner.occurs reaches in
+  one-grows : (children : List Child) (e : Entry) → AllByRecursion (IsChild records pattern) children → IsOneOf records pattern children e
+      → GrowsOn records pattern e
+  one-grows children e each one =
+      let child = one.child in
+      let is = at_member (IsChild records pattern) child children each (Member-from_contains child children one.among) in
       record {
-        thing = c.0;
-        among = Member-from_contains c.0 found c.1;
-        is = record {
-          other = inner.other;
-          from = subst (λ i. IsGrownFrom (grown c.0.step.growth pattern i) inner.other) (sym c.3) (subst (λ k. IsGrownFrom (grown k pattern g.item) inner.other) (sym c.2) inner.from);
-          occurs = inner.occurs;
-          is = inner.is;
-        };
+        growth = child.step.growth;
+        item = child.step.item.0;
+        may = is.may;
+        grows = record { other = stepped pattern child.step; from = grown_from-itself (stepped pattern child.step); occurs = is.occurs; is = one.is };
       }
-    where
-      by : (growth : Growth) → CanGrow growth pattern g.item → IsGrownFrom (grown growth pattern g.item) (g.grows).other → 0 < sequence_support (sequences_of rows) (g.grows).other → floor_of rule old ≤ℤ sequence_utility (sequences_of rows) (g.grows).other
-          → (candidate : Candidate) × Contains found candidate × (candidate.step.growth ≡ growth) × (candidate.step.item.0 ≡ g.item)
-      by IntoLast can from occurs reaches = are.into g.item (g.grows).other can from occurs reaches
-      by AfterLast can from occurs reaches = are.after g.item (g.grows).other can from occurs reaches
 
-  -- candidates that cover both growths make all that matters
-  pub all-on : MakesInTurn → (rule : Rule) (old new : List Entry) → AreCandidates pattern rows (floor_of rule old) found → floor_of rule old ≤ℤ floor_of rule new
-      → MakesReaching rule old (Among (Through (sequences_of rows) pattern) found) new → MakesReaching rule old (GrowsOn (sequences_of rows) pattern) new
-  all-on turns rule old new are rises so_far =
-      MakesReaching-as turns rule {P = Among (Through (sequences_of rows) pattern) found} {R = GrowsOn (sequences_of rows) pattern} old new (among-on are.each)
-      (λ e g pass reach. on-among rule old new are rises e g reach) so_far
+  pub offered-some : {old new : State} (children : List Child) → AllByRecursion (IsChild records pattern) children
+      → ReachedSome old (IsOneOf records pattern children) new
+      → ReachedSome old (GrowsOn records pattern) new
+  offered-some children each some = some-as {P = IsOneOf records pattern children} {R = GrowsOn records pattern} (λ e. one-grows children e each) some
+
+  module _ (rules : AreRecords records) (begun : IsBegun pattern) where
+    below-grows : (child : Child) (e : Entry) → IsChild records pattern child → GrowsOn records (stepped pattern child.step) e → GrowsOn records pattern e
+    below-grows child e is on =
+        let g = on.grows in
+        let reached = grown-reached child.step.growth pattern child.step.item.0 begun is.may in
+        let can = can-reached on.growth (stepped pattern child.step) on.item reached on.may in
+        record {
+          growth = child.step.growth;
+          item = child.step.item.0;
+          may = is.may;
+          grows = record {
+            other = g.other;
+            from = grown-first on.growth (stepped pattern child.step) g.other on.item can g.from;
+            occurs = g.occurs;
+            is =
+                g.is;
+          };
+        }
+
+    -- a pattern that grows from one is that of a child or grows from it
+    grows-cases : (children : List Child) (e : Entry) → AreChildren records pattern children → GrowsOn records pattern e
+        → IsOneOf records pattern children e ⊎ IsBelow records pattern children e
+    grows-cases children e are on =
+        let g = on.grows in
+        by on.growth on.item on.may g.other g.from.steps g.from.leads g.occurs g.is
+      where
+        at : (growth : Growth) (item : ℕ) (child : Child) → Contains children child → child.step.growth ≡ growth → child.step.item.0 ≡ item
+            → (other : List (List ℕ)) (steps : List (Growth × ℕ)) → Leads steps (stepped pattern child.step) other → 0 < sequence_support records other
+            → e ≡ sequence_entry records other
+            → IsOneOf records pattern children e ⊎ IsBelow records pattern children e
+        at growth item child among a b other [] leads occurs is = inl (record {
+          child = child;
+          among = among;
+          is = is ∙ ap (sequence_entry records)
+              (sym leads);
+        })
+        at growth item child among a b other (step ∷ steps) leads occurs is = inr (record {
+          child = child;
+          among = among;
+          grows = record {
+            growth = step.0;
+            item = step.1;
+            may = may child (at_member (IsChild records pattern) child children are.each (Member-from_contains child children among)) step leads.0;
+            grows = record { other = other; from = record { steps = steps; leads = leads.1 }; occurs = occurs; is = is };
+          };
+        })
+          where
+            may : (child : Child) → IsChild records pattern child → (step : Growth × ℕ) → CanGrow step.0 (stepped pattern child.step) step.1
+                → MayTake step.0 (stepped pattern child.step) step.1
+            may child is step can = may-reached step.0 (stepped pattern child.step) step.1
+                (grown-reached child.step.growth pattern child.step.item.0 begun is.may) can
+
+        by : (growth : Growth) (item : ℕ) → MayTake growth pattern item → (other : List (List ℕ)) (steps : List (Growth × ℕ))
+            → Leads steps (grown growth pattern item) other
+            → 0 < sequence_support records other → e ≡ sequence_entry records other → IsOneOf records pattern children e ⊎ IsBelow records pattern children e
+        by growth item may other steps leads occurs is =
+            let held = support-before records rules (grown growth pattern item) other (Ends-grown growth pattern item)
+            (record { steps = steps; leads = leads }) occurs in
+            let has = are.all growth item may held in
+            at growth item has.0 has.1 has.2 has.3 other steps
+            (subst (λ i. Leads steps (grown has.0.step.growth pattern i) other) (sym has.3)
+            (subst (λ k. Leads steps (grown k pattern item) other) (sym has.2) leads)) occurs is
+
+    -- ---- children that are entered
+
+    pub so_far-none : {old mid : State} {kept : List Child} → IsOpened old mid records pattern kept → IsSoFar old mid records pattern kept 0
+    so_far-none {old} {mid} {kept} opened = record {
+      mid = mid;
+      opened = opened;
+      rises = omega (arith, ints);
+      made = reached-as {P = IsOneOf records pattern opened.all} {R = IsUpto records pattern opened.all kept 0} (λ e one. inl one)
+          (λ e upto pass high. elim upto [ inl one ↦ one | inr below ↦ absurd (empty-contains below.child below.among) ]) opened.offers;
+    }
+
+    module _ {old now : State} {kept : List Child} (ordered : IsInOrder old) where
+      module _ {at : ℕ} (so_far : IsSoFar old now records pattern kept at) where
+        pub so_far-ordered : IsInOrder now
+        so_far-ordered = reached-in_order so_far.made
+
+        child-kept : (i : ℕ) (child : Child) → Contains (take i kept) child → IsChild records pattern child
+        child-kept i child c =
+            let opened = so_far.opened in
+            let are = opened.are in
+            let among = at_member (Contains opened.all) child kept opened.among (Member-from_contains child kept (contains-front kept i child c)) in
+            at_member (IsChild records pattern) child opened.all are.each (Member-from_contains child opened.all among)
+
+        upto-grows : (i : ℕ) (e : Entry) → IsUpto records pattern so_far.opened.all kept i e → GrowsOn records pattern e
+        upto-grows i e (inl one) = let opened = so_far.opened in let are = opened.are in one-grows opened.all e are.each one
+        upto-grows i e (inr below) = below-grows below.child e (child-kept i below.child below.among) below.grows
+
+        -- want of memory
+        pub so_far-stopped : ReachedSome old (GrowsOn records pattern) now
+        so_far-stopped = some-reached {P = IsUpto records pattern so_far.opened.all kept at} {R = GrowsOn records pattern} (upto-grows at) so_far.made
+
+        module _ (d : Child) (within : at < length kept) where
+          pub turn-child : IsChild records pattern (get_or kept at d)
+          turn-child = child-kept (at + 1) (get_or kept at d) (contains-here kept at d within)
+
+          -- one more was entered
+          pub so_far-next : {next : State} → Reached now (GrowsOn records (stepped pattern (get_or kept at d).step)) next
+              → IsSoFar old next records pattern kept (at + 1)
+          so_far-next made = record {
+            mid = so_far.mid;
+            opened = so_far.opened;
+            rises = let a = so_far.rises in let b = reached-floor (reached-in_order so_far.made) made in omega (arith, ints, a, b);
+            made = reached-then {P = IsUpto records pattern so_far.opened.all kept at} {Q = GrowsOn records (stepped pattern (get_or kept at d).step)}
+                {R = IsUpto records pattern so_far.opened.all kept (at + 1)} ordered
+                (λ e upto. elim upto [ inl one ↦ inl one | inr below ↦ inr (below-as below (contains-before kept at d below.child within below.among)) ])
+                (λ e grows. inr (record { child = get_or kept at d; among = contains-here kept at d within; grows = grows }))
+                (λ e upto pass high. elim upto [
+                  | inl one ↦ inl (inl one)
+                  | inr below ↦ elim (contains-cases kept at d below.child within below.among) [
+                    | inl before ↦ inl (inr (below-as below before))
+                    | inr same ↦ inr (subst (λ (c : Child). GrowsOn records (stepped pattern c.step) e) (sym same) below.grows)
+                  ]
+                ])
+                so_far.made made;
+          }
+
+          -- want of memory below one
+          pub so_far-some : {next : State} → ReachedSome now (GrowsOn records (stepped pattern (get_or kept at d).step)) next
+              → ReachedSome old (GrowsOn records pattern) next
+          so_far-some some =
+              some-then {P = IsUpto records pattern so_far.opened.all kept at} {Q = GrowsOn records (stepped pattern (get_or kept at d).step)} {R =
+              GrowsOn records pattern}
+              (upto-grows at) (λ e grows. below-grows (get_or kept at d) e turn-child grows) so_far.made some
+
+        -- all are entered, or the next bound is below the floor
+        pub so_far-all : (d : Child) → (length kept ≤ at) ⊎ ((get_or kept at d).bound <ℤ floor_in now) → Reached old (GrowsOn records pattern) now
+        so_far-all d ends =
+            reached-as {P = IsUpto records pattern so_far.opened.all kept at} {R = GrowsOn records pattern} (upto-grows at)
+            (λ e on pass high. let opened = so_far.opened in
+            elim (grows-cases opened.all e opened.are on) [
+              | inl one ↦ inl one
+              | inr below ↦ inr
+                  (below-as below (among e below.child below.among below.grows high))
+            ])
+            so_far.made
+          where
+            among : (e : Entry) (child : Child) → Contains so_far.opened.all child → GrowsOn records (stepped pattern child.step) e → floor_in now ≤ℤ e.utility
+                → Contains (take at kept) child
+            among e child c grows high =
+                let opened = so_far.opened in
+                let are = opened.are in
+                let is = at_member (IsChild records pattern) child opened.all are.each (Member-from_contains child opened.all c) in
+                let under = is.bound e grows in
+                let rises = so_far.rises in
+                elim (opened.others child c) [
+                  | inr low ↦ absurd (omega (arith, ints, under, high, rises, low))
+                  | inl here ↦ elim (Member-parts child kept at (Member-from_contains child kept here)) [
+                    | inl front ↦ Contains-from_member child (take at kept) front
+                    | inr later ↦ elim ends [
+                      | inl past ↦ absurd (fall-past kept at child past later)
+                      | inr low ↦ let falls = fall-later kept at d child opened.fall later in absurd (omega (arith, ints, under, high, falls, low))
+                    ]
+                  ]
+                ]
+
+-- ---- what is opened
+
+pub opens-stopped : {E : Type 0} {old new : State} {records : Records} {pattern : List (List ℕ)} (result : Result (Vec Child Global) E) → IsErr result
+    → ReachedSome old (GrowsOn records pattern) new → Opens old new records pattern result
+opens-stopped (Ok x) none some = absurd (false≢true none)
+opens-stopped (Err e) none some = some
+
+pub opens-best : {E : Type 0} {old new : State} (records : Records) (pattern : List (List ℕ)) (all : List Child) (floor : ℤ)
+    (result : Result (Vec Child Global) E) → floor ≡ floor_in new
+    → AreChildren records pattern all → Reached old (IsOneOf records pattern all) new
+    → IfOk result (λ kept. AllByRecursion (Contains all) kept.items)
+    → IfOk result (λ kept. (child : Child) → Contains all child → Contains kept.items child ⊎ (child.bound <ℤ floor))
+    → IfOk result (λ kept. Fall kept.items) → Opens old new records pattern result
+opens-best {new = new} records pattern all floor (Ok kept) same are offers among others fall = record {
+  all = all;
+  are = are;
+  offers = offers;
+  among = among;
+  others = λ child c. subst (λ f. Contains kept.items child ⊎ (child.bound <ℤ f)) same (others child c);
+  fall = fall;
+}
+opens-best {old = old} records pattern all floor (Err e) same are offers among others fall =
+    offered-some records pattern all are.each (some-reached {P = IsOneOf records pattern all} {R = IsOneOf records pattern all} (λ x one. one) offers)
+
+-- one more offer, the steps seen again
+pub offered-turn : {old s t : State} (records : Records) (steps seen : List Step) (children : List Child) (i : ℕ) (d : Child) → i < length children
+    → IsInOrder old → seen ≡ steps
+    → Reached old (IsOneOf records (pattern_of steps) (take i children)) s → t ≡ offered s (child_entry records (pattern_of seen) (get_or children i d) ∷ [])
+    → Reached old (IsOneOf records (pattern_of steps) (take (i + 1) children)) t
+offered-turn {s = s} records steps seen children i d within ordered same first is =
+    offered-next records (pattern_of steps) children i d within ordered first (is ∙ ap (λ ss. offered s
+    (child_entry records (pattern_of ss) (get_or children i d) ∷ [])) same)

@@ -1,5 +1,7 @@
 -- Steps, by their places: their pattern, its size and its key.
-use Rattle.std.proofs.Common.{◌≡◌, ℕ, zero, suc, ◌<◌, ◌+◌, ℤ, pos, negsuc, List, [], ◌∷◌, ◌++◌, map, length, get_or, take, drop, sum_by, refl, sym, ap, ◌∙◌, ◌⊎◌, inl, inr, arith, append_assoc, append-nil, length-append, Option, None, Some, option_to_list, IsSome, ◌↔◌, Result, Ok, Err, OnErr}
+use Rattle.std.proofs.Common.{◌≡◌, ℕ, zero, suc, ◌<◌, ◌+◌, ℤ, pos, negsuc, List, [], ◌∷◌, ◌++◌, map, length, get_or, take, drop, sum_by, refl, sym, ap, ◌∙◌}
+use Rattle.std.proofs.Common.{◌⊎◌, inl, inr, arith, append_assoc, append-nil, length-append, Option, None, Some, option_to_list, IsSome, ◌↔◌, Result, Ok, Err}
+use Rattle.std.proofs.Common.{OnErr}
 use Rattle.std.proofs.lemmas.List.Concat.{flat_map-append}
 use Rattle.std.proofs.lemmas.List.Sums.{sum_by-cons, sum_by-append}
 use Rattle.std.proofs.lemmas.Bool.{false≢true}
@@ -15,12 +17,14 @@ use Rattle.hu_span.specs.Step.{closed, grown_key, open_key, pattern_from, patter
 
 -- ---- one step more
 
-pub open_key-next : (key : List ℤ) (steps : List Step) (i : ℕ) (d : Step) → i < length steps → open_key key (take (suc i) steps) ≡ grown_key (open_key key (take i steps)) (get_or steps i d).growth (get_or steps i d).item.0
+pub open_key-next : (key : List ℤ) (steps : List Step) (i : ℕ) (d : Step) → i < length steps
+    → open_key key (take (suc i) steps) ≡ grown_key (open_key key (take i steps)) (get_or steps i d).growth (get_or steps i d).item.0
 open_key-next key [] i d within = absurd (omega arith)
 open_key-next key (step ∷ steps) zero d within = refl
 open_key-next key (step ∷ steps) (suc i) d within = open_key-next (grown_key key step.growth step.item.0) steps i d (omega arith)
 
-pattern_from-push : (pattern : List (List ℕ)) (steps : List Step) (step : Step) → pattern_from pattern (steps ++ step ∷ []) ≡ grown step.growth (pattern_from pattern steps) step.item.0
+pattern_from-push : (pattern : List (List ℕ)) (steps : List Step) (step : Step)
+    → pattern_from pattern (steps ++ step ∷ []) ≡ grown step.growth (pattern_from pattern steps) step.item.0
 pattern_from-push pattern [] step = refl
 pattern_from-push pattern (first ∷ steps) step = pattern_from-push (grown first.growth pattern first.item.0) steps step
 
@@ -32,7 +36,13 @@ pattern_of-push steps step = pattern_from-push [] steps step
 size-into : (pattern : List (List ℕ)) (item : ℕ) → sum_by length (into pattern item) ≡ sum_by length pattern + 1
 size-into [] item = omega (arith, sum_by-cons length (item ∷ []) [])
 size-into (items ∷ []) item = omega (arith, sum_by-cons length (items ++ item ∷ []) [], sum_by-cons length items [], length-append items (item ∷ []))
-size-into (items ∷ next ∷ pattern) item = omega (arith, size-into (next ∷ pattern) item, sum_by-cons length items (into (next ∷ pattern) item), sum_by-cons length items (next ∷ pattern))
+size-into (items ∷ next ∷ pattern) item = omega (
+  arith,
+  size-into (next ∷ pattern) item,
+  sum_by-cons length items
+      (into (next ∷ pattern) item),
+  sum_by-cons length items (next ∷ pattern),
+)
 
 size-grown : (growth : Growth) (pattern : List (List ℕ)) (item : ℕ) → sum_by length (grown growth pattern item) ≡ sum_by length pattern + 1
 size-grown IntoLast pattern item = size-into pattern item
@@ -71,7 +81,8 @@ same_end (x ∷ a) (y ∷ b) e =
     let rest = same_end a b tail in
     cc
 
-key-into : (pattern : List (List ℕ)) (item : ℕ) (key : List ℤ) → 0 < length pattern → sequence_key pattern ≡ key ++ negsuc 0 ∷ [] → sequence_key (into pattern item) ≡ (key ++ pos item ∷ []) ++ negsuc 0 ∷ []
+key-into : (pattern : List (List ℕ)) (item : ℕ) (key : List ℤ) → 0 < length pattern → sequence_key pattern ≡ key ++ negsuc 0 ∷ []
+    → sequence_key (into pattern item) ≡ (key ++ pos item ∷ []) ++ negsuc 0 ∷ []
 key-into [] item key some is = absurd (omega arith)
 key-into (items ∷ []) item key some is =
     let own = same_end (map pos items) key (sym (one-key items) ∙ is) in
@@ -88,8 +99,11 @@ key-into (items ∷ next ∷ pattern) item key some is =
     open_end : (p : List ℕ) (ps : List (List ℕ)) → (k : List ℤ) × (sequence_key (p ∷ ps) ≡ k ++ negsuc 0 ∷ [])
     open_end p [] = (map pos p, one-key p)
     open_end p (q ∷ qs) =
-        let ih = open_end q qs in
-        ((map pos p ++ negsuc 0 ∷ []) ++ ih.0, ap (λ ns. (map pos p ++ negsuc 0 ∷ []) ++ ns) ih.1 ∙ sym (append_assoc (map pos p ++ negsuc 0 ∷ []) ih.0 (negsuc 0 ∷ [])))
+        let ih = open_end q qs in (
+          (map pos p ++ negsuc 0 ∷ []) ++ ih.0,
+          ap (λ ns. (map pos p ++ negsuc 0 ∷ []) ++ ns) ih.1 ∙ sym
+              (append_assoc (map pos p ++ negsuc 0 ∷ []) ih.0 (negsuc 0 ∷ [])),
+        )
 
 key-after : (pattern : List (List ℕ)) (item : ℕ) → sequence_key (after pattern item) ≡ (sequence_key pattern ++ pos item ∷ []) ++ negsuc 0 ∷ []
 key-after pattern item =
@@ -104,12 +118,18 @@ Ends-some : (pattern : List (List ℕ)) → Ends pattern → 0 < length pattern
 Ends-some [] ends = absurd (omega (arith, ends.some))
 Ends-some (items ∷ pattern) ends = omega arith
 
-IsOpen-grown : (growth : Growth) (pattern : List (List ℕ)) (item : ℕ) (key : List ℤ) → IsOpen pattern key → IsOpen (grown growth pattern item) (grown_key key growth item)
+IsOpen-grown : (growth : Growth) (pattern : List (List ℕ)) (item : ℕ) (key : List ℤ) → IsOpen pattern key
+    → IsOpen (grown growth pattern item) (grown_key key growth item)
 IsOpen-grown IntoLast pattern item key (inl none) = inr (Ends-grown IntoLast pattern item, omega (arith, length-append key (pos item ∷ [])), first)
   where
     first : sequence_key (into pattern item) ≡ (key ++ pos item ∷ []) ++ negsuc 0 ∷ []
     first = ap (λ p. sequence_key (into p item)) none.0 ∙ sym (ap (λ k. (k ++ pos item ∷ []) ++ negsuc 0 ∷ []) none.1)
-IsOpen-grown IntoLast pattern item key (inr is) = inr (Ends-grown IntoLast pattern item, omega (arith, length-append key (pos item ∷ [])), key-into pattern item key (Ends-some pattern is.0) is.2)
+IsOpen-grown IntoLast pattern item key (inr is) = inr (
+  Ends-grown IntoLast pattern item,
+  omega
+      (arith, length-append key (pos item ∷ [])),
+  key-into pattern item key (Ends-some pattern is.0) is.2,
+)
 IsOpen-grown AfterLast pattern item key (inl none) = inr (Ends-grown AfterLast pattern item, omega (arith, length-append (closed key) (pos item ∷ [])), first)
   where
     first : sequence_key (after pattern item) ≡ (closed key ++ pos item ∷ []) ++ negsuc 0 ∷ []
@@ -121,7 +141,8 @@ IsOpen-grown AfterLast pattern item key (inr is) = inr (Ends-grown AfterLast pat
 
 IsOpen-from : (pattern : List (List ℕ)) (key : List ℤ) (steps : List Step) → IsOpen pattern key → IsOpen (pattern_from pattern steps) (open_key key steps)
 IsOpen-from pattern key [] is = is
-IsOpen-from pattern key (step ∷ steps) is = IsOpen-from (grown step.growth pattern step.item.0) (grown_key key step.growth step.item.0) steps (IsOpen-grown step.growth pattern step.item.0 key is)
+IsOpen-from pattern key (step ∷ steps) is = IsOpen-from (grown step.growth pattern step.item.0) (grown_key key step.growth step.item.0) steps
+    (IsOpen-grown step.growth pattern step.item.0 key is)
 
 -- the key of steps with its end is that of their pattern
 pub closed-open_key : (steps : List Step) → 0 < length steps → closed (open_key [] steps) ≡ sequence_key (pattern_of steps)
@@ -133,7 +154,8 @@ closed-open_key steps some = by (IsOpen-from [] [] steps (inl (refl, refl)))
 
 -- ---- a step put to steps and taken back
 
-pub popped : (steps : List Step) (step : Step) (pushed left : List Step) (taken : Option Step) (n : ℕ) → pushed ≡ steps ++ step ∷ [] → pushed ≡ left ++ option_to_list taken → n ≡ length pushed → IsSome taken ↔ (0 < n) → left ≡ steps
+pub popped : (steps : List Step) (step : Step) (pushed left : List Step) (taken : Option Step) (n : ℕ) → pushed ≡ steps ++ step ∷ []
+    → pushed ≡ left ++ option_to_list taken → n ≡ length pushed → IsSome taken ↔ (0 < n) → left ≡ steps
 popped steps step pushed left None n is split size some =
     let more : 0 < n = omega (arith, size, ap length is, length-append steps (step ∷ [])) in
     absurd (false≢true (some.1 more))

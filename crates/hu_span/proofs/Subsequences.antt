@@ -1,5 +1,6 @@
 -- The subsequences of a record are the sequences of ascending itemsets that occur in it.
-use Rattle.std.proofs.Common.{◌≡◌, ℕ, ◌<◌, ◌≤◌, ◌+◌, Bool, true, false, cond, eqb, nat_lt, ℤ, ◌+ℤ◌, Option, None, Some, is_some, option_map, List, [], ◌∷◌, map, length, filter, refl, sym, ◌∙◌, subst, ◌⊎◌, inl, inr, arith, sum_by}
+use Rattle.std.proofs.Common.{◌≡◌, ℕ, ◌<◌, ◌≤◌, ◌+◌, Bool, true, false, cond, eqb, nat_lt, ℤ, ◌+ℤ◌, Option, None, Some, is_some, option_map, List, [], ◌∷◌, map}
+use Rattle.std.proofs.Common.{length, filter, refl, sym, ◌∙◌, subst, ◌⊎◌, inl, inr, arith, sum_by}
 use Rattle.std.specs.List.{AllByRecursion}
 use Rattle.std.proofs.lemmas.Bool.{and_from, or_left, or_right, eq-eqb, lt-ltb, ltb-true}
 use Rattle.std.proofs.lemmas.List.Sums.{sum_by-cons}
@@ -9,7 +10,8 @@ use Rattle.hu_kind.specs.Record.{has, holds, items_in, values_of}
 use Rattle.hu_kind.specs.Itemsets.{sublists}
 use Rattle.hu_kind.specs.Sequence.{better, best_utility, led_by, subsequences, sequence_entry, sequence_patterns, sequence_support}
 use Rattle.hu_kind.specs.Order.{Ascend}
-use Rattle.hu_kind.proofs.lemmas.Members.{Member, Member-append_cases, Member-flat_map, Member-from_flat_map, Member-map, Member-from_map, Member-filter, Member-from_filter}
+use Rattle.hu_kind.proofs.lemmas.Members.{Member, Member-append_cases, Member-flat_map, Member-from_flat_map, Member-map, Member-from_map, Member-filter}
+use Rattle.hu_kind.proofs.lemmas.Members.{Member-from_filter}
 use Rattle.hu_kind.proofs.lemmas.Occurring.{Member-sublists, at_member, counted, count-member, holds-members}
 
 -- ---- where one of two utilities is some
@@ -55,7 +57,8 @@ members-sublist [] s (inl e) = subst (λ t. AllByRecursion (λ y. Member y []) t
 members-sublist [] s (inr m) = absurd m
 members-sublist (x ∷ xs) s m = elim (Member-append_cases s (sublists xs) (map (λ r. x ∷ r) (sublists xs)) m) [
   | inl a ↦ later s (members-sublist xs s a)
-  | inr b ↦ let from = Member-from_map (λ (r : List ℕ). x ∷ r) s (sublists xs) b in subst (λ t. AllByRecursion (λ y. Member y (x ∷ xs)) t) from.2 (inl refl, later from.0 (members-sublist xs from.0 from.1))
+  | inr b ↦ let from = Member-from_map (λ (r : List ℕ). x ∷ r) s (sublists xs) b in subst (λ t. AllByRecursion (λ y. Member y (x ∷ xs)) t) from.2
+      (inl refl, later from.0 (members-sublist xs from.0 from.1))
 ]
   where
     later : (t : List ℕ) → AllByRecursion (λ y. Member y xs) t → AllByRecursion (λ y. Member y (x ∷ xs)) t
@@ -97,7 +100,8 @@ led-ascending [] pattern up all = all
 led-ascending (i ∷ is) pattern up all = ((omega arith, up), all)
 
 -- each subsequence has ascending itemsets
-pub sub-ascending : (elements : List (List (ℕ × ℤ))) (pattern : List (List ℕ)) → AreAscending elements → Member pattern (subsequences elements) → AllByRecursion IsSomeAscending pattern
+pub sub-ascending : (elements : List (List (ℕ × ℤ))) (pattern : List (List ℕ)) → AreAscending elements → Member pattern (subsequences elements)
+    → AllByRecursion IsSomeAscending pattern
 sub-ascending [] pattern up (inl e) = subst (λ p. AllByRecursion IsSomeAscending p) e tt
 sub-ascending [] pattern up (inr m) = absurd m
 sub-ascending (e ∷ es) pattern up m =
@@ -111,14 +115,17 @@ some-here : (b : Bool) (v : ℤ) (u : Option ℤ) → b ≡ true → is_some u �
 some-here true v u e h = some_map (λ x. v +ℤ x) u ∙ h
 some-here false v u e h = cc
 
-led-occurs : (s : List ℕ) (pattern : List (List ℕ)) (e : List (ℕ × ℤ)) (es : List (List (ℕ × ℤ))) → holds s e ≡ true → is_some (best_utility pattern es) ≡ true → is_some (best_utility (led_by s pattern) (e ∷ es)) ≡ true
+led-occurs : (s : List ℕ) (pattern : List (List ℕ)) (e : List (ℕ × ℤ)) (es : List (List (ℕ × ℤ))) → holds s e ≡ true → is_some (best_utility pattern es) ≡ true
+    → is_some (best_utility (led_by s pattern) (e ∷ es)) ≡ true
 led-occurs [] [] e es held some = refl
-led-occurs [] (p ∷ ps) e es held some = some_right (cond (holds p e) (option_map (λ u. values_of p e +ℤ u) (best_utility ps es)) None) (best_utility (p ∷ ps) es) some
+led-occurs [] (p ∷ ps) e es held some = some_right (cond (holds p e) (option_map (λ u. values_of p e +ℤ u) (best_utility ps es)) None)
+    (best_utility (p ∷ ps) es) some
 led-occurs (i ∷ is) pattern e es held some =
     some_left (cond (holds (i ∷ is) e) (option_map (λ u. values_of (i ∷ is) e +ℤ u) (best_utility pattern es)) None) (best_utility ((i ∷ is) ∷ pattern) es)
     (some-here (holds (i ∷ is) e) (values_of (i ∷ is) e) (best_utility pattern es) held some)
 
-pub sub-occurs : (elements : List (List (ℕ × ℤ))) (pattern : List (List ℕ)) → Member pattern (subsequences elements) → is_some (best_utility pattern elements) ≡ true
+pub sub-occurs : (elements : List (List (ℕ × ℤ))) (pattern : List (List ℕ)) → Member pattern (subsequences elements)
+    → is_some (best_utility pattern elements) ≡ true
 sub-occurs [] pattern (inl e) = subst (λ p. is_some (best_utility p []) ≡ true) e refl
 sub-occurs [] pattern (inr m) = absurd m
 sub-occurs (e ∷ es) pattern m =
@@ -139,12 +146,14 @@ led-some : (s : List ℕ) (pattern : List (List ℕ)) → 0 < length s → led_b
 led-some [] pattern some = absurd (omega arith)
 led-some (i ∷ is) pattern some = refl
 
-pub occurs-sub : (elements : List (List (ℕ × ℤ))) (pattern : List (List ℕ)) → AreAscending elements → AllByRecursion IsSomeAscending pattern → is_some (best_utility pattern elements) ≡ true → Member pattern (subsequences elements)
+pub occurs-sub : (elements : List (List (ℕ × ℤ))) (pattern : List (List ℕ)) → AreAscending elements → AllByRecursion IsSomeAscending pattern
+    → is_some (best_utility pattern elements) ≡ true → Member pattern (subsequences elements)
 occurs-sub [] [] up all some = inl refl
 occurs-sub [] (p ∷ ps) up all some = cc
 occurs-sub (e ∷ es) [] up all some =
     let whole = λ (s : List ℕ). map (led_by s) (subsequences es) in
-    Member-flat_map whole [] [] (sublists (items_in e)) (Member-sublists-none (items_in e) up.0) (Member-map (led_by []) [] (subsequences es) (occurs-sub es [] up.1 tt (nothing es)))
+    Member-flat_map whole [] [] (sublists (items_in e)) (Member-sublists-none (items_in e) up.0)
+    (Member-map (led_by []) [] (subsequences es) (occurs-sub es [] up.1 tt (nothing es)))
   where
     nothing : (ds : List (List (ℕ × ℤ))) → is_some (best_utility [] ds) ≡ true
     nothing ds = refl
@@ -166,7 +175,8 @@ size-led : (s : List ℕ) (pattern : List (List ℕ)) → sum_by length (led_by 
 size-led [] pattern = omega arith
 size-led (i ∷ is) pattern = sum_by-cons length (i ∷ is) pattern
 
-pub size-sub : (elements : List (List (ℕ × ℤ))) (pattern : List (List ℕ)) → Member pattern (subsequences elements) → sum_by length pattern ≤ sum_by length elements
+pub size-sub : (elements : List (List (ℕ × ℤ))) (pattern : List (List ℕ)) → Member pattern (subsequences elements)
+    → sum_by length pattern ≤ sum_by length elements
 size-sub [] pattern (inl e) = subst (λ (p : List (List ℕ)). sum_by length p ≤ 0) e (omega arith)
 size-sub [] pattern (inr m) = absurd m
 size-sub (e ∷ es) pattern m =
@@ -211,5 +221,6 @@ module _ (records : List (List (List (ℕ × ℤ)))) (up : AllByRecursion AreAsc
       let sub = occurs-sub found.0 pattern (at_member AreAscending found.0 records up found.1) e.itemsets found.2 in
       let kept = Member-filter (λ p. nat_lt 0 (length p)) pattern (subsequences found.0) sub (lt-ltb 0 (length pattern) e.some) in
       let m = Member-map (sequence_entry records) pattern (filter (λ p. nat_lt 0 (length p)) (subsequences found.0)) kept in
-      let m' = Member-flat_map (λ r. map (sequence_entry records) (filter (λ p. nat_lt 0 (length p)) (subsequences r))) found.0 (sequence_entry records pattern) records found.1 m in
+      let m' = Member-flat_map (λ r. map (sequence_entry records) (filter (λ p. nat_lt 0 (length p)) (subsequences r))) found.0
+      (sequence_entry records pattern) records found.1 m in
       subst (λ x. Member x (sequence_patterns records)) (sym e.is) m'

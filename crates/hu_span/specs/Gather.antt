@@ -1,44 +1,101 @@
--- The items by which a pattern can grow in a record, and the marks that gather them.
-use Rattle.std.specs.Prelude.{◌<◌, ℕ, suc, ℤ, List, [], ◌∷◌, drop, length}
-use Rattle.std.specs.List.{flat_map}
-use Rattle.std.specs.List.Sorted.{IsStrictlySortedBy}
-use Rattle.hu_kind.specs.Record.{items_in}
-use Rattle.hu_collect.specs.Laws.{SameMembers}
+-- The marks of all items by which a pattern can grow, by its places in a record.
+use Rattle.std.specs.Prelude.{◌≡◌, ◌==◌, if◌then◌else◌, ◌+◌, ◌<◌, ◌≤◌, ◌^◌, ⊤, ℕ, suc, ℤ, pos, ◌+ℤ◌, ◌-ℤ◌, ◌≤ℤ◌, ◌<ℤ◌, List, [], ◌∷◌, ◌++◌, drop, length}
+use Rattle.std.specs.List.{flat_map, AllByRecursion}
+use Rattle.std.specs.List.Sorted.{IsNonDecreasingBy}
+use Rattle.hu_kind.specs.Cell.{pairs_of}
+use Rattle.hu_kind.specs.Record.{total}
+use Rattle.hu_kind.specs.Sequence.{IsSequence}
 use Rattle.hu_chain.specs.declared.chain.Growth.{Growth}
 use Rattle.hu_chain.specs.declared.chain.Growth.TheVariants.{IntoLast, AfterLast}
 use Rattle.hu_chain.specs.declared.place.Place.{Place}
-use Rattle.hu_chain.specs.Place.{element_at}
+use Rattle.hu_chain.specs.Bound.{IsFit}
+use Rattle.hu_chain.specs.Grown.{grown, CanGrow}
+use Rattle.hu_chain.specs.Place.{element_at, totals}
+use Rattle.hu_chain.specs.Search.{best_past, left_past, IsLeft}
 use Rattle.hu_span.specs.declared.mark.Mark.{Mark}
-use Rattle.hu_span.specs.declared.row.Row.{Row}
-use Rattle.hu_span.specs.Mark.{mark_cmp, marks_from}
+use Rattle.hu_span.specs.declared.gather.Tail.{Tail}
+use Rattle.hu_span.specs.declared.gather.Walk.{Walk}
+use Rattle.hu_span.specs.Mark.{mark_at, marks_of, marks_with, places_of}
 
--- the items after a place in its element
-abbrev pub items_beside : List (List (ℕ × ℤ)) → Place → List ℕ
-items_beside elements place = items_in (drop (suc place.cell) (element_at elements place.element))
+-- the marks of the cells of an element, of which the first has a number: occurrences that end before them earn a sum, and
+-- from them on another is left
+abbrev pub tail_marks : ℕ → ℕ → ℕ → ℤ → ℤ → List (ℕ × ℤ) → List Mark
+tail_marks row e c best ahead [] = []
+tail_marks row e c best ahead (cell ∷ cells) =
+    mark_at row cell.0 (record { element = e; cell = c; best = best +ℤ cell.1; rest = ahead -ℤ cell.1 }) ∷ tail_marks row e (suc c) best (ahead -ℤ cell.1) cells
 
--- all items of elements
-abbrev pub all_items : List (List (ℕ × ℤ)) → List ℕ
-all_items elements = flat_map items_in elements
+-- those of elements, of which the first has a number, each after the best occurrence before it
+abbrev pub walk_marks : ℕ → ℕ → ℤ → ℤ → List Place → List (List (ℕ × ℤ)) → List Mark
+walk_marks row e best ahead places [] = []
+walk_marks row e best ahead places (cells ∷ later) =
+    tail_marks row e 0 best ahead cells ++ walk_marks row (suc e) (best_past e best places) (ahead -ℤ total cells) (left_past e places) later
 
--- the items in the elements after the first place
-abbrev pub items_later : List (List (ℕ × ℤ)) → List Place → List ℕ
-items_later elements [] = []
-items_later elements (place ∷ places) = all_items (drop (suc place.element) elements)
+-- the cells after a place in its element
+abbrev pub cells_after : List (List (ℕ × ℤ)) → Place → List (ℕ × ℤ)
+cells_after elements place = drop (suc place.cell) (element_at elements place.element)
 
--- the items by which a pattern can grow, by its places in a record
-abbrev pub items_after : Growth → List (List (ℕ × ℤ)) → List Place → List ℕ
-items_after IntoLast elements places = flat_map (items_beside elements) places
-items_after AfterLast elements places = items_later elements places
+-- the marks beside a place
+abbrev pub beside_marks : List (List (ℕ × ℤ)) → ℕ → Place → List Mark
+beside_marks elements row place = tail_marks row place.element (suc place.cell) place.best place.rest (cells_after elements place)
 
--- and in a row
-abbrev pub row_items : Growth → Row → List ℕ
-row_items growth row = items_after growth row.seq.now row.chain
+-- the marks in the elements after the first of places
+abbrev pub later_marks : List (List (ℕ × ℤ)) → ℕ → List Place → List Mark
+later_marks elements row [] = []
+later_marks elements row (place ∷ places) =
+    walk_marks row (suc place.element) place.best (place.rest -ℤ total (cells_after elements place)) places (drop (suc place.element) elements)
 
--- a place is that of a cell
-abbrev pub IsCellOf : List (List (ℕ × ℤ)) → Place → Type 0
-IsCellOf elements place = (place.element < length elements) × (place.cell < length (element_at elements place.element))
+-- the marks by a kind of growth
+abbrev pub row_marks : Growth → List (List (ℕ × ℤ)) → ℕ → List Place → List Mark
+row_marks IntoLast elements row places = flat_map (beside_marks elements row) places
+row_marks AfterLast elements row places = later_marks elements row places
 
--- marks in order, each once, of the items of things
-pub record AreMarks {A : Type 0} (items : A → List ℕ) (xs : List A) (marks : List Mark) : Type 0 where
-  pub sorted : IsStrictlySortedBy mark_cmp marks
-  pub same : SameMembers (marks_from items 0 xs) marks
+-- those of a record's tail and of a walk
+abbrev pub marks_in : Tail → List Mark
+marks_in tail = tail_marks tail.row tail.element tail.first tail.best tail.ahead (pairs_of tail.cells.now)
+
+abbrev pub marks_past : List (List (ℕ × ℤ)) → ℕ → Walk → List Mark
+marks_past elements first walk = walk_marks walk.row first walk.best walk.ahead (places_of walk.left.now) (drop first elements)
+
+-- a pattern may take a growth by an item; the empty one begins an itemset
+abbrev pub Begins : Growth → Type 0
+Begins IntoLast = ⊥
+Begins AfterLast = ⊤
+
+abbrev pub MayTake : Growth → List (List ℕ) → ℕ → Type 0
+MayTake growth [] item = Begins growth
+MayTake growth (items ∷ pattern) item = CanGrow growth (items ∷ pattern) item
+
+-- a mark by which a pattern may grow
+pub record IsGrowth (growth : Growth) (pattern : List (List ℕ)) (mark : Mark) : Type 0 where
+  pub may : MayTake growth pattern mark.item.0
+  pub fit : IsFit mark.place
+
+-- marks of all items by which a pattern can grow, in the order of the items: those of each are the places of the grown pattern
+pub record AreGrown (records : List (List (List (ℕ × ℤ)))) (pattern : List (List ℕ)) (growth : Growth) (marks : List Mark) : Type 0 where
+  pub sorted : IsNonDecreasingBy (λ mark. mark.item.0) marks
+  pub each : AllByRecursion (IsGrowth growth pattern) marks
+  pub places : (item : ℕ) → MayTake growth pattern item → marks_with item marks ≡ marks_of records (grown growth pattern item) item
+
+-- marks of which no sum is too large stay so
+abbrev pub StaysFit : List Mark → List Mark → Type 0
+StaysFit old new = AllByRecursion IsFit (places_of old) → AllByRecursion IsFit (places_of new)
+
+-- how many marks at the front are of a row
+abbrev pub front_of : ℕ → List Mark → ℕ
+front_of row [] = 0
+front_of row (mark ∷ marks) = if mark.row == row then suc (front_of row marks) else 0
+
+-- the rules of a tail: no value is below 0, and no sum is too large
+pub record IsTail (tail : Tail) : Type 0 where
+  pub none_below : AllByRecursion (λ cell. pos 0 ≤ℤ cell.1) (pairs_of tail.cells.now)
+  pub few : tail.first + length tail.cells.now ≤ 4096
+  pub best : pos 0 ≤ℤ tail.best
+  pub holds : total (pairs_of tail.cells.now) ≤ℤ tail.ahead
+  pub fits : (tail.best +ℤ tail.ahead) <ℤ pos (2 ^ 127)
+
+-- the rules of a walk before an element
+pub record IsWalk (elements : List (List (ℕ × ℤ))) (e : ℕ) (walk : Walk) : Type 0 where
+  pub ahead : walk.ahead ≡ totals (drop e elements)
+  pub best : pos 0 ≤ℤ walk.best
+  pub fits : (walk.best +ℤ walk.ahead) <ℤ pos (2 ^ 127)
+  pub left : AllByRecursion (IsLeft elements) (places_of walk.left.now)

@@ -1,11 +1,34 @@
 -- The entries of the patterns that grow from one.
-use Rattle.std.specs.Prelude.{◌≡◌, ◌<◌, ℕ, ℤ, List, [], ◌∷◌}
-use Rattle.std.specs.List.{Contains}
+use Rattle.std.specs.Prelude.{◌≡◌, ◌<◌, ◌^◌, ◌⊎◌, ℕ, ℤ, List, [], ◌∷◌}
+use Rattle.std.specs.List.{AllByRecursion, sum_by}
 use Rattle.hu_kind.specs.declared.entry.Entry.{Entry}
-use Rattle.hu_kind.specs.declared.item.Item.{Item}
+use Rattle.hu_kind.specs.Record.{absolute_of}
 use Rattle.hu_kind.specs.Sequence.{sequence_entry, sequence_support}
 use Rattle.hu_chain.specs.declared.chain.Growth.{Growth}
-use Rattle.hu_chain.specs.Grown.{grown, CanGrow, IsGrownFrom}
+use Rattle.hu_chain.specs.Bound.{KeepsRules}
+use Rattle.hu_chain.specs.Grown.{grown, IsGrownFrom}
+use Rattle.hu_span.specs.Gather.{MayTake}
+
+-- the views of sequence records
+abbrev pub Records : Type 0
+Records = List (List (List (ℕ × ℤ)))
+
+-- a sequence of itemsets
+abbrev pub Pattern : Type 0
+Pattern = List (List ℕ)
+
+-- records that keep their rules, and whose values sum to at most 2 ^ 127 - 1
+pub record AreRecords (records : List (List (List (ℕ × ℤ)))) : Type 0 where
+  pub rules : AllByRecursion KeepsRules records
+  pub fits : sum_by (λ elements. sum_by absolute_of elements) records < 2 ^ 127
+
+-- a pattern comes of one item by growths
+abbrev pub IsReached : List (List ℕ) → Type 0
+IsReached pattern = (item : ℕ) × IsGrownFrom ((item ∷ []) ∷ []) pattern
+
+-- it does, or it is the empty one
+abbrev pub IsBegun : List (List ℕ) → Type 0
+IsBegun pattern = (pattern ≡ []) ⊎ IsReached pattern
 
 -- an entry is that of a pattern that grows from one, in any number of steps, and occurs
 pub record Grows (records : List (List (List (ℕ × ℤ)))) (pattern : List (List ℕ)) (entry : Entry) : Type 0 where
@@ -18,11 +41,5 @@ pub record Grows (records : List (List (List (ℕ × ℤ)))) (pattern : List (Li
 pub record GrowsOn (records : List (List (List (ℕ × ℤ)))) (pattern : List (List ℕ)) (entry : Entry) : Type 0 where
   pub growth : Growth
   pub item : ℕ
-  pub can : CanGrow growth pattern item
+  pub may : MayTake growth pattern item
   pub grows : Grows records (grown growth pattern item) entry
-
--- an entry is that of a pattern that grows from one of some items, and occurs
-pub record Begins (records : List (List (List (ℕ × ℤ)))) (items : List Item) (entry : Entry) : Type 0 where
-  pub item : Item
-  pub among : Contains items item
-  pub grows : Grows records ((item.0 ∷ []) ∷ []) entry

@@ -1,8 +1,8 @@
 pub mod Step
-pub mod Row
 pub mod Mark
 pub mod Gather
-pub mod Candidate
-pub mod Makes
+pub mod Tally
 pub mod Growing
+pub mod Child
+pub mod Search
 pub mod Worked

@@ -1,32 +1,43 @@
--- Marks: which items stand in which of some things, told by their numbers.
-use Rattle.std.specs.Prelude.{◌≡◌, refl, ℕ, suc, ◌==◌, Bool, List, [], ◌∷◌, ◌++◌, map, if◌then◌else◌}
+-- Marks: the cells of an item at which a pattern ends, in records by their numbers.
+use Rattle.std.specs.Prelude.{◌≡◌, ◌<◌, ◌==◌, ℕ, suc, ℤ, Bool, List, [], ◌∷◌, ◌++◌, map, length, slice_index_or}
 use Rattle.std.specs.List.{filter}
-use Rattle.std.specs.declared.cmp.Ordering.{Ordering}
-use Rattle.std.specs.Ordering.{nat_cmp, on, then_cmp}
+use Rattle.hu_chain.specs.declared.place.Place.{Place}
+use Rattle.hu_chain.specs.Bound.{IsFit}
+use Rattle.hu_chain.specs.Place.{chain_of}
+use Rattle.hu_chain.specs.Search.{IsPlaceOf}
 use Rattle.hu_span.specs.declared.mark.Mark.{Mark}
 
--- marks by item, and then by row
-unfoldable pub mark_cmp : Mark → Mark → Ordering
-mark_cmp = then_cmp (on (λ mark. mark.item.0) nat_cmp) (on (λ mark. mark.row) nat_cmp)
+-- the mark of an item at a place in a row
+abbrev pub mark_at : ℕ → ℕ → Place → Mark
+mark_at row item place = record { item = record { 0 = item }; row = row; place = place }
 
--- the mark of an item in a row
-abbrev pub mark_of : ℕ → ℕ → Mark
-mark_of row item = record { item = record { 0 = item }; row = row }
+-- whether a mark is of an item
+abbrev pub is_of : ℕ → Mark → Bool
+is_of item mark = item == mark.item.0
 
--- the marks of the items of things, of which the first has a number
-abbrev pub marks_from : {A : Type 0} → (A → List ℕ) → ℕ → List A → List Mark
-marks_from items row [] = []
-marks_from items row (x ∷ xs) = map (mark_of row) (items x) ++ marks_from items (suc row) xs
+-- the marks of an item
+abbrev pub marks_with : ℕ → List Mark → List Mark
+marks_with item marks = filter (is_of item) marks
 
--- the rows of an item's marks
-abbrev pub rows_with : ℕ → List Mark → List ℕ
-rows_with item marks = map (λ mark. mark.row) (filter (λ mark. mark.item.0 == item) marks)
+-- the places of marks
+abbrev pub places_of : List Mark → List Place
+places_of marks = map (λ mark. mark.place) marks
 
--- the numbers of those things that pass a test, of which the first has a number
-abbrev pub numbers_where : {A : Type 0} → (A → Bool) → ℕ → List A → List ℕ
-numbers_where test row [] = []
-numbers_where test row (x ∷ xs) = (if test x then row ∷ [] else []) ++ numbers_where test (suc row) xs
+-- the places of a pattern that ends with an item, as marks, in records of which the first has a number
+abbrev pub marks_from : List (List ℕ) → ℕ → ℕ → List (List (List (ℕ × ℤ))) → List Mark
+marks_from pattern item row [] = []
+marks_from pattern item row (r ∷ rs) = map (mark_at row item) (chain_of pattern r) ++ marks_from pattern item (suc row) rs
 
--- the rows 0 and 1 with the items 4, 2 and 2, 2
-pub marks_of_two : marks_from (λ items. items) 0 ((4 ∷ 2 ∷ []) ∷ (2 ∷ 2 ∷ []) ∷ []) ≡ mark_of 0 4 ∷ mark_of 0 2 ∷ mark_of 1 2 ∷ mark_of 1 2 ∷ []
-marks_of_two = refl
+-- and in all records
+abbrev pub marks_of : List (List (List (ℕ × ℤ))) → List (List ℕ) → ℕ → List Mark
+marks_of records pattern item = marks_from pattern item 0 records
+
+-- a record, by its number
+abbrev pub record_at : List (List (List (ℕ × ℤ))) → ℕ → List (List (ℕ × ℤ))
+record_at records row = slice_index_or records row []
+
+-- a mark of an item stands at its cell in one of the records, and no sum there is too large
+pub record IsMark (records : List (List (List (ℕ × ℤ)))) (item : ℕ) (mark : Mark) : Type 0 where
+  pub within : mark.row < length records
+  pub place : IsPlaceOf (record_at records mark.row) item mark.place
+  pub fit : IsFit mark.place

@@ -1,14 +1,15 @@
--- Worked rows: steps, and the items by which a pattern can grow, by computation.
-use Rattle.std.specs.Prelude.{◌≡◌, ℕ, pos, negsuc, List, [], ◌∷◌, refl}
+-- Worked rows: steps, and the marks by which a pattern can grow, by computation.
+use Rattle.std.specs.Prelude.{◌≡◌, ℕ, pos, negsuc, List, [], ◌∷◌, map, refl}
 use Rattle.hu_kind.specs.Sequence.{sequence_key}
 use Rattle.hu_chain.specs.declared.chain.Growth.{Growth}
 use Rattle.hu_chain.specs.declared.chain.Growth.TheVariants.{IntoLast, AfterLast}
 use Rattle.hu_chain.specs.Place.{chain_of}
-use Rattle.hu_chain.specs.Worked.{one, several_places, whole_record}
+use Rattle.hu_chain.specs.Worked.{one, place_of, several_places, whole_record}
 use Rattle.hu_span.specs.declared.step.Step.{Step}
-use Rattle.hu_span.specs.Candidate.{occurring}
-use Rattle.hu_span.specs.Gather.{items_after}
+use Rattle.hu_span.specs.Gather.{row_marks}
+use Rattle.hu_span.specs.Mark.{mark_at, marks_of}
 use Rattle.hu_span.specs.Step.{closed, open_key, pattern_of}
+use Rattle.hu_span.specs.Tally.{bests_of, reaches_of, told}
 
 -- a step
 abbrev pub step_of : Growth → ℕ → Step
@@ -27,21 +28,23 @@ key_of_steps = refl
 pub same_key : closed (open_key [] three_steps) ≡ sequence_key (pattern_of three_steps)
 same_key = refl
 
--- in `1[1] 4[12] -1 3[20] -1 2[4] -1 5[1] 7[2] -1` the pattern `1 -1` grows into its last itemset by 4, and after it by
--- 3, 2, 5 and 7
-pub into_one : items_after IntoLast whole_record (chain_of one whole_record) ≡ 4 ∷ []
+-- in `1[1] 4[12] -1 3[20] -1 2[4] -1 5[1] 7[2] -1` the pattern `1 -1` grows into its last itemset by 4
+pub into_one : row_marks IntoLast whole_record 0 (chain_of one whole_record) ≡ mark_at 0 4 (place_of 0 1 13 27) ∷ []
 into_one = refl
 
-pub after_one : items_after AfterLast whole_record (chain_of one whole_record) ≡ 3 ∷ 2 ∷ 5 ∷ 7 ∷ []
+-- and after it by 3, 2, 5 and 7
+pub after_one : row_marks AfterLast whole_record 0 (chain_of one whole_record)
+    ≡ mark_at 0 3 (place_of 1 0 21 7) ∷ mark_at 0 2 (place_of 2 0 5 3) ∷ mark_at 0 5 (place_of 3 0 2 2) ∷ mark_at 0 7 (place_of 3 1 3 0) ∷ []
 after_one = refl
 
--- in `1[9] -1 2[1] -1 1[2] -1 3[8] -1` it grows after its first place, by itself too
-pub after_first_place : items_after AfterLast several_places (chain_of one several_places) ≡ 2 ∷ 1 ∷ 3 ∷ []
+-- in `1[9] -1 2[1] -1 1[2] -1 3[8] -1` it grows after its first place, by itself too, each after the best place before
+pub after_first_place : row_marks AfterLast several_places 0 (chain_of one several_places)
+    ≡ mark_at 0 2 (place_of 1 0 10 10) ∷ mark_at 0 1 (place_of 2 0 11 8) ∷ mark_at 0 3 (place_of 3 0 17 0) ∷ []
 after_first_place = refl
 
--- `1 -1 4 -1` occurs in none of the two, and `1 4 -1` in the second
-pub nowhere : occurring ((1 ∷ []) ∷ (4 ∷ []) ∷ []) (several_places ∷ whole_record ∷ []) ≡ []
-nowhere = refl
+-- in the two together it earns 9 and 1, and what grows from it at most 20 and 40
+pub told_of_one : bests_of (told (marks_of (several_places ∷ whole_record ∷ []) one 1)) ≡ pos 10
+told_of_one = refl
 
-pub in_second : occurring ((1 ∷ 4 ∷ []) ∷ []) (several_places ∷ whole_record ∷ []) ≡ 1 ∷ []
-in_second = refl
+pub bound_of_one : reaches_of (told (marks_of (several_places ∷ whole_record ∷ []) one 1)) ≡ pos 60
+bound_of_one = refl

@@ -1,115 +1,274 @@
-//! Which items a pattern can grow by, gathered from its rows in one pass.
+//! The marks of all items by which a pattern can grow, gathered in one pass over its places.
 
-ghost use Rattle.std.specs.Prelude.{◌≡◌, ◌+◌, ℕ, ◌++◌, List, map, drop, IfOk, OnOk};
+ghost use Rattle.std.specs.Prelude.{◌≡◌, ◌++◌, ◌^◌, ◌-ℤ◌, ◌≤ℤ◌, ◌<ℤ◌, ℕ, pos, [], ◌∷◌, IfOk, OnOk};
 ghost use Rattle.std.specs.List.{AllByRecursion};
 ghost use Rattle.hu_kind.specs.Cell.{pairs_of};
-ghost use Rattle.hu_kind.specs.Record.{IsItemset};
-ghost use Rattle.hu_chain.specs.Place.{element_at};
-ghost use Rattle.hu_chain.specs.Bound.{KeepsRules};
-ghost use Rattle.hu_span.specs.Mark.{mark_of};
-ghost use Rattle.hu_span.specs.Row.{IsLevel};
-ghost use Rattle.hu_span.specs.Gather.{all_items, items_after, row_items, AreMarks, IsCellOf};
+ghost use Rattle.hu_kind.specs.Record.{total};
+ghost use Rattle.hu_chain.specs.Bound.{KeepsRules, IsFit};
+ghost use Rattle.hu_chain.specs.Pattern.{last_item};
+ghost use Rattle.hu_chain.specs.Search.{best_past, left_past, IsPlaceOf};
+ghost use Rattle.hu_span.specs.Child.{ArePlaces};
+ghost use Rattle.hu_span.specs.Gather.{AreGrown, IsTail, IsWalk, StaysFit, beside_marks, cells_after, front_of, later_marks, marks_in, marks_past};
+ghost use Rattle.hu_span.specs.Growing.{IsReached, Pattern};
+ghost use Rattle.hu_span.specs.Mark.{places_of};
 
-use crate::mark::{Mark, in_order, push_marks};
-use crate::row::Row;
+use crate::mark::{Mark, by_item};
 use hu_chain::{Growth, Place};
-use hu_kind::{Cell, Element, NoMemory, SeqRecord};
+use hu_kind::{Absolute, Cell, Element, NoMemory, SeqRecord};
 use std::alloc::Global;
 
-/// The marks of all items of records.
-pub(crate) fn record_marks(alloc: Global, records: &[SeqRecord]) -> Result<Vec<Mark>, NoMemory>
-    ensures marks { IfOk result (λ marks. AreMarks all_items records.now marks.items) }
+/// The marks of all items of records, in the order of the items.
+pub(crate) fn first_marks(alloc: Global, records: &[SeqRecord]) -> Result<Vec<Mark>, NoMemory>
+    ensures marks { IfOk result (λ marks. AreGrown records.now [] Growth.AfterLast marks.items) }
     ensures rules { IfOk result (λ _. AllByRecursion KeepsRules records.now) }
 {
     let mut marks = Vec::new(alloc);
-    'records: for (number, record) in records.iter().enumerate() {
-        push_elements(&mut marks, record.elements(), number)?;
+    'records: for (row, record) in records.iter().enumerate() {
+        let walk = Walk {
+            row,
+            best: 0,
+            ahead: record.absolute(),
+            left: &[],
+        };
+        push_walk(&mut marks, record.elements(), 0, walk)?;
     }
-    Ok(in_order(marks))
+    by_item(&mut marks)?;
+    Ok(marks)
 }
 
-/// The marks of the items by which the pattern of rows can grow.
-pub(crate) fn row_marks(
+/// The marks of a pattern with an item more in its last itemset, in the order of the items.
+pub(crate) fn marks_into(
     alloc: Global,
-    rows: &[Row<'_>],
-    growth: Growth,
+    records: &[SeqRecord],
+    marks: &[Mark],
 ) -> Result<Vec<Mark>, NoMemory>
-    requires { (pattern : List (List ℕ)) × IsLevel pattern rows.now }
-    ensures { IfOk result (λ marks. AreMarks (row_items growth) rows.now marks.items) }
+    requires rules { AllByRecursion KeepsRules records.now }
+    requires places { (p : Pattern) × IsReached p
+        × ArePlaces records.now p (last_item p) marks.now }
+    ensures { (p : Pattern) → IsReached p → ArePlaces records.now p (last_item p) marks.now
+        → IfOk result (λ grown. AreGrown records.now p Growth.IntoLast grown.items) }
 {
-    let mut marks = Vec::new(alloc);
-    'rows: for (number, row) in rows.iter().enumerate() {
-        push_row(&mut marks, row, growth, number)?;
+    let mut grown = Vec::new(alloc);
+    'marks: for mark in marks {
+        push_beside(&mut grown, records[mark.row].elements(), mark)?;
     }
-    Ok(in_order(marks))
+    by_item(&mut grown)?;
+    Ok(grown)
 }
 
-/// Appends the marks of the items by which the pattern of a row can grow there.
-fn push_row(
-    marks: &mut Vec<Mark>,
-    row: &Row<'_>,
-    growth: Growth,
-    number: usize,
-) -> Result<(), NoMemory>
-    requires { AllByRecursion (IsCellOf row.now.seq.now) row.now.chain }
-    ensures { OnOk result (marks.new.items ≡ marks.old.items ++ map (mark_of number) (row_items growth row.now)) }
+/// The marks of a pattern with an item in a new last itemset, in the order of the items.
+pub(crate) fn marks_after(
+    alloc: Global,
+    records: &[SeqRecord],
+    marks: &[Mark],
+) -> Result<Vec<Mark>, NoMemory>
+    requires rules { AllByRecursion KeepsRules records.now }
+    requires places { (p : Pattern) × IsReached p
+        × ArePlaces records.now p (last_item p) marks.now }
+    ensures { (p : Pattern) → IsReached p → ArePlaces records.now p (last_item p) marks.now
+        → IfOk result (λ grown. AreGrown records.now p Growth.AfterLast grown.items) }
 {
-    let elements = row.seq.elements();
-    let places = row.chain.places();
-    match growth {
-        Growth::IntoLast => push_beside(marks, elements, places, number),
-        Growth::AfterLast => push_later(marks, elements, places, number),
+    let mut grown = Vec::new(alloc);
+    let mut left = marks;
+    'rows: while let Some((first, later)) = left.split_first() {
+        let (row, next) = later.split_at(row_len(later, first.row));
+        push_later(&mut grown, records[first.row].elements(), first, row)?;
+        left = next;
     }
+    by_item(&mut grown)?;
+    Ok(grown)
 }
 
-/// Appends the marks of the items after places in their elements.
-fn push_beside(
+/// How many marks at the front are of a row.
+fn row_len(marks: &[Mark], row: usize) -> usize
+    ensures { result ≡ front_of row marks.now }
+{
+    for (number, mark) in marks.iter().enumerate() {
+        if mark.row != row {
+            return number;
+        }
+    }
+    marks.len()
+}
+
+/// Appends the marks of the cells after a mark in its element.
+fn push_beside(marks: &mut Vec<Mark>, elements: &[Element], mark: &Mark) -> Result<(), NoMemory>
+    requires rules { KeepsRules elements.now }
+    requires place { (last : ℕ) × IsPlaceOf elements.now last mark.now.place }
+    requires fit { IsFit mark.now.place }
+    ensures marks { OnOk result (marks.new.items
+        ≡ marks.old.items ++ beside_marks elements.now mark.now.row mark.now.place) }
+    ensures fit { OnOk result (StaysFit marks.old.items marks.new.items) }
+{
+    let place = mark.place;
+    let tail = Tail {
+        row: mark.row,
+        element: place.element,
+        first: place.cell + 1,
+        cells: cells_after(elements, place),
+        best: place.best,
+        ahead: place.rest,
+    };
+    push_tail(marks, tail)?;
+    Ok(())
+}
+
+/// Appends the marks of the cells after the element of the first mark of a row, of which others are left.
+fn push_later(
     marks: &mut Vec<Mark>,
     elements: &[Element],
-    places: &[Place],
-    number: usize,
+    first: &Mark,
+    left: &[Mark],
 ) -> Result<(), NoMemory>
-    requires { AllByRecursion (IsCellOf elements.now) places.now }
-    ensures { OnOk result (marks.new.items ≡ marks.old.items ++ map (mark_of number) (items_after Growth.IntoLast elements.now places.now)) }
+    requires rules { KeepsRules elements.now }
+    requires places { (last : ℕ)
+        × AllByRecursion (IsPlaceOf elements.now last) (places_of (first.now ∷ left.now)) }
+    requires fit { AllByRecursion IsFit (places_of (first.now ∷ left.now)) }
+    ensures marks { OnOk result (marks.new.items
+        ≡ marks.old.items
+        ++ later_marks elements.now first.now.row (places_of (first.now ∷ left.now))) }
+    ensures fit { OnOk result (StaysFit marks.old.items marks.new.items) }
 {
-    for place in places {
-        push_marks(marks, cells_after(elements, *place), number)?;
-    }
-    Ok(())
+    let place = first.place;
+    let walk = Walk {
+        row: first.row,
+        best: place.best,
+        ahead: place.rest - total(cells_after(elements, place)),
+        left,
+    };
+    push_walk(marks, elements, place.element as usize + 1, walk)
 }
 
 /// The cells after a place in its element.
 fn cells_after(elements: &[Element], place: Place) -> &[Cell]
-    requires { IsCellOf elements.now place }
-    ensures { pairs_of result.now ≡ drop (place.cell + 1) (element_at elements.now place.element) }
+    requires { (last : ℕ) × IsPlaceOf elements.now last place }
+    ensures { pairs_of result.now ≡ cells_after elements.now place }
 {
     let cells = elements[place.element as usize].cells();
     &cells[place.cell as usize + 1..]
 }
 
-/// Appends the marks of the items in the elements after the first place.
-fn push_later(
-    marks: &mut Vec<Mark>,
-    elements: &[Element],
-    places: &[Place],
-    number: usize,
-) -> Result<(), NoMemory>
-    requires { AllByRecursion (IsCellOf elements.now) places.now }
-    ensures { OnOk result (marks.new.items ≡ marks.old.items ++ map (mark_of number) (items_after Growth.AfterLast elements.now places.now)) }
+/// The sum of the values of cells.
+fn total(cells: &[Cell]) -> i128
+    requires none_below { AllByRecursion (λ cell. pos 0 ≤ℤ cell.1) (pairs_of cells.now) }
+    requires fits { total (pairs_of cells.now) <ℤ pos (2 ^ 127) }
+    ensures { result ≡ total (pairs_of cells.now) }
 {
-    match places.first() {
-        Some(first) => push_elements(marks, &elements[first.element as usize + 1..], number),
-        None => Ok(()),
+    let mut sum = 0;
+    for cell in cells {
+        sum += cell.value;
+    }
+    sum
+}
+
+/// What is known of a record before one of its elements.
+#[derive(Clone, Copy)]
+struct Walk<'a> {
+    /// The record's number.
+    row: usize,
+    /// The greatest utility of an occurrence that ends before the element.
+    best: i128,
+    /// The sum of all values from the element on.
+    ahead: i128,
+    /// The marks that aren't before the element.
+    left: &'a [Mark],
+}
+
+impl<'a> Walk<'a> {
+    /// The walk after an element, with the sum that is left then.
+    fn past(&self, element: u32, ahead: i128) -> Walk<'a>
+        ensures row { result.row ≡ self.now.row }
+        ensures best { result.best ≡ best_past element self.now.best (places_of self.now.left.now) }
+        ensures left { places_of result.left.now ≡ left_past element (places_of self.now.left.now) }
+        ensures ahead { result.ahead ≡ ahead }
+    {
+        match self.left.split_first() {
+            Some((mark, left)) if element == mark.place.element => Walk {
+                row: self.row,
+                best: self.best.max(mark.place.best),
+                ahead,
+                left,
+            },
+            _ => Walk {
+                row: self.row,
+                best: self.best,
+                ahead,
+                left: self.left,
+            },
+        }
     }
 }
 
-/// Appends the marks of all items of elements.
-fn push_elements(marks: &mut Vec<Mark>, elements: &[Element], number: usize) -> Result<(), NoMemory>
-    ensures value { OnOk result (marks.new.items ≡ marks.old.items ++ map (mark_of number) (all_items elements.now)) }
-    ensures rules { OnOk result (AllByRecursion IsItemset elements.now) }
+/// Appends the marks of all cells of the elements from one on, each after the best occurrence before its element. An
+/// element whose number is no `u32` is answered by want of memory, which so many elements would meet before.
+fn push_walk(
+    marks: &mut Vec<Mark>,
+    elements: &[Element],
+    first: usize,
+    walk: Walk<'_>,
+) -> Result<(), NoMemory>
+    requires rules { KeepsRules elements.now }
+    requires walk { IsWalk elements.now first walk }
+    ensures marks { OnOk result (marks.new.items
+        ≡ marks.old.items ++ marks_past elements.now first walk.entry) }
+    ensures fit { OnOk result (StaysFit marks.old.items marks.new.items) }
 {
-    for element in elements {
-        push_marks(marks, element.cells(), number)?;
+    let mut walk = walk;
+    'elements: for number in first..elements.len() {
+        let Ok(element) = u32::try_from(number) else {
+            return Err(NoMemory);
+        };
+        let tail = Tail {
+            row: walk.row,
+            element,
+            first: 0,
+            cells: elements[number].cells(),
+            best: walk.best,
+            ahead: walk.ahead,
+        };
+        let ahead = push_tail(marks, tail)?;
+        walk = walk.past(element, ahead);
     }
     Ok(())
+}
+
+/// The cells of an element from one on, with what is known before them.
+#[derive(Clone, Copy)]
+struct Tail<'a> {
+    /// The record's number.
+    row: usize,
+    /// The element's number.
+    element: u32,
+    /// The number of the first of the cells.
+    first: u32,
+    cells: &'a [Cell],
+    /// The greatest utility of an occurrence that ends before them.
+    best: i128,
+    /// The sum of all values from them on, in the element and in the later ones.
+    ahead: i128,
+}
+
+/// Appends a mark for each cell of a tail. Answers the sum that is left after them.
+fn push_tail(marks: &mut Vec<Mark>, tail: Tail<'_>) -> Result<i128, NoMemory>
+    requires { IsTail tail }
+    ensures marks { IfOk result (λ _. marks.new.items ≡ marks.old.items ++ marks_in tail.entry) }
+    ensures fit { IfOk result (λ _. StaysFit marks.old.items marks.new.items) }
+    ensures rest { IfOk result
+        (λ rest. rest ≡ tail.entry.ahead -ℤ total (pairs_of tail.entry.cells.now)) }
+{
+    let mut rest = tail.ahead;
+    'cells: for (number, cell) in tail.cells.iter().enumerate() {
+        rest -= cell.value;
+        marks.push(Mark {
+            item: cell.item,
+            row: tail.row,
+            place: Place {
+                element: tail.element,
+                cell: tail.first + number as u32,
+                best: tail.best + cell.value,
+                rest,
+            },
+        })?;
+    }
+    Ok(rest)
 }

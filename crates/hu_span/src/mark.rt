@@ -1,48 +1,34 @@
-//! Marks: which items stand in which rows. They are gathered row by row and then put in order, so that those of an item
-//! stand side by side.
+//! Marks: the cells at which a pattern ends with an item more. Those of an item are the places of its chains.
 
-ghost use Rattle.std.specs.Prelude.{◌≡◌, ◌++◌, ◌<◌, ◌≤◌, length, map, filter, ◌==◌, IfOk, OnOk};
-ghost use Rattle.std.specs.List.Sorted.{IsPartitionPoint, IsStrictlySortedBy};
-ghost use Rattle.hu_kind.specs.Cell.{pairs_of};
-ghost use Rattle.hu_kind.specs.Record.{items_in};
+ghost use Rattle.std.specs.Prelude.{◌≡◌, ◌<◌, ◌≤◌, ℕ, length, map, IfOk, OnOk};
+ghost use Rattle.std.specs.List.Sorted.{IsNonDecreasingBy, IsPartitionPoint, IsPermutation};
 ghost use Rattle.hu_collect.specs.Laws.{SameMembers};
-ghost use Rattle.hu_span.specs.Mark.{mark_cmp, mark_of, rows_with};
+ghost use Rattle.hu_span.specs.Mark.{marks_with};
 
-use hu_kind::{Cell, Item, NoMemory};
+use hu_chain::Place;
+use hu_kind::{Item, NoMemory};
 use std::alloc::Global;
 
-/// An item that stands in a row, by the row's number.
-#[derive(Clone, Copy, Debug, PartialEq, Eq, PartialOrd, Ord)]
+/// A cell of an item at which a pattern ends, in a record by its number.
+#[derive(Clone, Copy, Debug, PartialEq, Eq)]
 pub(crate) struct Mark {
     pub item: Item,
     pub row: usize,
+    pub place: Place,
 }
 
-/// Appends a mark for each cell.
-pub(crate) fn push_marks(marks: &mut Vec<Mark>, cells: &[Cell], row: usize) -> Result<(), NoMemory>
-    ensures { OnOk result (marks.new.items ≡ marks.old.items ++ map (mark_of row) (items_in (pairs_of cells.now))) }
+/// Puts marks in the order of their items. Those of an item stay as they stand.
+pub(crate) fn by_item(marks: &mut Vec<Mark>) -> Result<(), NoMemory>
+    ensures sorted { OnOk result (IsNonDecreasingBy (λ mark. mark.item.0) marks.new.items) }
+    ensures same { OnOk result (IsPermutation marks.old.items marks.new.items) }
+    ensures each { OnOk result
+        ((item : ℕ) → marks_with item marks.new.items ≡ marks_with item marks.old.items) }
 {
-    for cell in cells {
-        marks.push(Mark {
-            item: cell.item,
-            row,
-        })?;
-    }
+    marks.sort_by_key(|mark| mark.item.0)?;
     Ok(())
 }
 
-/// The same marks in order, each once.
-pub(crate) fn in_order(marks: Vec<Mark>) -> Vec<Mark>
-    ensures sorted { IsStrictlySortedBy mark_cmp result.items }
-    ensures same { SameMembers marks.items result.items }
-{
-    let mut marks = marks;
-    marks.sort_unstable();
-    marks.dedup();
-    marks
-}
-
-/// The items of marks in order, each once.
+/// The items of marks that are in order, each once.
 pub(crate) fn items_of(alloc: Global, marks: &[Mark]) -> Result<Vec<Item>, NoMemory>
     ensures { IfOk result (λ items. SameMembers (map (λ mark. mark.item) marks.now) items.items) }
 {
@@ -54,22 +40,10 @@ pub(crate) fn items_of(alloc: Global, marks: &[Mark]) -> Result<Vec<Item>, NoMem
     Ok(items)
 }
 
-/// The rows of an item's marks, which are looked for by halves.
-pub(crate) fn rows_of(alloc: Global, marks: &[Mark], item: Item) -> Result<Vec<usize>, NoMemory>
-    requires { IsStrictlySortedBy mark_cmp marks.now }
-    ensures { IfOk result (λ rows. rows.items ≡ rows_with item.0 marks.now) }
-{
-    let mut rows = Vec::new(alloc);
-    for mark in run_of(marks, item) {
-        rows.push(mark.row)?;
-    }
-    Ok(rows)
-}
-
-/// The marks of an item.
-fn run_of(marks: &[Mark], item: Item) -> &[Mark]
-    requires { IsStrictlySortedBy mark_cmp marks.now }
-    ensures { result.now ≡ filter (λ mark. mark.item.0 == item.0) marks.now }
+/// The marks of an item, which are looked for by halves.
+pub(crate) fn run_of(marks: &[Mark], item: Item) -> &[Mark]
+    requires { IsNonDecreasingBy (λ mark. mark.item.0) marks.now }
+    ensures { result.now ≡ marks_with item.0 marks.now }
 {
     let from = marks_below(marks, item);
     let upto = marks_upto(marks, item);
@@ -78,8 +52,9 @@ fn run_of(marks: &[Mark], item: Item) -> &[Mark]
 
 /// How many marks are of smaller items.
 fn marks_below(marks: &[Mark], item: Item) -> usize
-    requires { IsStrictlySortedBy mark_cmp marks.now }
-    ensures splits { IsPartitionPoint (λ mark. mark.item.0 < item.0) (λ mark. item.0 ≤ mark.item.0) marks.now result }
+    requires { IsNonDecreasingBy (λ mark. mark.item.0) marks.now }
+    ensures splits { IsPartitionPoint (λ m. m.item.0 < item.0)
+        (λ m. item.0 ≤ m.item.0) marks.now result }
     ensures within { result ≤ length marks.now }
 {
     marks.partition_point(|mark| mark.item.0 < item.0)
@@ -87,8 +62,9 @@ fn marks_below(marks: &[Mark], item: Item) -> usize
 
 /// How many marks are of the item or smaller ones.
 fn marks_upto(marks: &[Mark], item: Item) -> usize
-    requires { IsStrictlySortedBy mark_cmp marks.now }
-    ensures splits { IsPartitionPoint (λ mark. mark.item.0 ≤ item.0) (λ mark. item.0 < mark.item.0) marks.now result }
+    requires { IsNonDecreasingBy (λ mark. mark.item.0) marks.now }
+    ensures splits { IsPartitionPoint (λ m. m.item.0 ≤ item.0)
+        (λ m. item.0 < m.item.0) marks.now result }
     ensures within { result ≤ length marks.now }
 {
     marks.partition_point(|mark| mark.item.0 <= item.0)

@@ -1,7 +1,6 @@
 use Rattle.std.proofs.Common.{ltb, rules}
 use Rattle.std.proofs.lemmas.List.Sorted.{IsPartitionPoint-from_clause, IsPartitionedBy-ltb}
 use Rattle.std.proofs.lemmas.Bool.{ltb-true, ltb-false}
-use Rattle.hu_span.proofs.MarkLemmas.{IsNonDecreasingBy-marks}
 use Rattle.hu_span.proofs.mark.marks_below.Goals as goal
 
 pub returns-clause-splits : goal.returns-clause-splits
@@ -9,6 +8,6 @@ returns-clause-splits c =
     let marks = c.args.marks.now in
     let number = c.args.item.0 in
     let split = IsPartitionPoint-from_clause (λ mark. ltb mark.item.0 number) marks c.partition_point.result c.partition_point.ensures.partitioned
-    (IsPartitionedBy-ltb (λ mark. mark.item.0) marks number (IsNonDecreasingBy-marks marks c.requires))
+    (IsPartitionedBy-ltb (λ mark. mark.item.0) marks number c.requires)
     (λ a r f' called. search rules) in
     (λ k d low high. ltb-true _ number (split.0 k d low high), λ k d low high. ltb-false _ number (split.1 k d low high))

@@ -1,154 +1,163 @@
-use Rattle.std.proofs.Common.{rules, ◌∙◌, ◌<◌, ◌-◌, ◌<ℤ◌, length, sym, refl, ap, subst, arith, vec_len}
+use Rattle.std.proofs.Common.{rules, ◌≡◌, ◌<◌, ◌≤◌, ◌+◌, ◌-◌, ◌*◌, ◌<ℤ◌, pos, [], ◌∷◌, ◌++◌, length, length-append, get_or, refl, sym, ap, ◌∙◌, subst, arith}
+use Rattle.std.proofs.Common.{inl, inr}
 use Rattle.std.proofs.lemmas.Int.{ints}
-use Rattle.hu_collect.specs.Rule.{floor_of, IsKept}
-use Rattle.hu_span.specs.Candidate.{AreCandidates}
-use Rattle.hu_span.specs.Row.{sequences_of, IsLevel}
+use Rattle.hu_kind.specs.Sequence.{sequence_support}
+use Rattle.hu_collect.specs.State.{floor_in, IsInOrder, Reached, ReachedSome}
+use Rattle.hu_collect.proofs.lemmas.Searching.{stopped}
+use Rattle.hu_chain.specs.declared.chain.Growth.TheVariants.{IntoLast, AfterLast}
+use Rattle.hu_chain.specs.Pattern.{last_item}
+use Rattle.hu_chain.proofs.lemmas.Patterns.{last_item-grown}
+use Rattle.hu_span.specs.declared.child.Child.{Child}
+use Rattle.hu_span.specs.Child.{stepped, ArePlaces, IsChild, IsGathered}
+use Rattle.hu_span.specs.Gather.{AreGrown}
+use Rattle.hu_span.specs.Growing.{AreRecords, GrowsOn, IsBegun, IsReached}
+use Rattle.hu_span.specs.Search.{IsSoFar}
 use Rattle.hu_span.specs.Step.{pattern_of}
-use Rattle.hu_span.proofs.CandidateLemmas.{candidate-fits}
-use Rattle.hu_span.proofs.SearchLemmas.{among-none, Through}
-use Rattle.hu_span.proofs.StepLemmas.{on_err, popped}
-use Rattle.hu_span.proofs.TurnLemmas.{all-found, cut, is-candidate, next-made, next-some, opened-some, pushed-fewer, pushed-level, pushed-some, stopped}
+use Rattle.hu_span.proofs.ReachLemmas.{grown-reached, steps-few}
+use Rattle.hu_span.proofs.SearchLemmas.{so_far-none, so_far-ordered, so_far-all, so_far-next, so_far-some, turn-child}
+use Rattle.hu_span.proofs.StepLemmas.{pattern_of-push}
 use Rattle.hu_span.proofs.search.+search.Goals as goal
 
-pub found-init : goal.found-init
-found-init g t c = record {
-  rule = refl;
-  steps = refl;
-  made = among-none (Through (sequences_of c.args.rows.now) (pattern_of c.args.steps.now.items)) c.law_of_turns.ensures c.law_of_floors.ensures ((g.C.Collect.state c.args.collect.now).rule) ((g.C.Collect.state c.args.collect.now).content) c.args.found.now c.requires.kept;
+no_child : Child
+no_child = record {
+  step = record { growth = IntoLast; item = record { 0 = 0 } };
+  marks = record { ref_ptr = (0, 0); now = [] };
+  utility = pos 0;
+  support =
+      0;
+  bound = pos 0;
 }
 
-pub found-preserved-then-candidate-floor : goal.found-preserved-then-candidate-floor
-found-preserved-then-candidate-floor g t c =
-    let is = is-candidate c.law_of_turns.ensures c.law_of_floors.ensures c.args.rows.now c.args.found.now c.args.steps.now.items c.requires.level ((g.C.Collect.state c.args.collect.now).rule) ((g.C.Collect.state c.args.collect.now).content)
-    c.requires.candidates c.found.candidate-index c.candidate-item.result c.found-test.true c.candidate-item.is
-    ((g.C.Collect.state c.found.collect).rule) ((g.C.Collect.state c.found.collect).content) c.found.steps.items c.found.invariant.rule c.found.invariant.steps c.found.invariant.made in
-    let fits = candidate-fits (pattern_of c.args.steps.now.items) c.args.rows.now c.candidate-item.result c.requires.level is in
-    let low : c.candidate-item.result.bound <ℤ floor_of ((g.C.Collect.state c.found.collect).rule) ((g.C.Collect.state c.found.collect).content) =
-    omega (arith, ints, c.floor.ensures.value, c.floor.type_inv, c.if-candidate-floor.true, fits.0, fits.1) in
+pub search-children-init : goal.search-children-init
+search-children-init g t c = record {
+  steps = c.in_ok-children.ensures.steps;
+  made = subst (λ ks. IsSoFar (g.C.Collect.state c.args.collect.now) (g.C.Collect.state c.open_children.new.collect) c.args.records.now
+      (pattern_of c.args.steps.now.items) ks 0) (sym c.deref-child-items.ensures.value)
+      (so_far-none c.args.records.now (pattern_of c.args.steps.now.items) c.requires.into.are c.requires.into.begun
+      (c.in_ok-children.ensures.made c.args.records.now c.requires.into c.requires.after));
+}
+
+pub search-returns-then-child-floor-clause-made : goal.search-returns-then-child-floor-clause-made
+unfolding no_child
+search-returns-then-child-floor-clause-made g t c =
+    let d = no_child in
+    let low : (get_or c.deref-child-items.result.now c.children.child-index d).bound <ℤ floor_in (g.C.Collect.state c.children.collect) =
+    omega (arith, ints, c.floor.ensures.value, c.if-child-floor.true, c.floor.type_inv) in
+    so_far-all c.args.records.now (pattern_of c.args.steps.now.items) c.requires.into.are c.requires.into.begun c.requires.ordered c.children.invariant.made d
+    (inr low)
+
+pub search-returns-clause-made : goal.search-returns-clause-made
+search-returns-clause-made g t c =
+    so_far-all c.args.records.now
+    (pattern_of c.args.steps.now.items) c.requires.into.are c.requires.into.begun c.requires.ordered c.children.invariant.made no_child
+    (inl c.children-test.false)
+
+pub search-children-preserved : goal.search-children-preserved
+unfolding no_child
+search-children-preserved g t c =
+    let p = pattern_of c.args.steps.now.items in
+    let child = get_or c.deref-child-items.result.now c.children.child-index no_child in
+    let steps = c.children.invariant.steps in
     record {
-      rule = c.found.invariant.rule;
-      steps = c.found.invariant.steps;
-      made = cut c.law_of_turns.ensures c.law_of_floors.ensures c.args.rows.now c.args.found.now c.args.steps.now.items c.requires.level ((g.C.Collect.state c.args.collect.now).rule) ((g.C.Collect.state c.args.collect.now).content)
-          c.requires.candidates c.found.candidate-index c.candidate-item.result c.found-test.true c.candidate-item.is
-          ((g.C.Collect.state c.found.collect).rule) ((g.C.Collect.state c.found.collect).content) c.found.steps.items c.found.invariant.rule c.found.invariant.steps c.found.invariant.made low;
+      steps = c.in_ok-enter.ensures.steps ∙ steps;
+      made = so_far-next c.args.records.now p c.requires.into.are c.requires.into.begun c.requires.ordered c.children.invariant.made no_child
+          c.children-test.true
+          (subst (λ ss. Reached (g.C.Collect.state c.children.collect) (GrowsOn c.args.records.now (stepped (pattern_of ss) child.step))
+          (g.C.Collect.state c.enter.new.collect)) steps c.in_ok-enter.ensures.made);
     }
 
-pub returns-in_err-grown-clause-err : goal.returns-in_err-grown-clause-err
-returns-in_err-grown-clause-err g t c =
-    on_err c.from_residual.result _
-    (stopped c.law_of_turns.ensures c.law_of_floors.ensures c.args.rows.now c.args.found.now c.args.steps.now.items c.requires.level ((g.C.Collect.state c.args.collect.now).rule) ((g.C.Collect.state c.args.collect.now).content)
-    c.requires.candidates c.found.candidate-index c.candidate-item.result c.found-test.true c.candidate-item.is
-    ((g.C.Collect.state c.found.collect).rule) ((g.C.Collect.state c.found.collect).content) c.found.steps.items c.found.invariant.rule c.found.invariant.steps c.found.invariant.made
-    ((g.C.Collect.state c.found.collect).content) refl)
+pub search-returns-in_err-enter-clause-made : goal.search-returns-in_err-enter-clause-made
+unfolding no_child
+search-returns-in_err-enter-clause-made g t c =
+    let p = pattern_of c.args.steps.now.items in
+    let child = get_or c.deref-child-items.result.now c.children.child-index no_child in
+    let steps = c.children.invariant.steps in
+    stopped {P = GrowsOn c.args.records.now p} c.from_residual-in_err-enter.result c.from_residual-in_err-enter.ensures.0
+    (so_far-some c.args.records.now p c.requires.into.are c.requires.into.begun c.requires.ordered c.children.invariant.made no_child c.children-test.true
+    (subst (λ ss. ReachedSome (g.C.Collect.state c.children.collect) (GrowsOn c.args.records.now (stepped (pattern_of ss) child.step))
+    (g.C.Collect.state c.enter.new.collect)) steps c.in_err-enter.ensures.made))
 
-pub returns-in_err-push-clause-err : goal.returns-in_err-push-clause-err
-returns-in_err-push-clause-err g t c =
-    on_err c.from_residual-in_err-push.result _
-    (stopped c.law_of_turns.ensures c.law_of_floors.ensures c.args.rows.now c.args.found.now c.args.steps.now.items c.requires.level ((g.C.Collect.state c.args.collect.now).rule) ((g.C.Collect.state c.args.collect.now).content)
-    c.requires.candidates c.found.candidate-index c.candidate-item.result c.found-test.true c.candidate-item.is
-    ((g.C.Collect.state c.found.collect).rule) ((g.C.Collect.state c.found.collect).content) c.found.steps.items c.found.invariant.rule c.found.invariant.steps c.found.invariant.made
-    ((g.C.Collect.state c.found.collect).content) refl)
-
-pub open-requires-clause-some : goal.open-requires-clause-some
-open-requires-clause-some g t c =
-    let is = is-candidate c.law_of_turns.ensures c.law_of_floors.ensures c.args.rows.now c.args.found.now c.args.steps.now.items c.requires.level ((g.C.Collect.state c.args.collect.now).rule) ((g.C.Collect.state c.args.collect.now).content)
-    c.requires.candidates c.found.candidate-index c.candidate-item.result c.found-test.true c.candidate-item.is
-    ((g.C.Collect.state c.found.collect).rule) ((g.C.Collect.state c.found.collect).content) c.found.steps.items c.found.invariant.rule c.found.invariant.steps c.found.invariant.made in
-    let level = c.in_ok-grown.ensures.level (pattern_of c.args.steps.now.items) c.requires.level is in
-    let sequences = c.in_ok-grown.ensures.sequences (pattern_of c.args.steps.now.items) c.requires.level is in
-    let size = ap length c.deref-in-found.ensures.value in
-    omega (
-      arith,
-      size,
-      pushed-some c.law_of_turns.ensures c.law_of_floors.ensures c.args.rows.now c.args.found.now c.args.steps.now.items c.requires.level ((g.C.Collect.state c.args.collect.now).rule) ((g.C.Collect.state c.args.collect.now).content)
-          c.requires.candidates c.found.candidate-index c.candidate-item.result c.found-test.true c.candidate-item.is
-          ((g.C.Collect.state c.found.collect).rule) ((g.C.Collect.state c.found.collect).content) c.found.steps.items c.found.invariant.rule c.found.invariant.steps c.found.invariant.made
-          c.push.new.self.items c.in_ok-push.ensures.items c.in_ok-grown.grown.items level sequences,
-    )
-
-pub open-requires-clause-level : goal.open-requires-clause-level
-open-requires-clause-level g t c =
-    let is = is-candidate c.law_of_turns.ensures c.law_of_floors.ensures c.args.rows.now c.args.found.now c.args.steps.now.items c.requires.level ((g.C.Collect.state c.args.collect.now).rule) ((g.C.Collect.state c.args.collect.now).content)
-    c.requires.candidates c.found.candidate-index c.candidate-item.result c.found-test.true c.candidate-item.is
-    ((g.C.Collect.state c.found.collect).rule) ((g.C.Collect.state c.found.collect).content) c.found.steps.items c.found.invariant.rule c.found.invariant.steps c.found.invariant.made in
-    let level = c.in_ok-grown.ensures.level (pattern_of c.args.steps.now.items) c.requires.level is in
-    let sequences = c.in_ok-grown.ensures.sequences (pattern_of c.args.steps.now.items) c.requires.level is in
-    subst (λ ss. IsLevel (pattern_of ss) c.deref.result.now) (sym c.deref-in-found.ensures.value)
-    (pushed-level c.law_of_turns.ensures c.law_of_floors.ensures c.args.rows.now c.args.found.now c.args.steps.now.items c.requires.level ((g.C.Collect.state c.args.collect.now).rule) ((g.C.Collect.state c.args.collect.now).content)
-    c.requires.candidates c.found.candidate-index c.candidate-item.result c.found-test.true c.candidate-item.is
-    ((g.C.Collect.state c.found.collect).rule) ((g.C.Collect.state c.found.collect).content) c.found.steps.items c.found.invariant.rule c.found.invariant.steps c.found.invariant.made
-    c.push.new.self.items c.in_ok-push.ensures.items c.in_ok-grown.grown.items level sequences c.deref.result.now c.deref.ensures.value)
-
-pub returns-in_err-next-clause-err : goal.returns-in_err-next-clause-err
-returns-in_err-next-clause-err g t c =
-    let is = is-candidate c.law_of_turns.ensures c.law_of_floors.ensures c.args.rows.now c.args.found.now c.args.steps.now.items c.requires.level ((g.C.Collect.state c.args.collect.now).rule) ((g.C.Collect.state c.args.collect.now).content)
-    c.requires.candidates c.found.candidate-index c.candidate-item.result c.found-test.true c.candidate-item.is
-    ((g.C.Collect.state c.found.collect).rule) ((g.C.Collect.state c.found.collect).content) c.found.steps.items c.found.invariant.rule c.found.invariant.steps c.found.invariant.made in
-    let level = c.in_ok-grown.ensures.level (pattern_of c.args.steps.now.items) c.requires.level is in
-    let sequences = c.in_ok-grown.ensures.sequences (pattern_of c.args.steps.now.items) c.requires.level is in
-    on_err c.from_residual-in_err-next.result _
-    (opened-some c.law_of_turns.ensures c.law_of_floors.ensures c.args.rows.now c.args.found.now c.args.steps.now.items c.requires.level ((g.C.Collect.state c.args.collect.now).rule) ((g.C.Collect.state c.args.collect.now).content)
-    c.requires.candidates c.found.candidate-index c.candidate-item.result c.found-test.true c.candidate-item.is
-    ((g.C.Collect.state c.found.collect).rule) ((g.C.Collect.state c.found.collect).content) c.found.steps.items c.found.invariant.rule c.found.invariant.steps c.found.invariant.made
-    c.push.new.self.items c.in_ok-push.ensures.items c.in_ok-grown.grown.items level sequences c.deref.result.now c.deref-in-found.result.now c.deref.ensures.value c.deref-in-found.ensures.value ((g.C.Collect.state c.open.new.collect).content) c.in_err-next.ensures.err)
-
-pub search-requires : goal.search-requires
-search-requires g t c κs within =
-    let is = is-candidate c.law_of_turns.ensures c.law_of_floors.ensures c.args.rows.now c.args.found.now c.args.steps.now.items c.requires.level ((g.C.Collect.state c.args.collect.now).rule) ((g.C.Collect.state c.args.collect.now).content)
-    c.requires.candidates c.found.candidate-index c.candidate-item.result c.found-test.true c.candidate-item.is
-    ((g.C.Collect.state c.found.collect).rule) ((g.C.Collect.state c.found.collect).content) c.found.steps.items c.found.invariant.rule c.found.invariant.steps c.found.invariant.made in
-    let level = c.in_ok-grown.ensures.level (pattern_of c.args.steps.now.items) c.requires.level is in
-    let sequences = c.in_ok-grown.ensures.sequences (pattern_of c.args.steps.now.items) c.requires.level is in
-    let next : IsLevel (pattern_of c.push.new.self.items) c.deref-in-found-2.result.now = pushed-level c.law_of_turns.ensures c.law_of_floors.ensures c.args.rows.now c.args.found.now c.args.steps.now.items c.requires.level ((g.C.Collect.state c.args.collect.now).rule) ((g.C.Collect.state c.args.collect.now).content)
-    c.requires.candidates c.found.candidate-index c.candidate-item.result c.found-test.true c.candidate-item.is
-    ((g.C.Collect.state c.found.collect).rule) ((g.C.Collect.state c.found.collect).content) c.found.steps.items c.found.invariant.rule c.found.invariant.steps c.found.invariant.made
-    c.push.new.self.items c.in_ok-push.ensures.items c.in_ok-grown.grown.items level sequences c.deref-in-found-2.result.now c.deref-in-found-2.ensures.value in
-    let smaller : 4097 - length c.push.new.self.items < 4097 - length c.args.steps.now.items = pushed-fewer c.law_of_turns.ensures c.law_of_floors.ensures c.args.rows.now c.args.found.now c.args.steps.now.items c.requires.level ((g.C.Collect.state c.args.collect.now).rule) ((g.C.Collect.state c.args.collect.now).content)
-    c.requires.candidates c.found.candidate-index c.candidate-item.result c.found-test.true c.candidate-item.is
-    ((g.C.Collect.state c.found.collect).rule) ((g.C.Collect.state c.found.collect).content) c.found.steps.items c.found.invariant.rule c.found.invariant.steps c.found.invariant.made
-    c.push.new.self.items c.in_ok-push.ensures.items c.in_ok-grown.grown.items level sequences in
-    let then = (g.C.Collect.state c.open.new.collect).rule in
-    let offered = (g.C.Collect.state c.open.new.collect).content in
-    let floor = floor_of then offered in
-    let candidates : AreCandidates (pattern_of c.push.new.self.items) c.deref-in-found-2.result.now floor c.deref-in-found-3.result.now =
-    subst (AreCandidates (pattern_of c.push.new.self.items) c.deref-in-found-2.result.now floor) (sym c.deref-in-found-3.ensures.value)
-    (subst (λ rs. AreCandidates (pattern_of c.push.new.self.items) rs floor c.in_ok-next.next.items) (c.deref.ensures.value ∙ sym c.deref-in-found-2.ensures.value)
-    (subst (λ ss. AreCandidates (pattern_of ss) c.deref.result.now floor c.in_ok-next.next.items) c.deref-in-found.ensures.value c.in_ok-next.ensures.candidates)) in
-    let kept : IsKept then offered = c.in_ok-next.ensures.kept in
+pub search-enter-requires : goal.search-enter-requires
+unfolding no_child
+search-enter-requires g t c κs within =
+    let records = c.args.records.now in
+    let p = pattern_of c.args.steps.now.items in
+    let child = get_or c.deref-child-items.result.now c.children.child-index no_child in
+    let steps = c.children.invariant.steps in
+    let are : AreRecords records = c.requires.into.are in
+    let begun : IsBegun (pattern_of c.children.steps.items) = subst (λ ss. IsBegun (pattern_of ss)) (sym steps) c.requires.into.begun in
+    let ordered : IsInOrder (g.C.Collect.state c.children.collect) =
+    so_far-ordered records p are c.requires.into.begun c.requires.ordered c.children.invariant.made in
+    let is : IsChild records (pattern_of c.children.steps.items) child =
+    subst (λ ss. IsChild records (pattern_of ss) child) (sym steps)
+    (turn-child records p are c.requires.into.begun c.requires.ordered c.children.invariant.made no_child c.children-test.true) in
+    let smaller : 2 * (4097 - length c.children.steps.items) < 2 * (4097 - length c.args.steps.now.items) + 1 = omega (arith, ap length steps) in
     search rules
 
-pub returns-in_err-search-clause-err : goal.returns-in_err-search-clause-err
-returns-in_err-search-clause-err g t c =
-    let is = is-candidate c.law_of_turns.ensures c.law_of_floors.ensures c.args.rows.now c.args.found.now c.args.steps.now.items c.requires.level ((g.C.Collect.state c.args.collect.now).rule) ((g.C.Collect.state c.args.collect.now).content)
-    c.requires.candidates c.found.candidate-index c.candidate-item.result c.found-test.true c.candidate-item.is
-    ((g.C.Collect.state c.found.collect).rule) ((g.C.Collect.state c.found.collect).content) c.found.steps.items c.found.invariant.rule c.found.invariant.steps c.found.invariant.made in
-    let level = c.in_ok-grown.ensures.level (pattern_of c.args.steps.now.items) c.requires.level is in
-    let sequences = c.in_ok-grown.ensures.sequences (pattern_of c.args.steps.now.items) c.requires.level is in
-    on_err c.from_residual-in_err-search.result _
-    (next-some c.law_of_turns.ensures c.law_of_floors.ensures c.args.rows.now c.args.found.now c.args.steps.now.items c.requires.level ((g.C.Collect.state c.args.collect.now).rule) ((g.C.Collect.state c.args.collect.now).content)
-    c.requires.candidates c.found.candidate-index c.candidate-item.result c.found-test.true c.candidate-item.is
-    ((g.C.Collect.state c.found.collect).rule) ((g.C.Collect.state c.found.collect).content) c.found.steps.items c.found.invariant.rule c.found.invariant.steps c.found.invariant.made
-    c.push.new.self.items c.in_ok-push.ensures.items c.in_ok-grown.grown.items level sequences c.deref.result.now c.deref-in-found.result.now c.deref.ensures.value c.deref-in-found.ensures.value ((g.C.Collect.state c.open.new.collect).content) c.in_ok-next.ensures.offered
-    ((g.C.Collect.state c.open.new.collect).rule) c.deref-in-found-2.result.now ((g.C.Collect.state c.search.new.collect).content) c.in_ok-next.ensures.rule c.deref-in-found-2.ensures.value c.in_err-search.ensures.err)
+pub enter-marks_into-requires-clause-places : goal.enter-marks_into-requires-clause-places
+enter-marks_into-requires-clause-places g t c =
+    let p = pattern_of c.args.steps.now.items in
+    let child = c.args.child.now in
+    let q = stepped p child.step in
+    let is = c.requires.child in (
+      q,
+      grown-reached child.step.growth p child.step.item.0 c.requires.begun is.may,
+      subst (λ i. ArePlaces c.args.records.now q i child.marks.now)
+          (sym (last_item-grown child.step.growth p child.step.item.0)) is.places,
+    )
 
-pub found-preserved : goal.found-preserved
-found-preserved g t c =
-    let is = is-candidate c.law_of_turns.ensures c.law_of_floors.ensures c.args.rows.now c.args.found.now c.args.steps.now.items c.requires.level ((g.C.Collect.state c.args.collect.now).rule) ((g.C.Collect.state c.args.collect.now).content)
-    c.requires.candidates c.found.candidate-index c.candidate-item.result c.found-test.true c.candidate-item.is
-    ((g.C.Collect.state c.found.collect).rule) ((g.C.Collect.state c.found.collect).content) c.found.steps.items c.found.invariant.rule c.found.invariant.steps c.found.invariant.made in
-    let level = c.in_ok-grown.ensures.level (pattern_of c.args.steps.now.items) c.requires.level is in
-    let sequences = c.in_ok-grown.ensures.sequences (pattern_of c.args.steps.now.items) c.requires.level is in
-    record {
-      rule = c.in_ok-search.ensures.rule ∙ c.in_ok-next.ensures.rule ∙ c.found.invariant.rule;
-      steps = popped c.found.steps.items c.candidate-item.result.step c.search.new.steps.items c.pop.new.self.items c.pop.result (vec_len c.search.new.steps) (c.in_ok-search.ensures.steps ∙ c.in_ok-push.ensures.items) c.pop.ensures.items (omega (arith, c.search.new.steps.ok)) c.pop.ensures.variant ∙ c.found.invariant.steps;
-      made = next-made c.law_of_turns.ensures c.law_of_floors.ensures c.args.rows.now c.args.found.now c.args.steps.now.items c.requires.level ((g.C.Collect.state c.args.collect.now).rule) ((g.C.Collect.state c.args.collect.now).content)
-          c.requires.candidates c.found.candidate-index c.candidate-item.result c.found-test.true c.candidate-item.is
-          ((g.C.Collect.state c.found.collect).rule) ((g.C.Collect.state c.found.collect).content) c.found.steps.items c.found.invariant.rule c.found.invariant.steps c.found.invariant.made
-          c.push.new.self.items c.in_ok-push.ensures.items c.in_ok-grown.grown.items level sequences c.deref.result.now c.deref-in-found.result.now c.deref.ensures.value c.deref-in-found.ensures.value ((g.C.Collect.state c.open.new.collect).content) c.in_ok-next.ensures.offered
-          ((g.C.Collect.state c.open.new.collect).rule) c.deref-in-found-2.result.now ((g.C.Collect.state c.search.new.collect).content) c.in_ok-next.ensures.rule c.deref-in-found-2.ensures.value c.in_ok-search.ensures.ok;
-    }
+pub enter-marks_after-requires-clause-places : goal.enter-marks_after-requires-clause-places
+enter-marks_after-requires-clause-places g t c =
+    let p = pattern_of c.args.steps.now.items in
+    let child = c.args.child.now in
+    let q = stepped p child.step in
+    let is = c.requires.child in (
+      q,
+      grown-reached child.step.growth p child.step.item.0 c.requires.begun is.may,
+      subst (λ i. ArePlaces c.args.records.now q i child.marks.now)
+          (sym (last_item-grown child.step.growth p child.step.item.0)) is.places,
+    )
 
-pub returns-clause-ok : goal.returns-clause-ok
-returns-clause-ok g t c =
-    all-found c.law_of_turns.ensures c.law_of_floors.ensures c.args.rows.now c.args.found.now c.args.steps.now.items c.requires.level ((g.C.Collect.state c.args.collect.now).rule) ((g.C.Collect.state c.args.collect.now).content) c.requires.candidates
-    c.requires.kept c.found.candidate-index ((g.C.Collect.state c.found.collect).content) (omega (arith, c.found-test.false)) c.found.invariant.made
+pub enter-search-requires : goal.enter-search-requires
+enter-search-requires g t c κs within =
+    let records = c.args.records.now in
+    let p = pattern_of c.args.steps.now.items in
+    let child = c.args.child.now in
+    let step = child.step in
+    let q = stepped p step in
+    let is = c.requires.child in
+    let reached : IsReached q = grown-reached step.growth p step.item.0 c.requires.begun is.may in
+    let places = subst (λ i. ArePlaces records q i child.marks.now) (sym (last_item-grown step.growth p step.item.0)) is.places in
+    let pushed = c.in_ok-push.ensures.items in
+    let same : pattern_of c.push.new.self.items ≡ q = ap pattern_of pushed ∙ pattern_of-push c.args.steps.now.items step in
+    let grown_into = subst (AreGrown records q IntoLast) (sym c.deref.ensures.value) (c.in_ok-into.ensures q reached places) in
+    let grown_after = subst (AreGrown records q AfterLast) (sym c.deref-2.ensures.value) (c.in_ok-after.ensures q reached places) in
+    let into : IsGathered records (pattern_of c.push.new.self.items) IntoLast c.deref.result.now =
+    subst (λ r. IsGathered records r IntoLast c.deref.result.now) (sym same) (record { are = c.requires.records; begun = inr reached; grown = grown_into }) in
+    let after : IsGathered records (pattern_of c.push.new.self.items) AfterLast c.deref-2.result.now =
+    subst (λ r. IsGathered records r AfterLast c.deref-2.result.now) (sym same) (record {
+      are = c.requires.records;
+      begun = inr reached;
+      grown =
+          grown_after;
+    }) in
+    let long = ap length pushed ∙ length-append c.args.steps.now.items (step ∷ []) in
+    let few = steps-few records c.requires.records c.push.new.self.items (subst IsReached (sym same) reached)
+    (subst (λ r. 0 < sequence_support records r) (sym same) is.occurs) in
+    let smaller : 2 * (4097 - length c.push.new.self.items) + 1 < 2 * (4097 - length c.args.steps.now.items) = omega (arith, long, few) in
+    search rules
+
+pub enter-returns-in_err-search-clause-made : goal.enter-returns-in_err-search-clause-made
+enter-returns-in_err-search-clause-made g t c =
+    let q = stepped (pattern_of c.args.steps.now.items) c.args.child.now.step in
+    let same = ap pattern_of c.in_ok-push.ensures.items ∙ pattern_of-push c.args.steps.now.items c.args.child.now.step in
+    let some : ReachedSome (g.C.Collect.state c.args.collect.now) (GrowsOn c.args.records.now q) (g.C.Collect.state c.search.new.collect) =
+    subst (λ r. ReachedSome (g.C.Collect.state c.args.collect.now) (GrowsOn c.args.records.now r)
+    (g.C.Collect.state c.search.new.collect)) same c.in_err-search.ensures.made in
+    search rules
+
+pub enter-returns-clause-made : goal.enter-returns-clause-made
+enter-returns-clause-made g t c =
+    let same = ap pattern_of c.in_ok-push.ensures.items ∙ pattern_of-push c.args.steps.now.items c.args.child.now.step in
+    subst (λ r. Reached (g.C.Collect.state c.args.collect.now) (GrowsOn c.args.records.now r)
+    (g.C.Collect.state c.search.new.collect)) same c.in_ok-search.ensures.made

@@ -1,16 +1,17 @@
-use Rattle.std.proofs.Common.{◌≡◌, ◌-◌, length, take}
-use Rattle.hu_span.specs.Makes.{MakesReaching}
-use Rattle.hu_span.specs.Row.{sequences_of}
+use Rattle.std.proofs.Common.{◌≡◌, ◌+◌, ◌-◌, ◌*◌, length}
+use Rattle.hu_span.specs.Search.{IsSoFar}
 use Rattle.hu_span.specs.Step.{pattern_of}
-use Rattle.hu_span.proofs.SearchLemmas.{Among, Through}
 use Rattle.hu_span.proofs.search.+search.Given as goal
 
+-- a search of one more step comes after an entrance to it
 abbrev pub decreases-search : goal.decreases-search
-decreases-search g l = 4097 - length l.steps.now.items
+decreases-search g l = 2 * (4097 - length l.steps.now.items) + 1
 
-abbrev pub invariant-found : goal.invariant-found
-invariant-found g l = record {
-  rule : (g.C.Collect.state l.collect).rule ≡ (g.C.Collect.state l.initial.collect).rule;
-  steps : l.steps.items ≡ l.initial.steps.items;
-  made : MakesReaching ((g.C.Collect.state l.initial.collect).rule) ((g.C.Collect.state l.initial.collect).content) (Among (Through (sequences_of l.rows) (pattern_of l.initial.steps.items)) (take l.candidate-index l.found)) ((g.C.Collect.state l.collect).content);
+abbrev pub decreases-enter : goal.decreases-enter
+decreases-enter g l = 2 * (4097 - length l.steps.now.items)
+
+abbrev pub invariant-search-children : goal.invariant-search-children
+invariant-search-children g l = record {
+  steps : l.steps.items ≡ l.fn.steps.items;
+  made : IsSoFar (g.C.Collect.state l.fn.collect) (g.C.Collect.state l.collect) l.records (pattern_of l.fn.steps.items) l.child-items l.child-index;
 }

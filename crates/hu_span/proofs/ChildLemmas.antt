@@ -1,0 +1,370 @@
+-- Children, by their marks and in the order of their falling bounds.
+use Rattle.std.proofs.Common.{◌≡◌, ℕ, zero, suc, ◌+◌, ◌<◌, ◌≤◌, ◌^◌, Bool, true, false, cond, eqb, ℤ, pos, ◌≤ℤ◌, ◌<ℤ◌, int_le, Option, None, Some, is_some}
+use Rattle.std.proofs.Common.{List, [], ◌∷◌, ◌++◌, map, filter, length, get_or, take, refl, sym, ap, ◌∙◌, subst, ◌⊎◌, inl, inr, arith, append_assoc}
+use Rattle.std.proofs.Common.{length-append, Contains, IsPermutation}
+use Rattle.std.specs.declared.cmp.Ordering.TheVariants.{Less}
+use Rattle.std.specs.Cmp.{int_cmp_is, IsStrictWeakOrder}
+use Rattle.std.specs.List.{AllByRecursion}
+use Rattle.std.specs.List.Sorted.{IsSortedBy}
+use Rattle.std.specs.Ordering.{int_cmp, is_lt, flip_args}
+use Rattle.std.proofs.lemmas.Bool.{eq-eqb, eqb-true}
+use Rattle.std.proofs.lemmas.Cmp.{back_total, int_cmp_total}
+use Rattle.std.proofs.lemmas.Int.{ints, by_lt_z}
+use Rattle.std.proofs.lemmas.List.{map-append, take_more}
+use Rattle.std.proofs.lemmas.List.Sorted.{ranks_by, sorted_far, Contains-permutation, IsPermutation-sym}
+use Rattle.std.proofs.lemmas.List.Sums.{sum_by-cons}
+use Rattle.hu_kind.specs.declared.entry.Entry.{Entry}
+use Rattle.hu_kind.specs.declared.item.Item.{Item}
+use Rattle.hu_kind.specs.Sequence.{best_utility, better, sequence_support, sequence_utility}
+use Rattle.hu_kind.proofs.lemmas.Members.{Member, Contains-from_member, Member-append_left, Member-append_right, Member-filter, Member-from_contains}
+use Rattle.hu_kind.proofs.lemmas.Members.{Member-from_filter, Member-from_map, Member-map}
+use Rattle.hu_kind.proofs.lemmas.Occurring.{at_member, by_members}
+use Rattle.hu_kind.proofs.lemmas.Each.{each-append, each-left, each-right}
+use Rattle.hu_collect.specs.Laws.{SameMembers}
+use Rattle.hu_chain.specs.declared.chain.Growth.{Growth}
+use Rattle.hu_chain.specs.declared.chain.Growth.TheVariants.{IntoLast, AfterLast}
+use Rattle.hu_chain.specs.declared.place.Place.{Place}
+use Rattle.hu_chain.specs.Bound.{best_of, IsFit, KeepsRules}
+use Rattle.hu_chain.specs.Grown.{grown}
+use Rattle.hu_chain.specs.Pattern.{last_item, Ends}
+use Rattle.hu_chain.specs.Place.{chain_of}
+use Rattle.hu_chain.specs.Search.{IsPlaceOf}
+use Rattle.hu_chain.proofs.lemmas.Gathered.{best_of-chain}
+use Rattle.hu_chain.proofs.lemmas.Growing.{chain_of-rules}
+use Rattle.hu_chain.proofs.lemmas.Bounds.{grown-first}
+use Rattle.hu_chain.proofs.lemmas.Patterns.{last_item-grown, Ends-grown}
+use Rattle.hu_span.specs.declared.child.Child.{Child}
+use Rattle.hu_span.specs.declared.mark.Mark.{Mark}
+use Rattle.hu_span.specs.declared.step.Step.{Step}
+use Rattle.hu_span.specs.declared.tally.Tally.{Tally}
+use Rattle.hu_span.specs.Child.{stepped, AreChildren, AreChildrenBy, ArePlaces, Fall, HasStep, IsChild, IsGathered, IsStep}
+use Rattle.hu_span.specs.Gather.{IsGrowth, MayTake}
+use Rattle.hu_span.specs.Growing.{AreRecords, GrowsOn, IsReached, Records}
+use Rattle.hu_span.specs.Mark.{is_of, mark_at, marks_from, marks_of, marks_with, places_of, record_at, IsMark}
+use Rattle.hu_span.specs.Tally.{bests_of, count_of, none_told, reaches_of, told}
+use Rattle.hu_span.proofs.MarkLemmas.{each-filter}
+use Rattle.hu_span.proofs.ReachLemmas.{can-reached, grown-reached, Ends-reached}
+use Rattle.hu_span.proofs.TallyLemmas.{bounds-fit, bounds-hold, support-cons, told-all, IsSum}
+
+-- ---- best bound first
+
+-- whether a child stands before another: its bound is greater
+abbrev pub stands_before : Child → Child → Bool
+stands_before a b = is_lt (flip_args int_cmp a.bound b.bound)
+
+pub stands_before_order : IsStrictWeakOrder stands_before
+stands_before_order = ranks_by (back_total int_cmp_total) (λ (child : Child). child.bound)
+
+not_before : (a b : Child) → stands_before b a ≡ false → b.bound ≤ℤ a.bound
+not_before a b h = by_lt_z a.bound b.bound
+    (λ less. absurd (let is : Less ≡ int_cmp a.bound b.bound = int_cmp_is a.bound b.bound Less less in let yes : true ≡ false = ap is_lt is ∙ h in cc))
+    (λ le. le)
+
+FallsTo : ℤ → List Child → Type 0
+FallsTo bound children = AllByRecursion (λ later. later.bound ≤ℤ bound) children
+
+falls_to : (bound : ℤ) (children : List Child) → ((k : ℕ) (d : Child) → k < length children → (get_or children k d).bound ≤ℤ bound) → FallsTo bound children
+unfolding FallsTo
+falls_to bound [] each = tt
+falls_to bound (c ∷ cs) each = (each 0 c (omega arith), falls_to bound cs (λ k d within. each (suc k) d (omega arith)))
+
+fall-far : (children : List Child) → ((i j : ℕ) (d : Child) → i ≤ j → j < length children → (get_or children j d).bound ≤ℤ (get_or children i d).bound)
+    → Fall children
+unfolding FallsTo
+fall-far [] far = tt
+fall-far (c ∷ cs) far = (
+  falls_to c.bound cs (λ k d within. far 0 (suc k) d (omega arith) (omega arith)),
+  fall-far cs
+      (λ i j d upto within. far (suc i) (suc j) d (omega arith) (omega arith)),
+)
+
+pub fall-sorted : (children : List Child) → IsSortedBy stands_before children → Fall children
+fall-sorted children up =
+    fall-far children (λ i j d upto within. not_before (get_or children i d) (get_or children j d)
+    (sorted_far stands_before stands_before_order children up i j d upto within))
+
+-- ---- children that are kept
+
+abbrev pub reaches_floor : ℤ → Child → Bool
+reaches_floor floor child = int_le floor child.bound
+
+pub among-kept : (floor : ℤ) (children kept : List Child) → IsPermutation (filter (reaches_floor floor) children) kept → AllByRecursion (Contains children) kept
+among-kept floor children kept same = by_members (Contains children) kept (λ child m.
+    let c = Contains-permutation kept (filter (reaches_floor floor) children) child (IsPermutation-sym (filter (reaches_floor floor) children) kept same)
+    (Contains-from_member child kept m) in
+    Contains-from_member child children (Member-from_filter (reaches_floor floor) child children
+    (Member-from_contains child (filter (reaches_floor floor) children) c)).0)
+
+pub others-kept : (floor : ℤ) (children kept : List Child) → IsPermutation (filter (reaches_floor floor) children) kept → (child : Child)
+    → Contains children child
+    → Contains kept child ⊎ (child.bound <ℤ floor)
+others-kept floor children kept same child c = by (int_le floor child.bound) refl
+  where
+    by : (b : Bool) → int_le floor child.bound ≡ b → Contains kept child ⊎ (child.bound <ℤ floor)
+    by true e =
+        let m = Member-filter (reaches_floor floor) child children (Member-from_contains child children c) e in
+        inl (Contains-permutation (filter (reaches_floor floor) children) kept child same (Contains-from_member child
+        (filter (reaches_floor floor) children) m))
+    by false e = inr (grind (arith, ints))
+
+-- ---- the marks of a pattern stand at its places
+
+fit-places : (item : ℕ) (before rs : Records) (pattern : List (List ℕ)) → Ends pattern → last_item pattern ≡ item
+    → AllByRecursion IsFit (places_of (marks_from pattern item (length before) rs))
+    → AllByRecursion (IsMark (before ++ rs) item) (marks_from pattern item (length before) rs)
+fit-places item before [] pattern ends last fit = tt
+fit-places item before (r ∷ rs) pattern ends last fit =
+    let more : Records = before ++ r ∷ [] in
+    let n : length more ≡ suc (length before) = omega (arith, length-append before (r ∷ [])) in
+    let whole = append_assoc before (r ∷ []) rs in
+    let row = map (mark_at (length before) item) (chain_of pattern r) in
+    let split = subst (AllByRecursion IsFit) (map-append (λ (mark : Mark). mark.place) row (marks_from pattern item (suc (length before)) rs)) fit in
+    let front = each-left IsFit (places_of row) (places_of (marks_from pattern item (suc (length before)) rs)) split in
+    let back = each-right IsFit (places_of row) (places_of (marks_from pattern item (suc (length before)) rs)) split in
+    let rest = fit-places item more rs pattern ends last (subst (λ k. AllByRecursion IsFit (places_of (marks_from pattern item k rs))) (sym n) back) in
+    let rest' : AllByRecursion (IsMark (before ++ r ∷ rs) item) (marks_from pattern item (suc (length before)) rs) =
+    subst (λ k. AllByRecursion (IsMark (before ++ r ∷ rs) item) (marks_from pattern item k rs)) n
+    (subst (λ all. AllByRecursion (IsMark all item) (marks_from pattern item (length more) rs)) whole rest) in
+    each-append (IsMark (before ++ r ∷ rs) item) row (marks_from pattern item (suc (length before)) rs)
+    (here (chain_of pattern r) (chain_of-rules pattern r ends) front) rest'
+  where
+    at_before : (bs : Records) → record_at (bs ++ r ∷ rs) (length bs) ≡ r
+    at_before [] = refl
+    at_before (b ∷ bs) = at_before bs
+
+    here : (places : List Place) → AllByRecursion (IsPlaceOf r (last_item pattern)) places
+        → AllByRecursion IsFit (places_of (map (mark_at (length before) item) places))
+        → AllByRecursion (IsMark (before ++ r ∷ rs) item) (map (mark_at (length before) item) places)
+    here [] is fits = tt
+    here (place ∷ places) is fits = (
+      record {
+        within = omega (arith, length-append before (r ∷ rs));
+        place = subst (λ i. IsPlaceOf (record_at (before ++ r ∷ rs) (length before)) i place) last
+            (subst (λ x. IsPlaceOf x (last_item pattern) place) (sym (at_before before)) is.0);
+        fit = fits.0;
+      },
+      here places is.1 fits.1,
+    )
+
+pub each-place : (records : Records) (pattern : List (List ℕ)) (item : ℕ) → Ends pattern → last_item pattern ≡ item
+    → AllByRecursion IsFit (places_of (marks_of records pattern item))
+    → AllByRecursion (IsMark records item) (marks_of records pattern item)
+each-place records pattern item ends last fit = fit-places item [] records pattern ends last fit
+
+-- ---- where a pattern has marks
+
+pub marks-occur : (pattern : List (List ℕ)) (item row : ℕ) (rs : Records) → Ends pattern → 0 < length (marks_from pattern item row rs)
+    → 0 < sequence_support rs pattern
+marks-occur pattern item row [] ends some = absurd (omega arith)
+marks-occur pattern item row (r ∷ rs) ends some = by (marks-occur pattern item (suc row) rs ends) (chain_of pattern r) refl
+  where
+    count : sequence_support (r ∷ rs) pattern ≡ count_of (best_utility pattern r) + sequence_support rs pattern
+    count = support-cons r rs pattern
+
+    one : (o : Option ℤ) (place : Place) (places : List Place) → best_of (place ∷ places) ≡ o → count_of o ≡ 1
+    one o place places e = ap count_of (sym e) ∙ first (best_of places)
+      where
+        first : (u : Option ℤ) → count_of (better (Some place.best) u) ≡ 1
+        first None = refl
+        first (Some u) = refl
+
+    by : (0 < length (marks_from pattern item (suc row) rs) → 0 < sequence_support rs pattern) → (places : List Place) → chain_of pattern r ≡ places
+        → 0 < sequence_support (r ∷ rs) pattern
+    by ih [] is =
+        let rest : 0 < length (marks_from pattern item (suc row) rs) = subst (λ ps. 0 < length
+        (map (mark_at row item) ps ++ marks_from pattern item (suc row) rs)) is some in
+        omega (arith, count, ih rest)
+    by ih (place ∷ places) is = omega (arith, count, one (best_utility pattern r) place places (ap best_of (sym is) ∙ best_of-chain pattern r ends))
+
+pub occurs-marks : (pattern : List (List ℕ)) (item row : ℕ) (rs : Records) → Ends pattern → 0 < sequence_support rs pattern
+    → 0 < length (marks_from pattern item row rs)
+occurs-marks pattern item row [] ends some = absurd (omega arith)
+occurs-marks pattern item row (r ∷ rs) ends some = by (occurs-marks pattern item (suc row) rs ends) (chain_of pattern r) refl
+  where
+    count : sequence_support (r ∷ rs) pattern ≡ count_of (best_utility pattern r) + sequence_support rs pattern
+    count = support-cons r rs pattern
+
+    by : (0 < sequence_support rs pattern → 0 < length (marks_from pattern item (suc row) rs)) → (places : List Place) → chain_of pattern r ≡ places
+        → 0 < length (map (mark_at row item) (chain_of pattern r) ++ marks_from pattern item (suc row) rs)
+    by ih [] is =
+        let none : count_of (best_utility pattern r) ≡ 0 = ap count_of (sym (best_of-chain pattern r ends) ∙ ap best_of is) in
+        let rest = ih (omega (arith, count, none, some)) in
+        subst (λ ps. 0 < length (map (mark_at row item) ps ++ marks_from pattern item (suc row) rs)) (sym is) rest
+    by ih (place ∷ places) is = subst (λ ps. 0 < length (map (mark_at row item) ps ++ marks_from pattern item (suc row) rs)) (sym is) (omega arith)
+
+-- ---- a child
+
+-- what is true of a child, by its parts
+record IsWhole (records : Records) (pattern : List (List ℕ)) (step : Step) (marks : List Mark) (u : ℤ) (n : ℕ) (b : ℤ) : Type 0 where
+  pub may : MayTake step.growth pattern step.item.0
+  pub places : ArePlaces records (stepped pattern step) step.item.0 marks
+  pub occurs : 0 < sequence_support records (stepped pattern step)
+  pub utility : u ≡ sequence_utility records (stepped pattern step)
+  pub support : n ≡ sequence_support records (stepped pattern step)
+  pub bound : (entry : Entry) → GrowsOn records (stepped pattern step) entry → entry.utility ≤ℤ b
+
+module _ (records : Records) (pattern : List (List ℕ)) (step : Step) (marks : List Mark) (from : IsStep records pattern step marks) where
+  reached : IsReached (stepped pattern step)
+  reached = grown-reached step.growth pattern step.item.0 from.begun from.may
+
+  fits : AllByRecursion IsFit (places_of (marks_of records (stepped pattern step) step.item.0))
+  fits = subst (λ ms. AllByRecursion IsFit (places_of ms)) from.places.is (fit-each marks from.places.each)
+    where
+      fit-each : (ms : List Mark) → AllByRecursion (IsMark records step.item.0) ms → AllByRecursion IsFit (places_of ms)
+      fit-each [] all = tt
+      fit-each (m ∷ ms) all = let first = all.0 in (first.fit, fit-each ms all.1)
+
+  pub step-fits : AllByRecursion IsFit (places_of marks)
+  step-fits = subst (λ ms. AllByRecursion IsFit (places_of ms)) (sym from.places.is) fits
+
+  sums : IsSum none_told (told marks) (stepped pattern step) records
+  sums = subst (λ ms. IsSum none_told (told ms) (stepped pattern step) records) (sym from.places.is)
+      (told-all (stepped pattern step) step.item.0 records (Ends-grown step.growth pattern step.item.0))
+
+  pub step-reaches : reaches_of (told marks) <ℤ pos (2 ^ 127)
+  step-reaches =
+      let sum = sums.reaches in
+      let most = bounds-fit reached.0 (stepped pattern step) records from.are.rules reached.1 in
+      let fit = from.are.fits in
+      omega (arith, ints, sum, most, fit)
+
+  pub step-child : (child : Child) → child.step ≡ step → child.marks.now ≡ marks → child.utility ≡ bests_of (told marks) → child.support ≡ (told marks).rows
+      → child.bound ≡ reaches_of (told marks) → IsChild records pattern child
+  step-child child step_is marks_is utility support bound =
+      let sum = sums in
+      let rows = sum.rows in
+      let bests = sum.bests in
+      let reaches = sum.reaches in
+      let may = from.may in
+      let some = from.some in
+      let ends = Ends-grown step.growth pattern step.item.0 in
+      let held = marks-occur (stepped pattern step) step.item.0 0 records ends (subst (λ ms. 0 < length ms) from.places.is some) in
+      let P : Step → Type 0 = λ s. IsWhole records pattern s child.marks.now child.utility child.support child.bound in
+      let whole : P step = record {
+        may = may;
+        places = subst (ArePlaces records (stepped pattern step) step.item.0) (sym marks_is) from.places;
+        occurs = held;
+        utility = omega (arith, ints, utility, bests);
+        support = omega (arith, support, rows);
+        bound = λ e on.
+            let g = on.grows in
+            let can = can-reached on.growth (stepped pattern step) on.item reached on.may in
+            let high = bounds-hold (stepped pattern step) g.other step.item.0 0 records from.are.rules ends
+            (grown-first on.growth (stepped pattern step) g.other on.item can g.from) fits in
+            let is = ap (λ (x : Entry). x.utility) g.is in
+            omega (arith, ints, high, is, bound, reaches);
+      } in
+      let w : P child.step = subst P (sym step_is) whole in
+      record { may = w.may; places = w.places; occurs = w.occurs; utility = w.utility; support = w.support; bound = w.bound }
+
+-- ---- all children of a kind of growth
+
+-- the steps by items
+abbrev pub steps_by : Growth → List Item → List Step
+steps_by growth items = map (λ item. record { growth = growth; item = item }) items
+
+module _ (records : Records) (pattern : List (List ℕ)) (growth : Growth) (marks : List Mark) (from : IsGathered records pattern growth marks) where
+  -- an item of the marks makes a child
+  pub step-gathered : (item : Item) → Member item (map (λ mark. mark.item) marks) → (run : List Mark) → run ≡ marks_with item.0 marks
+      → IsStep records pattern (record { growth = growth; item = item }) run
+  step-gathered item m run is =
+      let on = Member-from_map (λ (mark : Mark). mark.item) item marks m in
+      let mark = on.0 in
+      let grows = from.grown in
+      let here = at_member (IsGrowth growth pattern) mark marks grows.each on.1 in
+      let may : MayTake growth pattern item.0 = subst (λ (i : Item). MayTake growth pattern i.0) on.2 here.may in
+      let places = is ∙ grows.places item.0 may in
+      let among = Member-filter (is_of item.0) mark marks on.1 (eq-eqb item.0 mark.item.0 (sym (ap (λ (i : Item). i.0) on.2))) in
+      let reached = grown-reached growth pattern item.0 from.begun may in
+      let fit = subst (λ ms. AllByRecursion IsFit (places_of ms)) (sym is ∙ places) (fit-each (marks_with item.0 marks)
+      (each-filter (IsGrowth growth pattern) (is_of item.0) marks grows.each)) in
+      record {
+        are = from.are;
+        begun = from.begun;
+        may = may;
+        some = subst (λ ms. 0 < length ms) (sym is) (some (marks_with item.0 marks) mark among);
+        places = record {
+          is = places;
+          each = subst (AllByRecursion (IsMark records item.0)) (sym places)
+              (each-place records (grown growth pattern item.0) item.0 (Ends-grown growth pattern item.0) (last_item-grown growth pattern item.0) fit);
+        };
+      }
+    where
+      some : (ms : List Mark) (mark : Mark) → Member mark ms → 0 < length ms
+      some [] mark m = absurd m
+      some (x ∷ ms) mark m = omega arith
+
+      fit-each : (ms : List Mark) → AllByRecursion (IsGrowth growth pattern) ms → AllByRecursion IsFit (places_of ms)
+      fit-each [] all = tt
+      fit-each (m ∷ ms) all = let first = all.0 in (first.fit, fit-each ms all.1)
+
+  -- and each step by which the pattern occurs is made
+  pub all-gathered : (items : List Item) (children : List Child) → SameMembers (map (λ mark. mark.item) marks) items
+      → map (λ child. child.step) children ≡ steps_by growth items
+      → (item : ℕ) → MayTake growth pattern item → 0 < sequence_support records (grown growth pattern item) → HasStep children growth item
+  all-gathered items children same steps item may held =
+      let grows = from.grown in
+      let some = occurs-marks (grown growth pattern item) item 0 records (Ends-grown growth pattern item) held in
+      let mark = first (marks_with item marks) (subst (λ ms. 0 < length ms) (sym (grows.places item may)) some) in
+      let kept = Member-from_filter (is_of item) mark.0 marks mark.1 in
+      let item_is : item ≡ mark.0.item.0 = eqb-true item mark.0.item.0 kept.1 in
+      let among = (same mark.0.item).0 (Contains-from_member mark.0.item (map (λ (m : Mark). m.item) marks)
+      (Member-map (λ (m : Mark). m.item) mark.0 marks kept.0)) in
+      let step : Step = record { growth = growth; item = mark.0.item } in
+      let made = Member-map (λ (i : Item). step_by i) mark.0.item items (Member-from_contains mark.0.item items among) in
+      let on = Member-from_map (λ (child : Child). child.step) step children (subst (Member step) (sym steps) made) in
+      (on.0, Contains-from_member on.0 children on.1, ap (λ (s : Step). s.growth) on.2, ap (λ (s : Step). s.item.0) on.2 ∙ sym item_is)
+    where
+      step_by : Item → Step
+      step_by i = record { growth = growth; item = i }
+
+      first : (ms : List Mark) → 0 < length ms → (mark : Mark) × Member mark ms
+      first [] some = absurd (omega arith)
+      first (m ∷ ms) some = (m, inl refl)
+
+-- children of both kinds of growth
+pub children-both : (records : Records) (pattern : List (List ℕ)) (first later : List Child) → AreChildrenBy records pattern IntoLast first
+    → AreChildrenBy records pattern AfterLast later
+    → AreChildren records pattern (first ++ later)
+children-both records pattern first later into after = record { each = each-append (IsChild records pattern) first later into.each after.each; all = all }
+  where
+    all : (growth : Growth) (item : ℕ) → MayTake growth pattern item → 0 < sequence_support records (grown growth pattern item)
+        → HasStep (first ++ later) growth item
+    all IntoLast item may held = let has = into.all item may held in (
+      has.0,
+      Contains-from_member has.0 (first ++ later)
+          (Member-append_left has.0 first later (Member-from_contains has.0 first has.1)),
+      has.2,
+      has.3,
+    )
+    all AfterLast item may held = let has = after.all item may held in (
+      has.0,
+      Contains-from_member has.0 (first ++ later)
+          (Member-append_right has.0 first later (Member-from_contains has.0 later has.1)),
+      has.2,
+      has.3,
+    )
+
+-- one more child
+pub steps-next : (growth : Growth) (items : List Item) (children new : List Child) (child : Child) (i : ℕ) (d : Item) → i < length items
+    → new ≡ children ++ child ∷ []
+    → map (λ c. c.step) children ≡ steps_by growth (take i items) → child.step ≡ record { growth = growth; item = get_or items i d }
+    → map (λ c. c.step) new ≡ steps_by growth (take (i + 1) items)
+steps-next growth items children new child i d within pushed so_far step_is =
+    let step : Item → Step = λ item. record { growth = growth; item = item } in
+    ap (map (λ (c : Child). c.step)) pushed
+    ∙ map-append (λ (c : Child). c.step) children (child ∷ [])
+    ∙ (λ j. so_far j ++ step_is j ∷ [])
+    ∙ sym (ap (map step) (take_more items i d within) ∙ map-append step (take i items) (get_or items i d ∷ []))
+
+-- an item of the list is one of the marks'
+pub item-marked : (marks : List Mark) (items : List Item) → SameMembers (map (λ mark. mark.item) marks) items → (i : ℕ) (d : Item) → i < length items
+    → Member (get_or items i d) (map (λ mark. mark.item) marks)
+item-marked marks items same i d within =
+    let item = get_or items i d in
+    Member-from_contains item (map (λ (mark : Mark). mark.item) marks) ((same item).1 (Contains-from_member item items (member-at items i within)))
+  where
+    member-at : (xs : List Item) (k : ℕ) → k < length xs → Member (get_or xs k d) xs
+    member-at [] k inside = absurd (omega arith)
+    member-at (x ∷ xs) zero inside = inl refl
+    member-at (x ∷ xs) (suc k) inside = inr (member-at xs k (omega arith))

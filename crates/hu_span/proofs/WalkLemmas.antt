@@ -1,0 +1,299 @@
+-- The rules of tails and walks, and of the marks that they give.
+use Rattle.std.proofs.Common.{◌≡◌, ℕ, zero, suc, ◌+◌, ◌<◌, ◌≤◌, ◌^◌, Bool, true, false, cond, eqb, ℤ, pos, ◌+ℤ◌, ◌-ℤ◌, ◌≤ℤ◌, ◌<ℤ◌, List, [], ◌∷◌, ◌++◌, map}
+use Rattle.std.proofs.Common.{length, length-drop, append_assoc, append-nil, get_or, take, ◌-◌, drop, refl, sym, ap, ◌∙◌, subst, arith, sum_by}
+use Rattle.std.specs.Int.{int_max}
+use Rattle.std.specs.List.{AllByRecursion}
+use Rattle.std.proofs.lemmas.Bool.{eqb-true}
+use Rattle.std.proofs.lemmas.Int.{ints, clamps}
+use Rattle.std.proofs.lemmas.List.{drop_more, length-map, map-append, take_all}
+use Rattle.std.proofs.lemmas.List.Sums.{sum_by-cons}
+use Rattle.hu_kind.specs.declared.item.Cell.{Cell}
+use Rattle.hu_kind.specs.Cell.{pairs_of, pair_of}
+use Rattle.hu_kind.specs.Record.{items_in, total}
+use Rattle.hu_kind.proofs.lemmas.Each.{each-append}
+use Rattle.hu_chain.specs.declared.place.Place.{Place}
+use Rattle.hu_chain.specs.Bound.{IsFit, KeepsRules}
+use Rattle.hu_chain.specs.Place.{element_at, totals}
+use Rattle.hu_chain.specs.Search.{best_past, left_past, IsLeft, IsPlain, IsPlaceOf}
+use Rattle.hu_chain.proofs.lemmas.Bounds.{plain-rules}
+use Rattle.hu_chain.proofs.lemmas.Cells.{each-drop, each-take, pairs-drop, total-above, total-parts, IsAbove}
+use Rattle.hu_chain.proofs.lemmas.Gathered.{place-at}
+use Rattle.hu_span.specs.declared.gather.Tail.{Tail}
+use Rattle.hu_span.specs.declared.gather.Walk.{Walk}
+use Rattle.hu_span.specs.declared.mark.Mark.{Mark}
+use Rattle.hu_span.specs.Gather.{cells_after, marks_in, marks_past, tail_marks, walk_marks, IsTail, IsWalk, StaysFit}
+use Rattle.hu_span.specs.Mark.{mark_at, places_of}
+
+-- ---- the marks of a tail
+
+fit-tail : (row e c : ℕ) (best ahead : ℤ) (cells : List (ℕ × ℤ)) → AllByRecursion IsAbove cells → pos 0 ≤ℤ best → total cells ≤ℤ ahead
+    → (best +ℤ ahead) <ℤ pos (2 ^ 127)
+    → AllByRecursion IsFit (places_of (tail_marks row e c best ahead cells))
+fit-tail row e c best ahead [] above low holds fits = tt
+fit-tail row e c best ahead (cell ∷ cells) above low holds fits =
+    let here = above.0 in
+    let rest = total-above cells above.1 in (
+      record { best = omega (arith, ints); rest = omega (arith, ints); reach = omega (arith, ints) },
+      fit-tail row e (suc c) best (ahead -ℤ cell.1) cells above.1 low (omega (arith, ints)) (omega (arith, ints)),
+    )
+
+pub stays-fit : (old new more : List Mark) → new ≡ old ++ more → AllByRecursion IsFit (places_of more) → StaysFit old new
+stays-fit old new more is fit before =
+    subst (λ ms. AllByRecursion IsFit (places_of ms)) (sym is)
+    (subst (AllByRecursion IsFit) (sym (map-append (λ (mark : Mark). mark.place) old more)) (each-append IsFit (places_of old) (places_of more) before fit))
+
+pub fit-in : (tail : Tail) → IsTail tail → AllByRecursion IsFit (places_of (marks_in tail))
+fit-in tail is = fit-tail tail.row tail.element tail.first tail.best tail.ahead (pairs_of tail.cells.now) is.none_below is.best is.holds is.fits
+
+-- ---- the elements of a sequence
+
+pub drop-at : (elements : List (List (ℕ × ℤ))) (e : ℕ) → e < length elements → drop e elements ≡ element_at elements e ∷ drop (suc e) elements
+drop-at [] e within = absurd (omega arith)
+drop-at (cells ∷ elements) zero within = refl
+drop-at (cells ∷ elements) (suc e) within = drop-at elements e (omega arith)
+
+pub drop-past : {A : Type 0} (xs : List A) (n : ℕ) → length xs ≤ n → drop n xs ≡ []
+drop-past [] zero past = refl
+drop-past [] (suc n) past = refl
+drop-past (x ∷ xs) zero past = absurd (omega arith)
+drop-past (x ∷ xs) (suc n) past = drop-past xs n (omega arith)
+
+pub element_at-any : (elements : List (List (ℕ × ℤ))) (e : ℕ) (d : List (ℕ × ℤ)) → e < length elements → get_or elements e d ≡ element_at elements e
+element_at-any [] e d within = absurd (omega arith)
+element_at-any (cells ∷ elements) zero d within = refl
+element_at-any (cells ∷ elements) (suc e) d within = element_at-any elements e d (omega arith)
+
+-- the cells after a place that is one of a pattern's
+pub record AreAfter (elements : List (List (ℕ × ℤ))) (place : Place) (cells : List Cell) : Type 0 where
+  pub within : place.cell + 1 ≤ length cells
+  pub are : pairs_of (take (length cells - (place.cell + 1)) (drop (place.cell + 1) cells)) ≡ cells_after elements place
+
+pub are-after : (elements : List (List (ℕ × ℤ))) (place : Place) (element : List (ℕ × ℤ)) (cells : List Cell) → (last : ℕ) × IsPlaceOf elements last place
+    → element ≡ get_or elements place.element element → pairs_of cells ≡ element → AreAfter elements place cells
+are-after elements place element cells is at same =
+    let inside = place-at elements is.0 place is.1 in
+    let here : pairs_of cells ≡ element_at elements place.element = same ∙ at ∙ element_at-any elements place.element element inside.0 in
+    let size = length-map cells pair_of in
+    let short = ap length here in
+    let n : place.cell + 1 ≡ suc place.cell = omega arith in
+    let rest = drop (place.cell + 1) cells in
+    let long = length-drop (place.cell + 1) cells in
+    record {
+      within = omega (arith, inside.1, size, short);
+      are = ap pairs_of (take_all (length cells - (place.cell + 1)) rest (omega (arith, long))) ∙ pairs-drop (place.cell + 1) cells ∙
+          (λ j. drop (n j) (here j));
+    }
+
+above-at : (elements : List (List (ℕ × ℤ))) (e : ℕ) → AllByRecursion IsPlain elements → AllByRecursion IsAbove (element_at elements e)
+above-at [] e plain = tt
+above-at (cells ∷ elements) zero plain = let first = plain.0 in first.none_below
+above-at (cells ∷ elements) (suc e) plain = above-at elements e plain.1
+
+few-at : (elements : List (List (ℕ × ℤ))) (e : ℕ) → length (element_at elements e) ≤ sum_by length elements
+few-at [] e = omega arith
+few-at (cells ∷ elements) zero = omega (arith, sum_by-cons (λ (cs : List (ℕ × ℤ)). length cs) cells elements)
+few-at (cells ∷ elements) (suc e) = omega (arith, sum_by-cons (λ (cs : List (ℕ × ℤ)). length cs) cells elements, few-at elements e)
+
+low-totals : (elements : List (List (ℕ × ℤ))) → AllByRecursion IsPlain elements → pos 0 ≤ℤ totals elements
+low-totals [] plain = omega (arith, ints)
+low-totals (cells ∷ elements) plain =
+    let first = plain.0 in
+    let here = total-above cells first.none_below in
+    let rest = low-totals elements plain.1 in
+    omega (arith, ints)
+
+-- ---- the marks beside a place
+
+module _ (elements : List (List (ℕ × ℤ))) (rules : KeepsRules elements) where
+  plain : AllByRecursion IsPlain elements
+  plain = plain-rules elements rules
+
+  few : (e : ℕ) → length (element_at elements e) ≤ 4096
+  few e = let is = rules.sequence in omega (arith, few-at elements e, is.few)
+
+  pub cell-few : (last : ℕ) (place : Place) → IsPlaceOf elements last place → place.cell < 4096
+  cell-few last place is = let at = place-at elements last place is in omega (arith, at.1, few place.element)
+
+  pub after-above : (place : Place) → AllByRecursion IsAbove (cells_after elements place)
+  after-above place = each-drop IsAbove (suc place.cell) (element_at elements place.element) (above-at elements place.element plain)
+
+  pub low-at : (e : ℕ) → pos 0 ≤ℤ total (element_at elements e)
+  low-at e = total-above (element_at elements e) (above-at elements e plain)
+
+  pub low-later : (e : ℕ) → pos 0 ≤ℤ totals (drop e elements)
+  low-later e = low-totals (drop e elements) (each-drop IsPlain e elements plain)
+
+  pub tail-beside : (last : ℕ) (place : Place) (tail : Tail) → IsPlaceOf elements last place → IsFit place → tail.first ≡ suc place.cell
+      → pairs_of tail.cells.now ≡ cells_after elements place
+      → tail.best ≡ place.best → tail.ahead ≡ place.rest → IsTail tail
+  tail-beside last place tail is fit first cells best ahead =
+      let at = place-at elements last place is in
+      let low = fit.best in
+      let high = fit.reach in
+      let most = few place.element in
+      let rest = is.rest in
+      let later = low-later (suc place.element) in
+      let size = length-map tail.cells.now pair_of in
+      let short = ap length cells in
+      let dropped = length-drop (suc place.cell) (element_at elements place.element) in
+      let same = ap total cells in
+      record {
+        none_below = subst (AllByRecursion IsAbove) (sym cells) (after-above place);
+        few = omega (arith, at.1, most, size, short, dropped, first);
+        best = omega (arith, ints, best, low);
+        holds = omega (arith, ints, same, rest, later, ahead);
+        fits = omega (arith, ints, best, ahead, high);
+      }
+
+  -- ---- one more element of a walk
+
+  pub tail-walk : (e : ℕ) (walk : Walk) (tail : Tail) → IsWalk elements e walk → e < length elements → tail.first ≡ 0
+      → pairs_of tail.cells.now ≡ element_at elements e
+      → tail.best ≡ walk.best → tail.ahead ≡ walk.ahead → IsTail tail
+  tail-walk e walk tail is within first cells best ahead =
+      let low = is.best in
+      let high = is.fits in
+      let most = few e in
+      let left = is.ahead ∙ ap totals (drop-at elements e within) in
+      let later = low-later (suc e) in
+      let size = length-map tail.cells.now pair_of in
+      let short = ap length cells in
+      let same = ap total cells in
+      record {
+        none_below = subst (AllByRecursion IsAbove) (sym cells) (above-at elements e plain);
+        few = omega (arith, most, size, short, first);
+        best = omega (arith, ints, best, low);
+        holds = omega (arith, ints, same, left, later, ahead);
+        fits = omega (arith, ints, best, ahead, high);
+      }
+
+  left-past : (e : ℕ) (places : List Place) → AllByRecursion (IsLeft elements) places → AllByRecursion (IsLeft elements) (left_past e places)
+  left-past e [] left = tt
+  left-past e (place ∷ places) left = by (eqb e place.element)
+    where
+      by : (b : Bool) → AllByRecursion (IsLeft elements) (cond b places (place ∷ places))
+      by true = left.1
+      by false = left
+
+  -- the best utility past an element
+  record IsBestPast (e : ℕ) (best : ℤ) : Type 0 where
+    pub low : pos 0 ≤ℤ best
+    pub fits : (best +ℤ totals (drop (suc e) elements)) <ℤ pos (2 ^ 127)
+
+  best-past : (e : ℕ) (best : ℤ) (places : List Place) → IsBestPast e best → AllByRecursion (IsLeft elements) places → IsBestPast e (best_past e best places)
+  best-past e best [] is left = is
+  best-past e best (place ∷ places) is left = by (eqb e place.element) refl
+    where
+      by : (b : Bool) → eqb e place.element ≡ b → IsBestPast e (cond b (int_max best place.best) best)
+      by false other = is
+      by true same =
+          let here = left.0 in
+          let fit = here.fit in
+          let reach = fit.reach in
+          let rest : totals (drop (suc e) elements) ≤ℤ place.rest = subst (λ n. totals (drop (suc n) elements) ≤ℤ place.rest)
+          (sym (eqb-true e place.element same)) here.rest in
+          let low = is.low in
+          let fits = is.fits in
+          record { low = omega (arith, ints, clamps); fits = omega (arith, ints, clamps) }
+
+  pub walk-next : (e : ℕ) (walk next : Walk) → IsWalk elements e walk → e < length elements → next.best ≡ best_past e walk.best (places_of walk.left.now)
+      → places_of next.left.now ≡ left_past e (places_of walk.left.now) → next.ahead ≡ walk.ahead -ℤ total (element_at elements e)
+      → IsWalk elements (suc e) next
+  walk-next e walk next is within best left ahead =
+      let all = is.ahead ∙ ap totals (drop-at elements e within) in
+      let here = total-above (element_at elements e) (above-at elements e plain) in
+      let high = is.fits in
+      let started : IsBestPast e walk.best = record { low = is.best; fits = omega (arith, ints, all, here, high) } in
+      let past = best-past e walk.best (places_of walk.left.now) started is.left in
+      let low' = past.low in
+      let fits' = past.fits in
+      let left_is : next.ahead ≡ totals (drop (suc e) elements) = omega (arith, ints, ahead, all) in
+      record {
+        ahead = left_is;
+        best = omega (arith, ints, best, low');
+        fits = omega (arith, ints, best, left_is, fits');
+        left = subst (AllByRecursion (IsLeft elements)) (sym left) (left-past e (places_of walk.left.now) is.left);
+      }
+
+  -- the marks of a walk are those of its next element and the ones past it
+  pub marks-next : (e : ℕ) (walk next : Walk) → e < length elements → next.row ≡ walk.row → next.best ≡ best_past e walk.best (places_of walk.left.now)
+      → places_of next.left.now ≡ left_past e (places_of walk.left.now) → next.ahead ≡ walk.ahead -ℤ total (element_at elements e)
+      → marks_past elements e walk ≡ tail_marks walk.row e 0 walk.best walk.ahead (element_at elements e) ++ marks_past elements (suc e) next
+  marks-next e walk next within row best left ahead =
+      ap (walk_marks walk.row e walk.best walk.ahead (places_of walk.left.now)) (drop-at elements e within)
+      ∙ sym (λ j. tail_marks walk.row e 0 walk.best walk.ahead (element_at elements e) ++ walk_marks (row j) (suc e) (best j) (ahead j) (left j)
+      (drop (suc e) elements))
+
+  pub marks-end : (e : ℕ) (walk : Walk) → length elements ≤ e → marks_past elements e walk ≡ []
+  marks-end e walk past = ap (walk_marks walk.row e walk.best walk.ahead (places_of walk.left.now)) (drop-past elements e past)
+
+-- ---- the cells that are left of a tail
+
+-- a cell, and those after it
+pub record IsCellLeft (cells : List Cell) (i : ℕ) (cell : Cell) : Type 0 where
+  pub next : pairs_of (drop i cells) ≡ pair_of cell ∷ pairs_of (drop (i + 1) cells)
+  pub low : pos 0 ≤ℤ cell.value
+  pub later : pos 0 ≤ℤ total (pairs_of (drop (i + 1) cells))
+  pub front : total (pairs_of (drop i cells)) ≤ℤ total (pairs_of cells)
+
+pub cell-left : (cells : List Cell) (i : ℕ) (d : Cell) → AllByRecursion IsAbove (pairs_of cells) → i < length cells → IsCellLeft cells i (get_or cells i d)
+cell-left cells i d above within =
+    let split = ap pairs_of (drop_more cells i d within) in
+    let rest = subst (AllByRecursion IsAbove) (sym (pairs-drop i cells)) (each-drop IsAbove i (pairs_of cells) above) in
+    let both = subst (AllByRecursion IsAbove) split rest in
+    let before = total-above (take i (pairs_of cells)) (each-take IsAbove i (pairs_of cells) above) in
+    let parts = total-parts i (pairs_of cells) in
+    let same = ap total (pairs-drop i cells) in
+    record {
+      next = split;
+      low = both.0;
+      later = total-above (pairs_of (drop (i + 1) cells)) both.1;
+      front = omega (arith, ints, before, parts, same);
+    }
+
+-- one more mark
+pub tail-next : (row e c : ℕ) (best rest : ℤ) (cells : List Cell) (i : ℕ) (cell : Cell) (marks new whole : List Mark) (mark : Mark) (c' : ℕ) (rest' : ℤ)
+    → IsCellLeft cells i cell
+    → new ≡ marks ++ mark ∷ [] → mark ≡ mark_at row cell.item.0 (record { element = e; cell = c; best = best +ℤ cell.value; rest = rest -ℤ cell.value })
+    → c' ≡ suc c → rest' ≡ rest -ℤ cell.value
+    → marks ++ tail_marks row e c best rest (pairs_of (drop i cells)) ≡ whole → new ++ tail_marks row e c' best rest' (pairs_of (drop (i + 1) cells)) ≡ whole
+tail-next row e c best rest cells i cell marks new whole mark c' rest' left pushed is next less so_far =
+    let after = tail_marks row e (suc c) best (rest -ℤ cell.value) (pairs_of (drop (i + 1) cells)) in
+    let here = mark_at row cell.item.0 (record { element = e; cell = c; best = best +ℤ cell.value; rest = rest -ℤ cell.value }) in
+    (λ j. pushed j ++ tail_marks row e (next j) best (less j) (pairs_of (drop (i + 1) cells)))
+    ∙ append_assoc marks (mark ∷ []) after
+    ∙ (λ j. marks ++ is j ∷ after)
+    ∙ ap (λ ps. marks ++ tail_marks row e c best rest ps) (sym left.next)
+    ∙ so_far
+
+pub tail-end : (row e c : ℕ) (best rest : ℤ) (cells : List Cell) (i : ℕ) (marks whole : List Mark) → length cells ≤ i
+    → marks ++ tail_marks row e c best rest (pairs_of (drop i cells)) ≡ whole
+    → marks ≡ whole
+tail-end row e c best rest cells i marks whole past so_far =
+    sym (append-nil marks) ∙ ap (λ cs. marks ++ tail_marks row e c best rest (pairs_of cs)) (sym (drop-past cells i past)) ∙ so_far
+
+-- the walk after the first place of a row
+pub walk-later : (elements : List (List (ℕ × ℤ))) (last : ℕ) (place : Place) (places : List Place) (walk : Walk) → KeepsRules elements
+    → IsPlaceOf elements last place
+    → AllByRecursion (IsPlaceOf elements last) places → IsFit place → AllByRecursion IsFit places → walk.best ≡ place.best
+    → walk.ahead ≡ place.rest -ℤ total (cells_after elements place)
+    → places_of walk.left.now ≡ places → IsWalk elements (suc place.element) walk
+walk-later elements last place places walk rules is are fit fits best ahead left =
+    let low = fit.best in
+    let high = fit.reach in
+    let rest = is.rest in
+    let here = total-above (cells_after elements place) (after-above elements rules place) in
+    record {
+      ahead = omega (arith, ints, ahead, rest);
+      best = omega (arith, ints, best, low);
+      fits = omega (arith, ints, best, ahead, high, here);
+      left = subst (AllByRecursion (IsLeft elements)) (sym left) (each-left-of places are fits);
+    }
+  where
+    each-left-of : (ps : List Place) → AllByRecursion (IsPlaceOf elements last) ps → AllByRecursion IsFit ps → AllByRecursion (IsLeft elements) ps
+    each-left-of [] a f = tt
+    each-left-of (p ∷ ps) a f =
+        let first = a.0 in
+        let rest = first.rest in
+        let here = total-above (cells_after elements p) (after-above elements rules p) in
+        (record { fit = f.0; rest = omega (arith, ints, rest, here) }, each-left-of ps a.1 f.1)

@@ -1,0 +1,15 @@
+use Rattle.std.proofs.Common.{◌∙◌, ap, arith}
+use Rattle.std.specs.List.{flat_map}
+use Rattle.std.proofs.lemmas.List.{take_all}
+use Rattle.hu_chain.specs.declared.chain.Growth.TheVariants.{IntoLast}
+use Rattle.hu_chain.specs.Pattern.{last_item}
+use Rattle.hu_span.proofs.RowsLemmas.{beside, beside-all, grown-sorted}
+use Rattle.hu_span.proofs.gather.marks_into.Goals as goal
+
+pub returns : goal.returns
+returns c p is places =
+    let records = c.args.records.now in
+    let all = take_all c.marks.mark-index c.args.marks.now (omega (arith, c.marks-test.false)) in
+    let whole = c.marks.invariant.so_far ∙ ap (flat_map (beside records)) (all ∙ places.is) ∙ beside-all records p (last_item p) in
+    grown-sorted IntoLast records p c.marks.grown.items c.by_item.new.marks.items c.requires.rules is whole c.marks.invariant.fit
+    c.in_ok-by_item.ensures.sorted c.in_ok-by_item.ensures.same c.in_ok-by_item.ensures.each
