@@ -1,0 +1,4 @@
+-- The lemmas that proofs of other crates may cite.
+pub mod Ranked
+pub mod EntryOrder
+pub mod Answers
