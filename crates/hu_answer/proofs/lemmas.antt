@@ -2,3 +2,5 @@
 pub mod Ranked
 pub mod EntryOrder
 pub mod Answers
+pub mod Fronts
+pub mod Sums

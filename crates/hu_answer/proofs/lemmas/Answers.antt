@@ -14,7 +14,7 @@ use Rattle.hu_answer.specs.Laws.{IsItemAnswer}
 use Rattle.hu_answer.proofs.lemmas.EntryOrder.{entry-same, entry_order}
 use Rattle.hu_answer.proofs.lemmas.Ranked.{Member-ranked, Member-from_ranked}
 
-true_from_T : (b : Bool) → T b → b ≡ true
+pub true_from_T : (b : Bool) → T b → b ≡ true
 true_from_T true t = refl
 true_from_T false t = absurd t
 
