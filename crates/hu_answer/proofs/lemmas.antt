@@ -4,3 +4,6 @@ pub mod EntryOrder
 pub mod Answers
 pub mod Fronts
 pub mod Sums
+pub mod Tests
+pub mod Closed
+pub mod AnyOrder

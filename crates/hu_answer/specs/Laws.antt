@@ -6,12 +6,18 @@ use Rattle.hu_kind.specs.declared.entry.Entry.{Entry}
 use Rattle.hu_kind.specs.Answer.{answer, item_answer, closed_answer, sequence_answer}
 use Rattle.hu_kind.specs.Database.{utility, support}
 use Rattle.hu_kind.specs.Order.{Before}
+use Rattle.hu_answer.specs.Supersets.{IsClosedSet}
 use Rattle.hu_answer.specs.Entries.{IsEntryOf, IsFoundSet}
 
 -- an entry stands in the answer exactly where it is that of a set that is found
 abbrev pub IsItemAnswer : Type 0
 IsItemAnswer = (records : List (List (ℕ × ℤ))) (least : ℤ) (entry : Entry) →
     Contains (item_answer records least None) entry ↔ ((items : List ℕ) × IsFoundSet records least items × IsEntryOf records items entry)
+
+-- and in the answer over closed sets where that set is closed too
+abbrev pub IsClosedAnswer : Type 0
+IsClosedAnswer = (records : List (List (ℕ × ℤ))) (least : ℤ) (entry : Entry) →
+    Contains (closed_answer records least None) entry ↔ ((items : List ℕ) × IsFoundSet records least items × IsClosedSet records items × IsEntryOf records items entry)
 
 -- each entry of an answer comes before those after it in the one order
 abbrev pub AnswerAscends : Type 0

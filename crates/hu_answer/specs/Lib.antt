@@ -1,2 +1,4 @@
+pub mod Supersets
 pub mod Entries
 pub mod Laws
+pub mod Worked

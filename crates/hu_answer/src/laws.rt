@@ -1,10 +1,15 @@
 //! What holds of every answer. These calls do nothing: their contracts are the laws.
 
-ghost use Rattle.hu_answer.specs.Laws.{IsItemAnswer, AnswerAscends, StandsOnce, IsFirstOfAnswer, OutsideComesAfter, GreaterTopKeepsFront, HigherMinimumKeepsFront, UtilitiesAdd, SupportsAdd};
+ghost use Rattle.hu_answer.specs.Laws.{IsItemAnswer, IsClosedAnswer, AnswerAscends, StandsOnce, IsFirstOfAnswer, OutsideComesAfter, GreaterTopKeepsFront, HigherMinimumKeepsFront, UtilitiesAdd, SupportsAdd, ItemsInAnyOrder, ClosedInAnyOrder, SequencesInAnyOrder};
 
 /// An entry stands in the answer over itemsets exactly where it is that of a set that is found.
 pub fn law_of_itemsets()
     ensures { IsItemAnswer }
+{}
+
+/// An entry stands in the answer over closed itemsets exactly where it is that of a set that is found and closed.
+pub fn law_of_closed_itemsets()
+    ensures { IsClosedAnswer }
 {}
 
 /// Each entry of an answer comes before those after it in the one order, so it stands once.
@@ -34,4 +39,12 @@ pub fn law_of_higher_minimums()
 pub fn law_of_sums()
     ensures utility { UtilitiesAdd }
     ensures support { SupportsAdd }
+{}
+
+/// The order of the records doesn't matter to an answer.
+#[tactic(auto, using(crate::proofs::lemmas::AnyOrder::items_in_any_order, crate::proofs::lemmas::AnyOrder::closed_in_any_order, crate::proofs::lemmas::AnyOrder::sequences_in_any_order))]
+pub fn law_of_any_order()
+    ensures items { ItemsInAnyOrder }
+    ensures closed { ClosedInAnyOrder }
+    ensures sequences { SequencesInAnyOrder }
 {}
