@@ -7,3 +7,4 @@ pub mod Sums
 pub mod Tests
 pub mod Closed
 pub mod AnyOrder
+pub mod Occurrences

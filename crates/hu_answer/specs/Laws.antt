@@ -1,11 +1,13 @@
 -- What holds of every answer.
-use Rattle.std.specs.Prelude.{◌≡◌, ◌↔◌, ℕ, ◌+◌, ◌<◌, ◌≤◌, ℤ, ◌+ℤ◌, ◌≤ℤ◌, Option, None, Some, List, ◌++◌, length, get_or, take}
+use Rattle.std.specs.Prelude.{true, is_some, ◌≡◌, ◌↔◌, ℕ, ◌+◌, ◌<◌, ◌≤◌, ℤ, ◌+ℤ◌, ◌≤ℤ◌, Option, None, Some, List, ◌++◌, length, get_or, take}
 use Rattle.std.specs.List.{Contains}
 use Rattle.std.specs.List.Sorted.{IsPermutation}
 use Rattle.hu_kind.specs.declared.entry.Entry.{Entry}
 use Rattle.hu_kind.specs.Answer.{answer, item_answer, closed_answer, sequence_answer}
 use Rattle.hu_kind.specs.Database.{utility, support}
 use Rattle.hu_kind.specs.Order.{Before}
+use Rattle.hu_kind.specs.Sequence.{best_utility}
+use Rattle.hu_answer.specs.Occurrences.{is_occurrence, earned_at}
 use Rattle.hu_answer.specs.Supersets.{IsClosedSet}
 use Rattle.hu_answer.specs.Entries.{IsEntryOf, IsFoundSet}
 
@@ -70,3 +72,17 @@ ClosedInAnyOrder = (first second : List (List (ℕ × ℤ))) (least : ℤ) (top 
 abbrev pub SequencesInAnyOrder : Type 0
 SequencesInAnyOrder = (first second : List (List (List (ℕ × ℤ)))) (least : ℤ) (top : Option ℕ) → IsPermutation first second →
     sequence_answer first least top ≡ sequence_answer second least top
+
+-- a sequence has a best utility in a record exactly where it occurs there
+abbrev pub HasBestWhereItOccurs : Type 0
+HasBestWhereItOccurs = (pattern : List (List ℕ)) (elements : List (List (ℕ × ℤ))) →
+    (is_some (best_utility pattern elements) ≡ true) ↔ ((places : List ℕ) × (is_occurrence pattern elements places ≡ true))
+
+-- and that is the greatest sum over its occurrences: one earns it, and none earns more
+abbrev pub BestIsReached : Type 0
+BestIsReached = (pattern : List (List ℕ)) (elements : List (List (ℕ × ℤ))) (best : ℤ) → best_utility pattern elements ≡ Some best →
+    (places : List ℕ) × (is_occurrence pattern elements places ≡ true) × (earned_at pattern elements places ≡ best)
+
+abbrev pub NoneEarnsMore : Type 0
+NoneEarnsMore = (pattern : List (List ℕ)) (elements : List (List (ℕ × ℤ))) (best : ℤ) (places : List ℕ) → best_utility pattern elements ≡ Some best
+    → is_occurrence pattern elements places ≡ true → earned_at pattern elements places ≤ℤ best

@@ -1,4 +1,5 @@
 pub mod Supersets
 pub mod Entries
+pub mod Occurrences
 pub mod Laws
 pub mod Worked

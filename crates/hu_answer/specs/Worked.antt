@@ -1,5 +1,7 @@
 -- Worked rows, by computation.
-use Rattle.std.specs.Prelude.{◌≡◌, true, false, [], ◌∷◌, refl}
+use Rattle.std.specs.Prelude.{◌≡◌, ℕ, ℤ, pos, true, false, List, [], ◌∷◌, refl}
+use Rattle.hu_kind.specs.Worked.{later_is_greatest}
+use Rattle.hu_answer.specs.Occurrences.{is_occurrence, earned_at}
 use Rattle.hu_answer.specs.Supersets.{is_item_of, is_proper_superset}
 
 -- 3 is one of {1, 3}, and 2 isn't
@@ -19,3 +21,20 @@ no_item_more = refl
 
 pub one_item_less : is_proper_superset (2 ∷ 3 ∷ 4 ∷ []) (1 ∷ 3 ∷ []) ≡ false
 one_item_less = refl
+
+-- `1 -1 2 -1` occurs in `1[2] -1 1[5] -1 2[3] -1` at the second element and the third, and earns 8 there
+pub at_second_and_third : is_occurrence ((1 ∷ []) ∷ (2 ∷ []) ∷ []) later_is_greatest (1 ∷ 2 ∷ []) ≡ true
+at_second_and_third = refl
+
+pub earned_at_second_and_third : earned_at ((1 ∷ []) ∷ (2 ∷ []) ∷ []) later_is_greatest (1 ∷ 2 ∷ []) ≡ pos 8
+earned_at_second_and_third = refl
+
+-- not at the third and the second, nor at the first two, nor at one place alone
+pub not_backwards : is_occurrence ((2 ∷ []) ∷ (1 ∷ []) ∷ []) later_is_greatest (2 ∷ 1 ∷ []) ≡ false
+not_backwards = refl
+
+pub not_where_it_is_not_held : is_occurrence ((1 ∷ []) ∷ (2 ∷ []) ∷ []) later_is_greatest (0 ∷ 1 ∷ []) ≡ false
+not_where_it_is_not_held = refl
+
+pub not_at_one_place : is_occurrence ((1 ∷ []) ∷ (2 ∷ []) ∷ []) later_is_greatest (1 ∷ []) ≡ false
+not_at_one_place = refl

@@ -1,6 +1,6 @@
 //! What holds of every answer. These calls do nothing: their contracts are the laws.
 
-ghost use Rattle.hu_answer.specs.Laws.{IsItemAnswer, IsClosedAnswer, AnswerAscends, StandsOnce, IsFirstOfAnswer, OutsideComesAfter, GreaterTopKeepsFront, HigherMinimumKeepsFront, UtilitiesAdd, SupportsAdd, ItemsInAnyOrder, ClosedInAnyOrder, SequencesInAnyOrder};
+ghost use Rattle.hu_answer.specs.Laws.{IsItemAnswer, IsClosedAnswer, AnswerAscends, StandsOnce, IsFirstOfAnswer, OutsideComesAfter, GreaterTopKeepsFront, HigherMinimumKeepsFront, UtilitiesAdd, SupportsAdd, ItemsInAnyOrder, ClosedInAnyOrder, SequencesInAnyOrder, HasBestWhereItOccurs, BestIsReached, NoneEarnsMore};
 
 /// An entry stands in the answer over itemsets exactly where it is that of a set that is found.
 pub fn law_of_itemsets()
@@ -47,4 +47,12 @@ pub fn law_of_any_order()
     ensures items { ItemsInAnyOrder }
     ensures closed { ClosedInAnyOrder }
     ensures sequences { SequencesInAnyOrder }
+{}
+
+/// What a sequence earns at best in a record is the greatest sum over its occurrences, and there is one exactly where
+/// it occurs.
+pub fn law_of_occurrences()
+    ensures occurs { HasBestWhereItOccurs }
+    ensures reached { BestIsReached }
+    ensures greatest { NoneEarnsMore }
 {}
