@@ -1,4 +1,4 @@
--- Supersets of a set of items, and closed sets in terms of them: after Pasquier, Bastide, Taouil and Lakhal (1999).
+-- Supersets of a set of items, and closed sets in terms of them.
 use Rattle.std.specs.Prelude.{◌≡◌, ◌≢◌, ℕ, ◌==◌, ℤ, Bool, true, not, ◌&&◌, List}
 use Rattle.std.specs.List.{list_all, list_any}
 use Rattle.hu_kind.specs.Database.{support}

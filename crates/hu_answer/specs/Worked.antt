@@ -1,5 +1,5 @@
 -- Worked rows, by computation.
-use Rattle.std.specs.Prelude.{◌≡◌, ℕ, ℤ, pos, true, false, List, [], ◌∷◌, refl}
+use Rattle.std.specs.Prelude.{◌≡◌, pos, true, false, [], ◌∷◌, refl}
 use Rattle.hu_kind.specs.Worked.{later_is_greatest}
 use Rattle.hu_answer.specs.Occurrences.{is_occurrence, earned_at}
 use Rattle.hu_answer.specs.Supersets.{is_item_of, is_proper_superset}

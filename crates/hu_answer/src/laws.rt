@@ -1,6 +1,11 @@
 //! What holds of every answer. These calls do nothing: their contracts are the laws.
 
-ghost use Rattle.hu_answer.specs.Laws.{IsItemAnswer, IsClosedAnswer, AnswerAscends, StandsOnce, IsFirstOfAnswer, OutsideComesAfter, GreaterTopKeepsFront, HigherMinimumKeepsFront, UtilitiesAdd, SupportsAdd, ItemsInAnyOrder, ClosedInAnyOrder, SequencesInAnyOrder, HasBestWhereItOccurs, BestIsReached, NoneEarnsMore};
+ghost use Rattle.hu_answer.specs.Laws.{IsItemAnswer, IsClosedAnswer};
+ghost use Rattle.hu_answer.specs.Laws.{AnswerAscends, StandsOnce};
+ghost use Rattle.hu_answer.specs.Laws.{IsFirstOfAnswer, OutsideComesAfter, GreaterTopKeepsFront};
+ghost use Rattle.hu_answer.specs.Laws.{HigherMinimumKeepsFront, UtilitiesAdd, SupportsAdd};
+ghost use Rattle.hu_answer.specs.Laws.{ItemsInAnyOrder, ClosedInAnyOrder, SequencesInAnyOrder};
+ghost use Rattle.hu_answer.specs.Laws.{HasBestWhereItOccurs, BestIsReached, NoneEarnsMore};
 
 /// An entry stands in the answer over itemsets exactly where it is that of a set that is found.
 pub fn law_of_itemsets()
@@ -13,7 +18,6 @@ pub fn law_of_closed_itemsets()
 {}
 
 /// Each entry of an answer comes before those after it in the one order, so it stands once.
-#[tactic(auto, using(crate::proofs::lemmas::Fronts::answer_ascends, crate::proofs::lemmas::Fronts::stands_once))]
 pub fn law_of_order()
     ensures ascends { AnswerAscends }
     ensures once { StandsOnce }
@@ -42,7 +46,6 @@ pub fn law_of_sums()
 {}
 
 /// The order of the records doesn't matter to an answer.
-#[tactic(auto, using(crate::proofs::lemmas::AnyOrder::items_in_any_order, crate::proofs::lemmas::AnyOrder::closed_in_any_order, crate::proofs::lemmas::AnyOrder::sequences_in_any_order))]
 pub fn law_of_any_order()
     ensures items { ItemsInAnyOrder }
     ensures closed { ClosedInAnyOrder }

@@ -30,7 +30,8 @@ same-entries least top ps qs there back =
 
 -- ---- sets
 
-found-again : (first second : List (List (ℕ × ℤ))) (least : ℤ) (items : List ℕ) → IsPermutation first second → IsFoundSet first least items → IsFoundSet second least items
+found-again : (first second : List (List (ℕ × ℤ))) (least : ℤ) (items : List ℕ) → IsPermutation first second → IsFoundSet first least items
+    → IsFoundSet second least items
 found-again first second least items h f = record {
   some = f.some;
   ascending = f.ascending;
@@ -38,7 +39,8 @@ found-again first second least items h f = record {
   earns = subst (λ z. least ≤ℤ z) (utility-permutation first second items h) f.earns;
 }
 
-entry-again : (first second : List (List (ℕ × ℤ))) (items : List ℕ) (entry : Entry) → IsPermutation first second → IsEntryOf first items entry → IsEntryOf second items entry
+entry-again : (first second : List (List (ℕ × ℤ))) (items : List ℕ) (entry : Entry) → IsPermutation first second → IsEntryOf first items entry
+    → IsEntryOf second items entry
 entry-again first second items entry h is = record {
   key = is.key;
   earned = is.earned ∙ utility-permutation first second items h;
@@ -57,7 +59,8 @@ items-again first second least h e c =
 
 pub items_in_any_order : ItemsInAnyOrder
 items_in_any_order first second least top h =
-    same-entries least top (item_patterns first) (item_patterns second) (items-again first second least h) (items-again second first least (IsPermutation-sym first second h))
+    same-entries least top (item_patterns first) (item_patterns second) (items-again first second least h)
+    (items-again second first least (IsPermutation-sym first second h))
 
 closed_answer-again : (first second : List (List (ℕ × ℤ))) (least : ℤ) → IsPermutation first second → (e : Entry)
     → Contains (closed_answer first least None) e → Contains (closed_answer second least None) e
@@ -76,15 +79,20 @@ closed_in_any_order first second least top h =
 abbrev patterns_of : List (List (ℕ × ℤ)) → List (List (List ℕ))
 patterns_of r = filter (λ p. nat_lt 0 (length p)) (subsequences r)
 
-sequence_patterns-again : (first second : List (List (List (ℕ × ℤ)))) → IsPermutation first second → (e : Entry) → Member e (sequence_patterns first) → Member e (sequence_patterns second)
+sequence_patterns-again : (first second : List (List (List (ℕ × ℤ)))) → IsPermutation first second → (e : Entry)
+    → Member e (sequence_patterns first) → Member e (sequence_patterns second)
 sequence_patterns-again first second h e m =
     let from = Member-from_flat_map (λ r. map (sequence_entry first) (patterns_of r)) e first m in
     let pattern = Member-from_map (sequence_entry first) e (patterns_of from.0) from.2 in
     let stands = Member-from_contains from.0 second (Contains-permutation first second from.0 h (Contains-from_member from.0 first from.1)) in
     let same : sequence_entry second pattern.0 ≡ e =
-    entry-same (sequence_entry second pattern.0) (sequence_entry first pattern.0) refl (sym (sequence_utility-permutation first second pattern.0 h)) (sym (sequence_support-permutation first second pattern.0 h)) ∙ pattern.2 in
+    entry-same (sequence_entry second pattern.0) (sequence_entry first pattern.0) refl
+    (sym (sequence_utility-permutation first second pattern.0 h))
+    (sym (sequence_support-permutation first second pattern.0 h))
+    ∙ pattern.2 in
     Member-flat_map (λ r. map (sequence_entry second) (patterns_of r)) from.0 e second stands
-    (subst (λ x. Member x (map (sequence_entry second) (patterns_of from.0))) same (Member-map (sequence_entry second) pattern.0 (patterns_of from.0) pattern.1))
+    (subst (λ x. Member x (map (sequence_entry second) (patterns_of from.0))) same
+    (Member-map (sequence_entry second) pattern.0 (patterns_of from.0) pattern.1))
 
 sequences-again : (first second : List (List (List (ℕ × ℤ)))) (least : ℤ) → IsPermutation first second → (e : Entry)
     → Contains (sequence_answer first least None) e → Contains (sequence_answer second least None) e

@@ -22,7 +22,8 @@ member-item : (i : ℕ) (items : List ℕ) → Member i items → is_item_of i i
 member-item i items m = any-from_member (λ j. eqb i j) i items m (eq-eqb i i refl)
 
 -- a record that holds a superset holds the set
-holds-superset : (larger items : List ℕ) (cells : List (ℕ × ℤ)) → list_all (λ i. is_item_of i larger) items ≡ true → holds larger cells ≡ true → holds items cells ≡ true
+holds-superset : (larger items : List ℕ) (cells : List (ℕ × ℤ)) → list_all (λ i. is_item_of i larger) items ≡ true → holds larger cells ≡ true
+    → holds items cells ≡ true
 holds-superset larger items cells within h =
     all-by_members (λ i. has i cells) items
     (λ i m. all-at_member (λ j. has j cells) i larger h (item-member i larger (all-at_member (λ j. is_item_of j larger) i items within m)))
@@ -73,7 +74,8 @@ both-or_not true b h = refl
 both-or_not false true h = h
 both-or_not false false h = refl
 
-support-larger : (records : List (List (ℕ × ℤ))) (items : List ℕ) (i : ℕ) → goes_with records items i ≡ true → support records (i ∷ items) ≡ support records items
+support-larger : (records : List (List (ℕ × ℤ))) (items : List ℕ) (i : ℕ) → goes_with records items i ≡ true
+    → support records (i ∷ items) ≡ support records items
 support-larger records items i goes =
     count-by_members (holds (i ∷ items)) (holds items) records
     (λ r m. both-or_not (has i r) (holds items r) (all-at_member (λ s. not (holds items s) || has i s) r records goes m))
@@ -91,7 +93,8 @@ closed-by_supersets records items closed =
 pub is_closed_answer : IsClosedAnswer
 is_closed_answer records least entry = (there, back)
   where
-    there : Contains (closed_answer records least None) entry → (items : List ℕ) × IsFoundSet records least items × IsClosedSet records items × IsEntryOf records items entry
+    there : Contains (closed_answer records least None) entry
+        → (items : List ℕ) × IsFoundSet records least items × IsClosedSet records items × IsEntryOf records items entry
     there c =
         let found = Member-from_answer least (closed_patterns records) entry (Member-from_contains entry _ c) in
         let from = Member-from_map (item_entry records) entry (filter (is_closed records) (occurring_sets records)) found.0 in
@@ -108,10 +111,12 @@ is_closed_answer records least entry = (there, back)
           set-of_entry records from.0 entry from.2,
         )
 
-    back : (items : List ℕ) × IsFoundSet records least items × IsClosedSet records items × IsEntryOf records items entry → Contains (closed_answer records least None) entry
+    back : (items : List ℕ) × IsFoundSet records least items × IsClosedSet records items × IsEntryOf records items entry
+        → Contains (closed_answer records least None) entry
     back s =
         let occurs : Occurs records s.0 = record { some = s.1.some; ascending = s.1.ascending; held = s.1.held } in
-        let closed = Member-filter (is_closed records) s.0 (occurring_sets records) (Member-from_occurs records s.0 occurs) (closed-by_supersets records s.0 s.2) in
+        let closed = Member-filter (is_closed records) s.0 (occurring_sets records)
+        (Member-from_occurs records s.0 occurs) (closed-by_supersets records s.0 s.2) in
         let m = Member-map (item_entry records) s.0 (filter (is_closed records) (occurring_sets records)) closed in
         let stands = Member-answer least (closed_patterns records) (item_entry records s.0) m s.1.earns in
         Contains-from_member entry _ (subst (λ e. Member e (closed_answer records least None)) (entry-of_set records s.0 entry s.3) stands)

@@ -37,10 +37,12 @@ sorted-cut cmp None xs h = h
 sorted-cut cmp (Some k) xs h = sorted-take cmp k xs h
 
 pub sorted-answer : (least : ℤ) (top : Option ℕ) (patterns : List Entry) → IsStrictlySortedBy entry_cmp (answer least top patterns)
-sorted-answer least top patterns = sorted-cut entry_cmp top (ranking entry_cmp (found least patterns)) (sorted-ranked entry_cmp entry_order (found least patterns))
+sorted-answer least top patterns =
+    sorted-cut entry_cmp top (ranking entry_cmp (found least patterns)) (sorted-ranked entry_cmp entry_order (found least patterns))
 
 pub answer_ascends : AnswerAscends
-answer_ascends least top patterns i j d before within = Less-from_sorted entry_cmp (answer least top patterns) i j d (sorted-answer least top patterns) before within
+answer_ascends least top patterns i j d before within =
+    Less-from_sorted entry_cmp (answer least top patterns) i j d (sorted-answer least top patterns) before within
 
 pub stands_once : StandsOnce
 stands_once least top patterns i j d here there same = by (nat_cmp i j) (ranked i j (nat_cmp i j) refl)
@@ -124,7 +126,8 @@ filter-front higher (x ∷ xs) h = by (filter-front higher xs h.1) (reaches high
     by ih false e = let none : rest ≡ [] = none-reach higher x xs h.0 e in subst (λ s. s ≡ take (length s) (x ∷ xs)) (sym none) refl
 
 -- what a higher minimum finds is what reaches it of what the lower one finds
-pub answer-higher : (least higher : ℤ) (patterns : List Entry) → least ≤ℤ higher → answer higher None patterns ≡ filter (reaches higher) (answer least None patterns)
+pub answer-higher : (least higher : ℤ) (patterns : List Entry) → least ≤ℤ higher
+    → answer higher None patterns ≡ filter (reaches higher) (answer least None patterns)
 answer-higher least higher patterns h =
     sorted-same entry_cmp entry_order (answer higher None patterns) (filter (reaches higher) (answer least None patterns)) (sorted-answer higher None patterns)
     (IsStrictlySortedBy-filter entry_cmp (reaches higher) (answer least None patterns) (sorted-answer least None patterns))

@@ -1,5 +1,5 @@
 -- The best utility of a sequence is the greatest over its occurrences.
-use Rattle.std.proofs.Common.{◌≡◌, ℕ, zero, suc, ◌<◌, nat_lt, Bool, true, false, cond, ◌&&◌, ℤ, pos, ◌+ℤ◌, ◌<ℤ◌, ◌≤ℤ◌, Option, None, Some, is_some, option_map, List, [], ◌∷◌, map, length, get_or, refl, sym, ap, ◌∙◌, subst, ◌⊎◌, inl, inr, arith}
+use Rattle.std.proofs.Common.{◌≡◌, ℕ, zero, suc, ◌<◌, nat_lt, Bool, true, false, cond, ◌&&◌, ℤ, pos, ◌+ℤ◌, ◌≤ℤ◌, Option, None, Some, is_some, option_map, List, [], ◌∷◌, map, length, get_or, refl, sym, ap, ◌∙◌, subst, ◌⊎◌, inl, inr, arith}
 use Rattle.std.specs.Int.{int_max}
 use Rattle.std.specs.List.{list_all}
 use Rattle.std.proofs.lemmas.Bool.{and_parts, and_from, lt-ltb, ltb-true}
@@ -37,13 +37,15 @@ ascending-further : (ks : List ℕ) → is_ascending (further ks) ≡ is_ascendi
 ascending-further [] = refl
 ascending-further (k ∷ ks) = let head = above-further k ks in let tail = ascending-further ks in rw (head, tail) refl
 
-held-further : (pattern : List (List ℕ)) (e : List (ℕ × ℤ)) (es : List (List (ℕ × ℤ))) (ks : List ℕ) → are_held_at pattern (e ∷ es) (further ks) ≡ are_held_at pattern es ks
+held-further : (pattern : List (List ℕ)) (e : List (ℕ × ℤ)) (es : List (List (ℕ × ℤ))) (ks : List ℕ)
+    → are_held_at pattern (e ∷ es) (further ks) ≡ are_held_at pattern es ks
 held-further [] e es [] = refl
 held-further [] e es (k ∷ ks) = refl
 held-further (p ∷ ps) e es [] = refl
 held-further (p ∷ ps) e es (k ∷ ks) = let head = less-further k (length es) in let tail = held-further ps e es ks in rw (head, tail) refl
 
-earned-further : (pattern : List (List ℕ)) (e : List (ℕ × ℤ)) (es : List (List (ℕ × ℤ))) (ks : List ℕ) → earned_at pattern (e ∷ es) (further ks) ≡ earned_at pattern es ks
+earned-further : (pattern : List (List ℕ)) (e : List (ℕ × ℤ)) (es : List (List (ℕ × ℤ))) (ks : List ℕ)
+    → earned_at pattern (e ∷ es) (further ks) ≡ earned_at pattern es ks
 earned-further [] e es ks = refl
 earned-further (p ∷ ps) e es [] = refl
 earned-further (p ∷ ps) e es (k ∷ ks) = ap (λ s. values_of p (get_or es k []) +ℤ s) (earned-further ps e es ks)
@@ -88,10 +90,11 @@ some-same x y h = cc
 
 reached-later : (pattern : List (List ℕ)) (e : List (ℕ × ℤ)) (es : List (List (ℕ × ℤ))) (u : ℤ) → Reached pattern es u → Reached pattern (e ∷ es) u
 reached-later pattern e es u r =
-    let parts = and_parts (is_ascending r.0) (are_held_at pattern es r.0) r.1 in
-    (
+    let parts = and_parts (is_ascending r.0) (are_held_at pattern es r.0) r.1 in (
       further r.0,
-      and_from (is_ascending (further r.0)) (are_held_at pattern (e ∷ es) (further r.0)) (ascending-further r.0 ∙ parts.0) (held-further pattern e es r.0 ∙ parts.1),
+      and_from (is_ascending (further r.0)) (are_held_at pattern (e ∷ es) (further r.0))
+          (ascending-further r.0 ∙ parts.0)
+          (held-further pattern e es r.0 ∙ parts.1),
       earned-further pattern e es r.0 ∙ r.2,
     )
 
@@ -101,12 +104,11 @@ unfolding reached-later
 reached-first p ps e es w h r =
     let later = reached-later ps e es w r in
     let parts = and_parts (is_ascending (further r.0)) (are_held_at ps (e ∷ es) (further r.0)) later.1 in
-    let here = and_from (nat_lt 0 (length (e ∷ es))) (holds p e) (lt-ltb 0 (length (e ∷ es)) (omega arith)) h in
-    (
+    let here = and_from (nat_lt 0 (length (e ∷ es))) (holds p e) (lt-ltb 0 (length (e ∷ es)) (omega arith)) h in (
       0 ∷ further r.0,
       and_from (is_ascending (0 ∷ further r.0)) (are_held_at (p ∷ ps) (e ∷ es) (0 ∷ further r.0))
-      (and_from (list_all (λ j. nat_lt 0 j) (further r.0)) (is_ascending (further r.0)) (above-zero r.0) parts.0)
-      (and_from (nat_lt 0 (length (e ∷ es)) && holds p e) (are_held_at ps (e ∷ es) (further r.0)) here parts.1),
+          (and_from (list_all (λ j. nat_lt 0 j) (further r.0)) (is_ascending (further r.0)) (above-zero r.0) parts.0)
+          (and_from (nat_lt 0 (length (e ∷ es)) && holds p e) (are_held_at ps (e ∷ es) (further r.0)) here parts.1),
       ap (λ s. values_of p e +ℤ s) later.2,
     )
 
@@ -117,7 +119,8 @@ best_is_reached (p ∷ ps) (e ∷ es) best h = elim (better-cases (first_utility
   | inl first ↦
       let held = first-held (holds p e) (option_map (λ u. values_of p e +ℤ u) (best_utility ps es)) best first in
       let rest = mapped (λ u. values_of p e +ℤ u) (best_utility ps es) best held.1 in
-      subst (Reached (p ∷ ps) (e ∷ es)) (some-same (values_of p e +ℤ rest.0) best rest.2) (reached-first p ps e es rest.0 held.0 (best_is_reached ps es rest.0 rest.1))
+      subst (Reached (p ∷ ps) (e ∷ es)) (some-same (values_of p e +ℤ rest.0) best rest.2)
+      (reached-first p ps e es rest.0 held.0 (best_is_reached ps es rest.0 rest.1))
   | inr later ↦ reached-later (p ∷ ps) e es best (best_is_reached (p ∷ ps) es best later)
 ]
 
@@ -146,10 +149,12 @@ at_least-first false a value u e h = absurd (let no : false ≡ true = e in cc)
 -- an occurrence at places one further on
 occurrence-nearer : (pattern : List (List ℕ)) (e : List (ℕ × ℤ)) (es : List (List (ℕ × ℤ))) (js : List ℕ) → is_ascending (further js) ≡ true
     → are_held_at pattern (e ∷ es) (further js) ≡ true → is_occurrence pattern es js ≡ true
-occurrence-nearer pattern e es js up held = and_from (is_ascending js) (are_held_at pattern es js) (sym (ascending-further js) ∙ up) (sym (held-further pattern e es js) ∙ held)
+occurrence-nearer pattern e es js up held =
+    and_from (is_ascending js) (are_held_at pattern es js) (sym (ascending-further js) ∙ up) (sym (held-further pattern e es js) ∙ held)
 
 abbrev Bounded : List (List ℕ) → List (List (ℕ × ℤ)) → Type 0
-Bounded pattern elements = (places : List ℕ) → is_occurrence pattern elements places ≡ true → IsAtLeast (best_utility pattern elements) (earned_at pattern elements places)
+Bounded pattern elements = (places : List ℕ) → is_occurrence pattern elements places ≡ true →
+    IsAtLeast (best_utility pattern elements) (earned_at pattern elements places)
 
 bounded-later : (p : List ℕ) (ps : List (List ℕ)) (e : List (ℕ × ℤ)) (es : List (List (ℕ × ℤ))) → Bounded (p ∷ ps) es → (js : List ℕ)
     → is_occurrence (p ∷ ps) (e ∷ es) (further js) ≡ true → IsAtLeast (best_utility (p ∷ ps) (e ∷ es)) (earned_at (p ∷ ps) (e ∷ es) (further js))
@@ -170,10 +175,6 @@ bounded-first p ps e es bounded js occurs =
     let first = at_least-first (holds p e) (best_utility ps es) (values_of p e) (earned_at ps es js) here.1 least in
     subst (IsAtLeast (best_utility (p ∷ ps) (e ∷ es))) (ap (λ s. values_of p e +ℤ s) (sym (earned-further ps e es js)))
     (at_least-left (first_utility p ps e es) (best_utility (p ∷ ps) es) (values_of p e +ℤ earned_at ps es js) first)
-
-none-empty : {P : Type 0} (b : Bool) → (b && false) ≡ true → P
-none-empty true h = absurd (let no : false ≡ true = h in cc)
-none-empty false h = absurd (let no : false ≡ true = h in cc)
 
 bounded : (pattern : List (List ℕ)) (elements : List (List (ℕ × ℤ))) → Bounded pattern elements
 bounded [] elements places occurs = omega (arith, ints)

@@ -50,7 +50,8 @@ Member-from_ranked cmp z (x ∷ xs) m = elim (Member-from_insert cmp z x (rankin
 
 -- ---- a ranking is in order
 
-each-insert-cases : {A : Type 0} (P : A → Type 0) (cmp : A → A → Ordering) (x y : A) (ys : List A) (o : Ordering) → P x → AllByRecursion P (y ∷ ys) → AllByRecursion P (insert_key cmp ys x)
+each-insert-cases : {A : Type 0} (P : A → Type 0) (cmp : A → A → Ordering) (x y : A) (ys : List A) (o : Ordering) → P x → AllByRecursion P (y ∷ ys)
+    → AllByRecursion P (insert_key cmp ys x)
     → AllByRecursion P (match_ordering o (x ∷ y ∷ ys) (y ∷ ys) (y ∷ insert_key cmp ys x))
 each-insert-cases P cmp x y ys Less p h ih = (p, h)
 each-insert-cases P cmp x y ys Equal p h ih = h
@@ -70,7 +71,8 @@ sorted-insert-cases cmp e x y ys Greater h up ih =
     let less : cmp y x ≡ Less = rw (e.total.antisymm y x, h) refl in
     (each-insert (λ z. cmp y z ≡ Less) cmp x ys less up.0, ih)
 
-sorted-insert : {A : Type 0} (cmp : A → A → Ordering) → IsExactOrder cmp → (x : A) (xs : List A) → IsStrictlySortedBy cmp xs → IsStrictlySortedBy cmp (insert_key cmp xs x)
+sorted-insert : {A : Type 0} (cmp : A → A → Ordering) → IsExactOrder cmp → (x : A) (xs : List A) → IsStrictlySortedBy cmp xs
+    → IsStrictlySortedBy cmp (insert_key cmp xs x)
 unfolding IsStrictlySortedBy
 sorted-insert cmp e x [] up = (tt, tt)
 sorted-insert cmp e x (y ∷ ys) up = sorted-insert-cases cmp e x y ys (cmp x y) refl up (sorted-insert cmp e x ys up.1)

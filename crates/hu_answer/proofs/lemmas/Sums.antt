@@ -51,7 +51,8 @@ utility-total : (records : List (List (ℕ × ℤ))) (items : List ℕ) → util
 utility-total [] items = refl
 utility-total (r ∷ rs) items = ap (λ s. utility_in items r +ℤ s) (utility-total rs items)
 
-sequence-total : (records : List (List (List (ℕ × ℤ)))) (pattern : List (List ℕ)) → sequence_utility records pattern ≡ total_by (λ r. unwrap_or (best_utility pattern r) (pos 0)) records
+sequence-total : (records : List (List (List (ℕ × ℤ)))) (pattern : List (List ℕ))
+    → sequence_utility records pattern ≡ total_by (λ r. unwrap_or (best_utility pattern r) (pos 0)) records
 sequence-total [] pattern = refl
 sequence-total (r ∷ rs) pattern = ap (λ s. unwrap_or (best_utility pattern r) (pos 0) +ℤ s) (sequence-total rs pattern)
 

@@ -58,7 +58,8 @@ pub count-same : {A : Type 0} (p q : A → Bool) → ((x : A) → p x ≡ true �
     → (x : A) → Member x xs → q x ≡ true → p x ≡ true
 count-same p q w [] e x m h = absurd m
 count-same p q w (y ∷ ys) e x m h =
-    let heads : cond (p y) 1 0 + count_by p ys ≡ cond (q y) 1 0 + count_by q ys = omega (arith, e, sum_by-cons (λ z. cond (p z) 1 0) y ys, sum_by-cons (λ z. cond (q z) 1 0) y ys) in
+    let heads : cond (p y) 1 0 + count_by p ys ≡ cond (q y) 1 0 + count_by q ys =
+    omega (arith, e, sum_by-cons (λ z. cond (p z) 1 0) y ys, sum_by-cons (λ z. cond (q z) 1 0) y ys) in
     let both = bits-same (p y) (q y) (count_by p ys) (count_by q ys) (count-weaker p q w ys) heads (w y) in
     elim m [
       | inl at_head ↦ subst (λ z. p z ≡ true) at_head (both.0 (subst (λ z. q z ≡ true) (sym at_head) h))
