@@ -1,6 +1,10 @@
 -- Worked rows, by computation.
-use Rattle.std.specs.Prelude.{◌≡◌, pos, true, false, [], ◌∷◌, refl}
-use Rattle.hu_kind.specs.Worked.{later_is_greatest}
+use Rattle.std.specs.Prelude.{◌≡◌, pos, true, false, T, ◌==◌, [], ◌∷◌, refl}
+use Rattle.std.proofs.Common.{subst}
+use Rattle.std.proofs.lemmas.Bool.{ltb-true}
+use Rattle.hu_kind.specs.Worked.{base_a, entry_of, later_is_greatest}
+use Rattle.hu_answer.specs.Entries.{IsEntryOf, IsFoundSet}
+use Rattle.hu_answer.specs.Supersets.{IsClosedSet}
 use Rattle.hu_answer.specs.Occurrences.{is_occurrence, earned_at}
 use Rattle.hu_answer.specs.Supersets.{is_item_of, is_proper_superset}
 
@@ -38,3 +42,21 @@ not_where_it_is_not_held = refl
 
 pub not_at_one_place : is_occurrence ((1 ∷ []) ∷ (2 ∷ []) ∷ []) later_is_greatest (1 ∷ []) ≡ false
 not_at_one_place = refl
+
+-- in base A {2, 5} is found at 30 and not at 32
+pub found_at_30 : IsFoundSet base_a (pos 30) (2 ∷ 5 ∷ [])
+found_at_30 = record { some = ltb-true 0 2 refl; ascending = ((ltb-true 2 5 refl, tt), (tt, tt)); held = ltb-true 0 3 refl; earns = record { le = tt } }
+
+pub not_found_at_32 : IsFoundSet base_a (pos 32) (2 ∷ 5 ∷ []) → ⊥
+not_found_at_32 found = found.earns.le
+
+-- its entry has utility 31 and support 3
+pub entry_of_2_5 : IsEntryOf base_a (2 ∷ 5 ∷ []) (entry_of (2 ∷ 5 ∷ []) 31 3)
+entry_of_2_5 = record { key = refl; earned = refl; held_by = refl }
+
+pub not_with_support_2 : IsEntryOf base_a (2 ∷ 5 ∷ []) (entry_of (2 ∷ 5 ∷ []) 31 2) → ⊥
+not_with_support_2 is = subst (λ n. T (n == 2)) is.held_by tt
+
+-- {2} isn't closed: {2, 3} has its support
+pub not_closed_2 : IsClosedSet base_a (2 ∷ []) → ⊥
+not_closed_2 closed = closed (2 ∷ 3 ∷ []) refl refl
