@@ -8,3 +8,4 @@ pub mod Tests
 pub mod Closed
 pub mod AnyOrder
 pub mod Occurrences
+pub mod Sequences

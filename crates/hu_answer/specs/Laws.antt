@@ -1,15 +1,15 @@
 -- What holds of every answer.
 use Rattle.std.specs.Prelude.{true, is_some, ◌≡◌, ◌↔◌, ℕ, ◌+◌, ◌<◌, ◌≤◌, ℤ, ◌+ℤ◌, ◌≤ℤ◌, Option, None, Some, List, ◌++◌, length, get_or, take}
-use Rattle.std.specs.List.{Contains}
+use Rattle.std.specs.List.{AllByRecursion, Contains}
 use Rattle.std.specs.List.Sorted.{IsPermutation}
 use Rattle.hu_kind.specs.declared.entry.Entry.{Entry}
 use Rattle.hu_kind.specs.Answer.{answer, item_answer, closed_answer, sequence_answer}
 use Rattle.hu_kind.specs.Database.{utility, support}
 use Rattle.hu_kind.specs.Order.{Before}
-use Rattle.hu_kind.specs.Sequence.{best_utility}
+use Rattle.hu_kind.specs.Sequence.{best_utility, IsSequence}
 use Rattle.hu_answer.specs.Occurrences.{is_occurrence, earned_at}
 use Rattle.hu_answer.specs.Supersets.{IsClosedSet}
-use Rattle.hu_answer.specs.Entries.{IsEntryOf, IsFoundSet}
+use Rattle.hu_answer.specs.Entries.{IsEntryOf, IsFoundSet, IsSequenceEntryOf, IsFoundSequence}
 
 -- an entry stands in the answer exactly where it is that of a set that is found
 abbrev pub IsItemAnswer : Type 0
@@ -22,6 +22,12 @@ abbrev pub IsClosedAnswer : Type 0
 IsClosedAnswer = (records : List (List (ℕ × ℤ))) (least : ℤ) (entry : Entry) →
     Contains (closed_answer records least None) entry ↔
     ((items : List ℕ) × IsFoundSet records least items × IsClosedSet records items × IsEntryOf records items entry)
+
+-- and in the answer over sequences exactly where it is that of a sequence that is found
+abbrev pub IsSequenceAnswer : Type 0
+IsSequenceAnswer = (records : List (List (List (ℕ × ℤ)))) → AllByRecursion IsSequence records → (least : ℤ) (entry : Entry) →
+    Contains (sequence_answer records least None) entry ↔
+    ((pattern : List (List ℕ)) × IsFoundSequence records least pattern × IsSequenceEntryOf records pattern entry)
 
 -- each entry of an answer comes before those after it in the one order
 abbrev pub AnswerAscends : Type 0

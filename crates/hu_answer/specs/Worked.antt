@@ -2,8 +2,8 @@
 use Rattle.std.specs.Prelude.{◌≡◌, pos, true, false, T, ◌==◌, [], ◌∷◌, refl}
 use Rattle.std.proofs.Common.{subst}
 use Rattle.std.proofs.lemmas.Bool.{ltb-true}
-use Rattle.hu_kind.specs.Worked.{base_a, entry_of, later_is_greatest}
-use Rattle.hu_answer.specs.Entries.{IsEntryOf, IsFoundSet}
+use Rattle.hu_kind.specs.Worked.{base_a, entry_of, sequence_entry_of, later_is_greatest}
+use Rattle.hu_answer.specs.Entries.{IsEntryOf, IsFoundSet, IsSequenceEntryOf, IsFoundSequence}
 use Rattle.hu_answer.specs.Supersets.{IsClosedSet}
 use Rattle.hu_answer.specs.Occurrences.{is_occurrence, earned_at}
 use Rattle.hu_answer.specs.Supersets.{is_item_of, is_proper_superset}
@@ -60,3 +60,22 @@ not_with_support_2 is = subst (λ n. T (n == 2)) is.held_by tt
 -- {2} isn't closed: {2, 3} has its support
 pub not_closed_2 : IsClosedSet base_a (2 ∷ []) → ⊥
 not_closed_2 closed = closed (2 ∷ 3 ∷ []) refl refl
+
+-- in the record above `1 -1 2 -1` is found at 8 and not at 9, with one entry
+pub sequence_found_at_8 : IsFoundSequence (later_is_greatest ∷ []) (pos 8) ((1 ∷ []) ∷ (2 ∷ []) ∷ [])
+sequence_found_at_8 = record {
+  some = ltb-true 0 2 refl;
+  filled = (ltb-true 0 1 refl, (ltb-true 0 1 refl, tt));
+  ascending = ((tt, tt), ((tt, tt), tt));
+  held = ltb-true 0 1 refl;
+  earns = record { le = tt };
+}
+
+pub sequence_not_found_at_9 : IsFoundSequence (later_is_greatest ∷ []) (pos 9) ((1 ∷ []) ∷ (2 ∷ []) ∷ []) → ⊥
+sequence_not_found_at_9 found = found.earns.le
+
+pub entry_of_sequence : IsSequenceEntryOf (later_is_greatest ∷ []) ((1 ∷ []) ∷ (2 ∷ []) ∷ []) (sequence_entry_of ((1 ∷ []) ∷ (2 ∷ []) ∷ []) 8 1)
+entry_of_sequence = record { key = refl; earned = refl; held_by = refl }
+
+pub not_with_support_of_2 : IsSequenceEntryOf (later_is_greatest ∷ []) ((1 ∷ []) ∷ (2 ∷ []) ∷ []) (sequence_entry_of ((1 ∷ []) ∷ (2 ∷ []) ∷ []) 8 2) → ⊥
+not_with_support_of_2 is = subst (λ n. T (n == 2)) is.held_by tt

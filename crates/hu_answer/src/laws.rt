@@ -1,6 +1,6 @@
 //! What holds of every answer. These calls do nothing: their contracts are the laws.
 
-ghost use Rattle.hu_answer.specs.Laws.{IsItemAnswer, IsClosedAnswer};
+ghost use Rattle.hu_answer.specs.Laws.{IsItemAnswer, IsClosedAnswer, IsSequenceAnswer};
 ghost use Rattle.hu_answer.specs.Laws.{AnswerAscends, StandsOnce};
 ghost use Rattle.hu_answer.specs.Laws.{IsFirstOfAnswer, OutsideComesAfter, GreaterTopKeepsFront};
 ghost use Rattle.hu_answer.specs.Laws.{HigherMinimumKeepsFront, UtilitiesAdd, SupportsAdd};
@@ -15,6 +15,11 @@ pub fn law_of_itemsets()
 /// An entry stands in the answer over closed itemsets exactly where it is that of a set that is found and closed.
 pub fn law_of_closed_itemsets()
     ensures { IsClosedAnswer }
+{}
+
+/// An entry stands in the answer over sequences exactly where it is that of a sequence that is found.
+pub fn law_of_sequences()
+    ensures { IsSequenceAnswer }
 {}
 
 /// Each entry of an answer comes before those after it in the one order, so it stands once.

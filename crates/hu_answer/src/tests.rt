@@ -4,7 +4,7 @@ ghost use Rattle.hu_answer.specs.Laws.{HigherMinimumKeepsFront};
 
 use crate::{
     law_of_any_order, law_of_closed_itemsets, law_of_higher_minimums, law_of_itemsets,
-    law_of_occurrences, law_of_order, law_of_sums, law_of_the_first,
+    law_of_occurrences, law_of_order, law_of_sequences, law_of_sums, law_of_the_first,
 };
 use std::rt::HostRuntime;
 
@@ -19,6 +19,7 @@ fn keeps_fronts()
 fn laws(_rt: HostRuntime) {
     law_of_itemsets();
     law_of_closed_itemsets();
+    law_of_sequences();
     law_of_order();
     law_of_the_first();
     keeps_fronts();

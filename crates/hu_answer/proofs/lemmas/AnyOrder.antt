@@ -1,5 +1,5 @@
 -- Records in another order have the same answers.
-use Rattle.std.proofs.Common.{◌≡◌, ℕ, ◌<◌, nat_lt, ℤ, ◌≤ℤ◌, Option, None, List, map, length, filter, refl, sym, ap, ◌∙◌, subst}
+use Rattle.std.proofs.Common.{◌≡◌, ℕ, ◌<◌, ℤ, ◌≤ℤ◌, Option, None, List, map, refl, sym, ap, ◌∙◌, subst}
 use Rattle.std.specs.List.{Contains}
 use Rattle.std.specs.List.Sorted.{IsPermutation}
 use Rattle.std.proofs.lemmas.List.Sorted.{Contains-permutation, IsPermutation-sym}
@@ -7,7 +7,7 @@ use Rattle.hu_kind.specs.declared.entry.Entry.{Entry}
 use Rattle.hu_kind.specs.Answer.{answer, item_answer, closed_answer, sequence_answer}
 use Rattle.hu_kind.specs.Itemsets.{item_patterns, closed_patterns}
 use Rattle.hu_kind.specs.Order.{entry_cmp, cut}
-use Rattle.hu_kind.specs.Sequence.{sequence_patterns, sequence_entry, subsequences}
+use Rattle.hu_kind.specs.Sequence.{sequence_patterns, sequence_entry}
 use Rattle.hu_kind.proofs.lemmas.Members.{Member, Contains-from_member, Member-from_contains, Member-map, Member-from_map, Member-flat_map, Member-from_flat_map}
 use Rattle.hu_answer.specs.Supersets.{IsClosedSet}
 use Rattle.hu_answer.specs.Entries.{IsEntryOf, IsFoundSet}
@@ -17,6 +17,7 @@ use Rattle.hu_answer.proofs.lemmas.Closed.{is_closed_answer}
 use Rattle.hu_answer.proofs.lemmas.EntryOrder.{entry_order, entry-same}
 use Rattle.hu_answer.proofs.lemmas.Fronts.{sorted-answer}
 use Rattle.hu_answer.proofs.lemmas.Ranked.{sorted-same}
+use Rattle.hu_answer.proofs.lemmas.Sequences.{patterns_of}
 use Rattle.hu_answer.proofs.lemmas.Sums.{utility-permutation, support-permutation, sequence_utility-permutation, sequence_support-permutation}
 
 -- answers with the same entries are the same, cut or whole
@@ -75,9 +76,6 @@ closed_in_any_order first second least top h =
     (closed_answer-again second first least (IsPermutation-sym first second h))
 
 -- ---- sequences
-
-abbrev patterns_of : List (List (ℕ × ℤ)) → List (List (List ℕ))
-patterns_of r = filter (λ p. nat_lt 0 (length p)) (subsequences r)
 
 sequence_patterns-again : (first second : List (List (List (ℕ × ℤ)))) → IsPermutation first second → (e : Entry)
     → Member e (sequence_patterns first) → Member e (sequence_patterns second)

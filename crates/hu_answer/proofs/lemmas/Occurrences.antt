@@ -82,7 +82,8 @@ first-held false a u h = no_best u h
 abbrev Reached : List (List ℕ) → List (List (ℕ × ℤ)) → ℤ → Type 0
 Reached pattern elements u = (places : List ℕ) × (is_occurrence pattern elements places ≡ true) × (earned_at pattern elements places ≡ u)
 
-abbrev first_utility : List ℕ → List (List ℕ) → List (ℕ × ℤ) → List (List (ℕ × ℤ)) → Option ℤ
+-- what a sequence earns with its first itemset in the first element
+abbrev pub first_utility : List ℕ → List (List ℕ) → List (ℕ × ℤ) → List (List (ℕ × ℤ)) → Option ℤ
 first_utility p ps e es = cond (holds p e) (option_map (λ u. values_of p e +ℤ u) (best_utility ps es)) None
 
 some-same : (x y : ℤ) → Some x ≡ Some y → x ≡ y
