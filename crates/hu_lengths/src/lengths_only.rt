@@ -38,7 +38,24 @@ impl<C: Collect> LengthsOnly<C> {
         ensures long { long_of result ≡ long }
         ensures patterns { MakesSized short long (C.state inner) }
     {
+        LengthsOnly::around(inner, short, long)
+    }
+
+    /// The same for any two lengths.
+    pub(crate) fn around(inner: C, short: u32, long: u32) -> LengthsOnly<C>
+        ensures state { ⟦<LengthsOnly<C> as Collect>⟧.state result ≡ sized_state short long (C.state inner) }
+        ensures inner { inner_of result ≡ inner }
+        ensures short { short_of result ≡ short }
+        ensures long { long_of result ≡ long }
+    {
         LengthsOnly { inner, short, long }
+    }
+
+    /// The greatest length.
+    pub(crate) fn long(&self) -> u32
+        ensures { result ≡ long_of self.now }
+    {
+        self.long
     }
 
     /// The inner collector, with all that it keeps.

@@ -6,5 +6,7 @@
 #![tactic(auto)]
 
 mod lengths_only;
+mod search;
 
 pub use lengths_only::LengthsOnly;
+pub use search::{mine, mine_sized};

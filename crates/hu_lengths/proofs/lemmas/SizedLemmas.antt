@@ -1,16 +1,17 @@
 -- What a collector of keys of some lengths makes of entries, and which keys it doesn't want.
-use Rattle.std.proofs.Common.{◌≡◌, ℕ, ◌<◌, int_le, nat_le, Bool, true, false, cond, ◌&&◌, ℤ, ◌<ℤ◌, List, [], ◌∷◌, ◌++◌, length, refl, ap, ◌∙◌, arith, filter}
+use Rattle.std.proofs.Common.{◌≡◌, ℕ, ◌<◌, int_le, nat_le, Bool, true, false, cond, ◌&&◌, ℤ, ◌<ℤ◌, Option, List, [], ◌∷◌, ◌++◌, length, refl, sym, ap, ◌∙◌, arith, filter}
 use Rattle.std.proofs.lemmas.Bool.{and_left, and_right, lt-leb}
 use Rattle.hu_kind.specs.declared.entry.Entry.{Entry}
 use Rattle.hu_kind.specs.Order.{entry_cmp, ranking, cut}
+use Rattle.hu_kind.specs.Itemsets.{item_patterns}
 use Rattle.hu_totals.specs.Ranked.{Ranking, IsRanking}
 use Rattle.hu_collect.specs.Rule.{Rule, passes}
 use Rattle.hu_collect.specs.Ranks.{IsShut, key_of}
-use Rattle.hu_collect.specs.State.{State, floor_in, IsInOrder}
+use Rattle.hu_collect.specs.State.{State, fresh, offered, floor_in, IsInOrder}
 use Rattle.hu_collect.proofs.lemmas.Made.{made-not_passing}
 use Rattle.hu_collect.proofs.lemmas.Searching.{state-equal, kept-in_order, offered-low}
 use Rattle.hu_list.specs.Lengths.{WantsUpto}
-use Rattle.hu_lengths.specs.Lengths.{has_length, of_lengths}
+use Rattle.hu_lengths.specs.Lengths.{has_length, of_lengths, sized_answer}
 use Rattle.hu_lengths.specs.LengthsOnly.{sized_rule, sized_state, Leaves, MakesSized}
 use Rattle.hu_lengths.proofs.lemmas.KeyLengths.{grown-longer, length-key_of}
 
@@ -76,3 +77,33 @@ module _ (short long : ℕ) where
       let key = key_of r.items set in
       let same = length-key_of r rules set up within in
       and_right (inner.wants key) (has_length short long key) (too_long key (omega (arith, over, same)))
+
+-- ---- the answer under lengths
+
+module _ {A : Type 0} (p : A → Bool) (x : A) (xs : List A) where
+  filter-in : p x ≡ true → filter p (x ∷ xs) ≡ x ∷ filter p xs
+  filter-in h = λ j. cond (h j) (x ∷ filter p xs) (filter p xs)
+
+  filter-out : p x ≡ false → filter p (x ∷ xs) ≡ filter p xs
+  filter-out h = λ j. cond (h j) (x ∷ filter p xs) (filter p xs)
+
+filter-swap : {A : Type 0} (p q : A → Bool) (xs : List A) → filter p (filter q xs) ≡ filter q (filter p xs)
+filter-swap p q [] = refl
+filter-swap p q (x ∷ xs) = by (p x) (q x) refl refl (filter-swap p q xs)
+  where
+    by : (b c : Bool) → p x ≡ b → q x ≡ c → filter p (filter q xs) ≡ filter q (filter p xs)
+        → filter p (filter q (x ∷ xs)) ≡ filter q (filter p (x ∷ xs))
+    by true true e f ih =
+        ap (filter p) (filter-in q x xs f) ∙ filter-in p x (filter q xs) e ∙ ap (λ t. x ∷ t) ih
+        ∙ sym (ap (filter q) (filter-in p x xs e) ∙ filter-in q x (filter p xs) f)
+    by true false e f ih = ap (filter p) (filter-out q x xs f) ∙ ih ∙ sym (ap (filter q) (filter-in p x xs e) ∙ filter-out q x (filter p xs) f)
+    by false true e f ih = ap (filter p) (filter-in q x xs f) ∙ filter-out p x (filter q xs) e ∙ ih ∙ sym (ap (filter q) (filter-out p x xs e))
+    by false false e f ih = ap (filter p) (filter-out q x xs f) ∙ ih ∙ sym (ap (filter q) (filter-out p x xs e))
+
+-- offered all patterns, a fresh collector of keys of some lengths holds the answer
+pub sized-answer : (records : List (List (ℕ × ℤ))) (least : ℤ) (top : Option ℕ) (short long : ℕ)
+    → (offered (sized_state short long (fresh least top)) (item_patterns records)).content ≡ sized_answer records least top short long
+sized-answer records least top short long =
+    ap (λ es. cut top (ranking entry_cmp es))
+    (filter-lengths short long (fresh least top).rule (item_patterns records)
+    ∙ filter-swap (λ e. int_le least e.utility) (λ e. has_length short long e.key) (item_patterns records))
