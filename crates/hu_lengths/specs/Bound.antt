@@ -1,8 +1,8 @@
 -- The most that a set of ranks with so many later ranks can earn. After FHM+ (Fournier-Viger, Lin, Duong and Dam, 2016), with
 -- values of either sign.
-use Rattle.std.specs.Prelude.{◌≡◌, ℕ, nat_lt, ◌≤◌, ℤ, pos, int_lt, int_le, ◌+ℤ◌, ◌≤ℤ◌, ◌&&◌, List, [], ◌∷◌, ◌++◌, take, length, if◌then◌else◌}
+use Rattle.std.specs.Prelude.{◌≡◌, ℕ, nat_lt, ◌≤◌, ℤ, pos, int_lt, ◌+ℤ◌, ◌≤ℤ◌, ◌&&◌, List, [], ◌∷◌, ◌++◌, take, length, slice_index_or, ◌<◌, if◌then◌else◌}
 use Rattle.std.specs.List.{list_all}
-use Rattle.hu_kind.specs.Record.{holds, values_of, positive_part}
+use Rattle.hu_kind.specs.Record.{holds, values_of, positive_part, items_in}
 use Rattle.hu_kind.specs.Database.{utility}
 use Rattle.hu_kind.specs.Order.{Ascend}
 use Rattle.hu_totals.specs.Ranked.{Ranking}
@@ -16,10 +16,15 @@ later_values set [] = []
 later_values set (cell ∷ cells) =
     (if list_all (λ rank. nat_lt rank cell.0) set && int_lt (pos 0) cell.1 then cell.1 ∷ [] else []) ++ later_values set cells
 
+-- the same at ranks after one
+abbrev pub values_after : ℕ → List (ℕ × ℤ) → List ℤ
+values_after last [] = []
+values_after last (cell ∷ cells) = (if nat_lt last cell.0 && int_lt (pos 0) cell.1 then cell.1 ∷ [] else []) ++ values_after last cells
+
 -- a value put into falling ones
 abbrev pub put : ℤ → List ℤ → List ℤ
 put value [] = value ∷ []
-put value (other ∷ others) = if int_le value other then other ∷ put value others else value ∷ other ∷ others
+put value (other ∷ others) = if int_lt other value then value ∷ other ∷ others else other ∷ put value others
 
 -- values, the greatest first
 abbrev pub falling : List ℤ → List ℤ
@@ -39,6 +44,22 @@ sized_most set room cells = positive_part (values_of set cells +ℤ sum_of (take
 abbrev pub sized_bound : List (List (ℕ × ℤ)) → List ℕ → ℕ → ℤ
 sized_bound [] set room = pos 0
 sized_bound (cells ∷ records) set room = (if holds set cells then sized_most set room cells else pos 0) +ℤ sized_bound records set room
+
+-- the same at a node of a list, by the place of its record and the set's last rank
+abbrev pub most_at : List (List (ℕ × ℤ)) → ℕ → ℕ → Node → ℤ
+most_at records last room node =
+    positive_part (node.own +ℤ sum_of (take room (falling (values_after last (slice_index_or records node.place [])))))
+
+-- the sum of that over nodes
+abbrev pub most_of : List (List (ℕ × ℤ)) → ℕ → ℕ → List Node → ℤ
+most_of records last room [] = pos 0
+most_of records last room (node ∷ nodes) = most_at records last room node +ℤ most_of records last room nodes
+
+-- a node is of a record with ascending ranks, and its rest is the sum of the values there after a last rank
+pub record IsNodeAt (records : List (List (ℕ × ℤ))) (last : ℕ) (node : Node) : Type 0 where
+  pub within : node.place < length records
+  pub ascending : Ascend (items_in (slice_index_or records node.place []))
+  pub rest : node.rest ≡ sum_of (values_after last (slice_index_or records node.place []))
 
 -- a list is that of a set of ranks with a last one
 pub record IsListOf (r : Ranking) (nodes : List Node) (last : ℕ) (set : List ℕ) : Type 0 where
