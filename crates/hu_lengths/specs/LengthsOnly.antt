@@ -30,6 +30,10 @@ sized_rule short long inner = record {
 abbrev pub sized_state : ℕ → ℕ → State → State
 sized_state short long inner = record { rule = sized_rule short long inner.rule; content = inner.content }
 
+-- that of such a collector, by that of the inner one
+abbrev pub sized_in : {C : Type 0} → (C → State) → C × ℕ × ℕ → State
+sized_in state c = sized_state (short_of c) (long_of c) (state (inner_of c))
+
 -- an entry leaves a state as it is
 abbrev pub Leaves : State → Entry → Type 0
 Leaves state entry = offered state (entry ∷ []) ≡ state

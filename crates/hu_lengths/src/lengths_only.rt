@@ -3,7 +3,7 @@
 ghost use Rattle.std.specs.Prelude.{◌≡◌, ◌≤◌, ◌<◌, ◌⊎◌, length, true, false};
 ghost use Rattle.hu_collect.specs.Ranks.{CanOpen, IsShut};
 ghost use Rattle.hu_lengths.specs.Lengths.{has_length};
-ghost use Rattle.hu_lengths.specs.LengthsOnly.{sized_state, inner_of, short_of, long_of, Leaves, MakesSized};
+ghost use Rattle.hu_lengths.specs.LengthsOnly.{sized_state, sized_in, inner_of, short_of, long_of, Leaves, MakesSized};
 
 use hu_collect::Collect;
 use hu_kind::{Entry, Key, NoMemory};
@@ -32,7 +32,7 @@ impl<C: Collect> LengthsOnly<C> {
         requires some { 1 ≤ short }
         requires range { short ≤ long }
         requires few { long ≤ 4096 }
-        ensures state { ⟦<LengthsOnly<C> as Collect>⟧.state result ≡ sized_state short long (C.state inner) }
+        ensures state { sized_in C.state result ≡ sized_state short long (C.state inner) }
         ensures inner { inner_of result ≡ inner }
         ensures short { short_of result ≡ short }
         ensures long { long_of result ≡ long }
@@ -43,7 +43,7 @@ impl<C: Collect> LengthsOnly<C> {
 
     /// The same for any two lengths.
     pub(crate) fn around(inner: C, short: u32, long: u32) -> LengthsOnly<C>
-        ensures state { ⟦<LengthsOnly<C> as Collect>⟧.state result ≡ sized_state short long (C.state inner) }
+        ensures state { sized_in C.state result ≡ sized_state short long (C.state inner) }
         ensures inner { inner_of result ≡ inner }
         ensures short { short_of result ≡ short }
         ensures long { long_of result ≡ long }
@@ -61,7 +61,7 @@ impl<C: Collect> LengthsOnly<C> {
     /// The inner collector, with all that it keeps.
     pub fn into_inner(self) -> C
         ensures inner { result ≡ inner_of self }
-        ensures state { ⟦<LengthsOnly<C> as Collect>⟧.state self ≡ sized_state (short_of self) (long_of self) (C.state result) }
+        ensures state { sized_in C.state self ≡ sized_state (short_of self) (long_of self) (C.state result) }
     {
         self.inner
     }
@@ -69,7 +69,7 @@ impl<C: Collect> LengthsOnly<C> {
     /// Whether an entry may change the content: it is not below the floor, and its key has a wanted length.
     fn lets_in(&self, entry: &Entry) -> bool
         ensures passes { result ≡ true → has_length (short_of self.now) (long_of self.now) entry.now.key ≡ true }
-        ensures leaves { result ≡ false → Leaves (⟦<LengthsOnly<C> as Collect>⟧.state self.now) entry.now }
+        ensures leaves { result ≡ false → Leaves (sized_in C.state self.now) entry.now }
     {
         entry.utility >= self.inner.floor() && self.has_length(&entry.key)
     }
@@ -84,9 +84,9 @@ impl<C: Collect> LengthsOnly<C> {
 }
 
 impl<C: Collect> Collect for LengthsOnly<C> {
-    ghost use Rattle.hu_lengths.specs.LengthsOnly.{sized_state, inner_of, short_of, long_of};
+    ghost use Rattle.hu_lengths.specs.LengthsOnly.{sized_in};
 
-    ghost state = { λ c. sized_state (short_of c) (long_of c) (C.state (inner_of c)) };
+    ghost state = { sized_in C.state };
 
     /// The inner collector's floor.
     fn floor(&self) -> i128 {
@@ -97,8 +97,9 @@ impl<C: Collect> Collect for LengthsOnly<C> {
     fn opens(&self, key: &Key, last: u32) -> bool
         requires { CanOpen (C.state (inner_of self.now)).rule.table key.now last }
         ensures shut { long_of self.now < length key.now → result ≡ false }
-        ensures cause { result ≡ false → (long_of self.now < length key.now) ⊎ IsShut (C.state (inner_of self.now)).rule key.now last }
-        ensures grown { result ≡ false → IsShut (⟦<LengthsOnly<C> as Collect>⟧.state self.now).rule key.now last }
+        ensures cause { result ≡ false → (long_of self.now < length key.now)
+            ⊎ IsShut (C.state (inner_of self.now)).rule key.now last }
+        ensures grown { result ≡ false → IsShut (sized_in C.state self.now).rule key.now last }
     {
         key.numbers().len() <= self.long as usize && self.inner.opens(key, last)
     }

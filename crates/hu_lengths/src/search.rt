@@ -5,6 +5,7 @@ ghost use Rattle.hu_kind.specs.Itemsets.{item_patterns};
 ghost use Rattle.hu_totals.specs.Ranked.{unranked};
 ghost use Rattle.hu_collect.specs.Ranks.{RestsOn};
 ghost use Rattle.hu_collect.specs.State.{floor_in, IsInOrder, Mines};
+ghost use Rattle.hu_lengths.specs.LengthsOnly.{sized_in};
 ghost use Rattle.hu_lengths.specs.Lengths.{upto_length, sized_answer};
 
 use crate::lengths_only::LengthsOnly;
@@ -21,9 +22,9 @@ pub fn mine_sized<C: Collect>(
     ranked: &Ranked,
     collect: &mut LengthsOnly<C>,
 ) -> Result<(), NoMemory>
-    requires ranked_floor { ranked.now.floor ≤ℤ floor_in (⟦<LengthsOnly<C> as Collect>⟧.state collect.old) }
-    requires rests { RestsOn (⟦<LengthsOnly<C> as Collect>⟧.state collect.old).rule.table ranked.now.items }
-    ensures { Mines (⟦<LengthsOnly<C> as Collect>⟧.state collect.old) (item_patterns (unranked ranked.now)) (⟦<LengthsOnly<C> as Collect>⟧.state collect.new) result }
+    requires ranked_floor { ranked.now.floor ≤ℤ floor_in (sized_in C.state collect.old) }
+    requires rests { RestsOn (sized_in C.state collect.old).rule.table ranked.now.items }
+    ensures { Mines (sized_in C.state collect.old) (item_patterns (unranked ranked.now)) (sized_in C.state collect.new) result }
 {
     // These tell the proof the rules of ranked records, and that a floor is at least 1.
     let _records = ranked.records();
