@@ -1,5 +1,6 @@
 -- No set with so many later ranks earns more than its bound.
-use Rattle.std.proofs.Common.{◌≡◌, ℕ, zero, suc, ◌<◌, ◌≤◌, Bool, true, false, cond, eqb, nat_lt, int_lt, ◌&&◌, inl, inr, ℤ, pos, ◌+ℤ◌, ◌≤ℤ◌, List, [], ◌∷◌, ◌++◌, take, length, refl, sym, ap, ◌∙◌, subst, arith}
+use Rattle.std.proofs.Common.{◌≡◌, ℕ, zero, suc, ◌<◌, ◌≤◌, Bool, true, false, cond, eqb, nat_lt, int_lt, ◌&&◌, inl, inr}
+use Rattle.std.proofs.Common.{ℤ, pos, ◌+ℤ◌, ◌≤ℤ◌, List, [], ◌∷◌, ◌++◌, take, length, refl, sym, ap, ◌∙◌, subst, arith}
 use Rattle.std.specs.List.{AllByRecursion, list_all}
 use Rattle.std.proofs.lemmas.Bool.{eq-eqb, ne_eqb, cases_eq, and_parts, and_from, and_right, lt-ltb, ltb-true}
 use Rattle.std.proofs.lemmas.Int.{ints}
@@ -57,7 +58,8 @@ holds-past (i ∷ is) cell cells above =
     let other : eqb i cell.0 ≡ false = ne_eqb i cell.0 (λ e. absurd (omega arith)) in
     rw other (λ j. has i cells && holds-past is cell cells above.1 j)
 
-values_of-past : (set : List ℕ) (cell : ℕ × ℤ) (cells : List (ℕ × ℤ)) → AllByRecursion (λ i. cell.0 < i) set → values_of set (cell ∷ cells) ≡ values_of set cells
+values_of-past : (set : List ℕ) (cell : ℕ × ℤ) (cells : List (ℕ × ℤ)) → AllByRecursion (λ i. cell.0 < i) set
+    → values_of set (cell ∷ cells) ≡ values_of set cells
 values_of-past [] cell cells above = refl
 values_of-past (i ∷ is) cell cells above =
     let other : eqb i cell.0 ≡ false = ne_eqb i cell.0 (λ e. absurd (omega arith)) in
@@ -81,7 +83,8 @@ best-keeps last n cell cells = by (nat_lt last cell.0) (int_lt (pos 0) cell.1) r
     vs : List ℤ
     vs = values_after last cells
 
-    by : (b c : Bool) → int_lt (pos 0) cell.1 ≡ c → first_sum n (falling (values_after last cells)) ≤ℤ first_sum n (falling (cond (b && c) (cell.1 ∷ []) [] ++ values_after last cells))
+    by : (b c : Bool) → int_lt (pos 0) cell.1 ≡ c → first_sum n (falling (values_after last cells))
+        ≤ℤ first_sum n (falling (cond (b && c) (cell.1 ∷ []) [] ++ values_after last cells))
     by true true h =
         put-keeps n cell.1 (falling (values_after last cells)) (falling-falls (values_after last cells))
         (falling-least (values_after last cells) (values_after-least last cells)) (grind (arith, ints))
@@ -90,10 +93,12 @@ best-keeps last n cell cells = by (nat_lt last cell.0) (int_lt (pos 0) cell.1) r
 
 -- and one more of them counts it, where its rank is later
 best-counts : (last n : ℕ) (cell : ℕ × ℤ) (cells : List (ℕ × ℤ)) → last < cell.0 → (cell.1 +ℤ best last n cells) ≤ℤ best last (suc n) (cell ∷ cells)
-best-counts last n cell cells later = subst (λ b. (cell.1 +ℤ best last n cells) ≤ℤ first_sum (suc n) (falling (cond (b && int_lt (pos 0) cell.1) (cell.1 ∷ []) [] ++ values_after last cells)))
+best-counts last n cell cells later = subst (λ b. (cell.1 +ℤ best last n cells) ≤ℤ first_sum (suc n)
+    (falling (cond (b && int_lt (pos 0) cell.1) (cell.1 ∷ []) [] ++ values_after last cells)))
     (sym (lt-ltb last cell.0 later)) (by (int_lt (pos 0) cell.1) refl)
   where
-    by : (c : Bool) → int_lt (pos 0) cell.1 ≡ c → (cell.1 +ℤ best last n cells) ≤ℤ first_sum (suc n) (falling (cond c (cell.1 ∷ []) [] ++ values_after last cells))
+    by : (c : Bool) → int_lt (pos 0) cell.1 ≡ c → (cell.1 +ℤ best last n cells)
+        ≤ℤ first_sum (suc n) (falling (cond c (cell.1 ∷ []) [] ++ values_after last cells))
     by true h = put-counts n cell.1 (falling (values_after last cells))
     by false h = let more = best-more last n cells in let low : cell.1 ≤ℤ pos 0 = grind (arith, ints) in omega (arith, ints, more, low)
 
@@ -131,7 +136,8 @@ holds-append : (set more : List ℕ) (cells : List (ℕ × ℤ)) → holds (set 
 holds-append [] more cells = refl
 holds-append (s ∷ ss) more cells = by (has s cells) (holds-append ss more cells)
   where
-    by : (b : Bool) → holds (ss ++ more) cells ≡ (holds ss cells && holds more cells) → (b && holds (ss ++ more) cells) ≡ ((b && holds ss cells) && holds more cells)
+    by : (b : Bool) → holds (ss ++ more) cells ≡ (holds ss cells && holds more cells)
+        → (b && holds (ss ++ more) cells) ≡ ((b && holds ss cells) && holds more cells)
     by true ih = ih
     by false ih = refl
 
@@ -139,16 +145,19 @@ values_of-append : (set more : List ℕ) (cells : List (ℕ × ℤ)) → values_
 values_of-append [] more cells = omega (arith, ints)
 values_of-append (s ∷ ss) more cells = let ih = values_of-append ss more cells in omega (arith, ints)
 
-module _ (before more : List ℕ) (last room : ℕ) (up : Ascend ((before ++ last ∷ []) ++ more)) (ends : Ascend (before ++ last ∷ [])) (few : length more ≤ room) where
+module _ (before more : List ℕ) (last room : ℕ) (up : Ascend ((before ++ last ∷ []) ++ more)) (ends : Ascend (before ++ last ∷ []))
+    (few : length more ≤ room) where
   later : AllByRecursion (λ m. last < m) more
   later = by_members (λ m. last < m) more (λ m n.
-      at_member (λ x. x < m) last (before ++ last ∷ []) (Ascend-across (before ++ last ∷ []) more up m n) (Member-append_right last before (last ∷ []) (inl refl)))
+      at_member (λ x. x < m) last (before ++ last ∷ []) (Ascend-across (before ++ last ∷ []) more up m n) (Member-append_right last before
+          (last ∷ []) (inl refl)))
 
   in_record : (cells : List (ℕ × ℤ)) → Ascend (items_in cells)
       → utility_in ((before ++ last ∷ []) ++ more) cells ≤ℤ cond (holds (before ++ last ∷ []) cells) (sized_most (before ++ last ∷ []) room cells) (pos 0)
   in_record cells rise =
       let set = before ++ last ∷ [] in
-      subst (λ b. cond b (values_of (set ++ more) cells) (pos 0) ≤ℤ cond (holds set cells) (sized_most set room cells) (pos 0)) (sym (holds-append set more cells))
+      subst (λ b. cond b (values_of (set ++ more) cells) (pos 0) ≤ℤ cond (holds set cells) (sized_most set room cells) (pos 0)) (sym
+          (holds-append set more cells))
       (by (holds set cells) (holds more cells) refl)
     where
       same : later_values (before ++ last ∷ []) cells ≡ values_after last cells

@@ -1,5 +1,6 @@
 -- Places of values and cells, and the nodes of a set's list.
-use Rattle.std.proofs.Common.{◌≡◌, ℕ, zero, suc, ◌<◌, ◌≤◌, ◌+◌, Bool, true, false, cond, not, ltb, nat_lt, int_lt, ◌&&◌, inl, inr, ℤ, pos, negsuc, ◌+ℤ◌, ◌≤ℤ◌, unsigned_abs, unwrap_or, List, [], ◌∷◌, ◌++◌, map, take, drop, length, get_or, insert, refl, sym, ap, ◌∙◌, subst, arith, one-add, sum_by}
+use Rattle.std.proofs.Common.{◌≡◌, ℕ, zero, suc, ◌<◌, ◌≤◌, ◌+◌, Bool, true, false, cond, not, ltb, nat_lt, int_lt, ◌&&◌, inl, inr, ℤ, pos, negsuc}
+use Rattle.std.proofs.Common.{◌+ℤ◌, ◌≤ℤ◌, unsigned_abs, unwrap_or, List, [], ◌∷◌, ◌++◌, map, take, drop, length, get_or, insert, refl, sym, ap, ◌∙◌, subst, arith, one-add, sum_by}
 use Rattle.std.specs.List.{AllByRecursion, position, position_or_len, list_all}
 use Rattle.std.proofs.lemmas.Bool.{cases_lt, lt-ltb, le-ltb}
 use Rattle.std.proofs.lemmas.Int.{ints}
@@ -17,7 +18,8 @@ use Rattle.hu_totals.specs.Ranked.{Ranking, IsRanking}
 use Rattle.hu_totals.specs.View.{dense_pair, pairs_in}
 use Rattle.hu_list.specs.declared.list.Node.{Node}
 use Rattle.hu_list.specs.Nodes.{rest_after, nodes_from, weight_of}
-use Rattle.hu_lengths.specs.Bound.{later_values, values_after, put, falling, sum_of, sized_most, sized_bound, most_at, most_of, IsNodeAt, IsList, IsSizedBound, BoundsSized}
+use Rattle.hu_lengths.specs.Bound.{later_values, values_after, put, falling, sum_of, sized_most}
+use Rattle.hu_lengths.specs.Bound.{sized_bound, most_at, most_of, IsNodeAt, IsList, IsSizedBound, BoundsSized}
 use Rattle.hu_lengths.proofs.GreatestLemmas.{first_sum, falling-least, first_sum-least, first_sum-within, sum_of-falling, take-put}
 use Rattle.hu_lengths.proofs.BoundLemmas.{later_values-last, values_after-least, utility-bounded}
 
@@ -149,7 +151,8 @@ module _ (all : List (List (ℕ × ℤ))) (before : List ℕ) (last : ℕ) (up :
       is = record {
         within = let fits = w.fits in omega (arith, fits);
         ascending = subst (λ cs. Ascend (items_in cs)) (sym (window-here w)) rise.0;
-        rest = rest-values (before ++ last ∷ []) cells ∙ ap sum_of (later_values-last before last cells up) ∙ ap (λ cs. sum_of (values_after last cs)) (sym (window-here w));
+        rest = rest-values (before ++ last ∷ []) cells ∙ ap sum_of (later_values-last before last cells up)
+            ∙ ap (λ cs. sum_of (values_after last cs)) (sym (window-here w));
       }
 
       by : (b : Bool) → AllByRecursion (IsNodeAt all last) (nodes_from (place + 1) records (before ++ last ∷ []))
@@ -187,10 +190,12 @@ most_of-list r nodes last room set list =
     ∙ most_of-from r.records list.before last up room 0 r.records (window-all r.records)
     ∙ ap (λ s. sized_bound r.records s room) (sym list.ends)
 
-pub bounds-sized : (r : Ranking) → IsRanking r → (nodes : List Node) (last room : ℕ) (bound : ℤ) → IsSizedBound r nodes last room bound → BoundsSized r nodes last room bound
+pub bounds-sized : (r : Ranking) → IsRanking r → (nodes : List Node) (last room : ℕ) (bound : ℤ) → IsSizedBound r nodes last room bound
+    → BoundsSized r nodes last room bound
 bounds-sized r rules nodes last room bound is set more list up few =
     let ends : Ascend (list.before ++ last ∷ []) = subst Ascend list.ends list.ascending in
-    let under = utility-bounded list.before more last room (subst (λ s. Ascend (s ++ more)) list.ends up) ends few r.records (each-ascending r.records rules.ascending) in
+    let under = utility-bounded list.before more last room (subst (λ s. Ascend (s ++ more)) list.ends up) ends few r.records
+        (each-ascending r.records rules.ascending) in
     let value : bound ≡ sized_bound r.records (list.before ++ last ∷ []) room = is set list ∙ ap (λ s. sized_bound r.records s room) list.ends in
     subst (λ s. utility r.records (s ++ more) ≤ℤ bound) (sym list.ends) (omega (arith, ints, under, value))
 

@@ -1,5 +1,6 @@
 -- The lengths of keys that grow, and of the keys of sets of ranks.
-use Rattle.std.proofs.Common.{◌≡◌, ℕ, suc, ◌<◌, ◌≤◌, Bool, true, false, cond, ℤ, pos, List, [], ◌∷◌, ◌++◌, map, length, slice_index, Option, None, Some, inl, inr, refl, sym, ap, ◌∙◌, subst, arith}
+use Rattle.std.proofs.Common.{◌≡◌, ℕ, suc, ◌<◌, ◌≤◌, Bool, true, false, cond, ℤ, pos, List, [], ◌∷◌}
+use Rattle.std.proofs.Common.{◌++◌, map, length, slice_index, Option, None, Some, inl, inr, refl, sym, ap, ◌∙◌, subst, arith}
 use Rattle.std.specs.List.{AllByRecursion}
 use Rattle.std.specs.declared.cmp.Ordering.{Ordering}
 use Rattle.std.specs.declared.cmp.Ordering.TheVariants.{Less, Equal, Greater}
@@ -55,7 +56,8 @@ key_of-shorter table ranks more each =
     let many = ranking nat_cmp (items_at table more) in
     let fewer : length few ≤ length many = ascending-fewer few many (Ascend-ranking (items_at table ranks)) (Ascend-ranking (items_at table more)) (λ z m.
     let from = Member-from_map (λ rank. slice_index table rank) z ranks (Member-from_ranking nat_cmp z (items_at table ranks) m) in
-    Member-ranking z (items_at table more) (subst (λ w. Member w (items_at table more)) from.2 (Member-map (λ rank. slice_index table rank) from.0 more (each from.0 from.1)))) in
+    Member-ranking z (items_at table more) (subst (λ w. Member w (items_at table more)) from.2
+        (Member-map (λ rank. slice_index table rank) from.0 more (each from.0 from.1)))) in
     omega (arith, fewer, length-map few pos, length-map many pos)
 
 -- a key that grows has no fewer numbers then

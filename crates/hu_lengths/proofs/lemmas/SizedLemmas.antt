@@ -1,5 +1,6 @@
 -- What a collector of keys of some lengths makes of entries, and which keys it doesn't want.
-use Rattle.std.proofs.Common.{◌≡◌, ℕ, ◌<◌, int_le, nat_le, Bool, true, false, cond, ◌&&◌, ℤ, ◌<ℤ◌, Option, List, [], ◌∷◌, ◌++◌, length, refl, sym, ap, ◌∙◌, arith, filter}
+use Rattle.std.proofs.Common.{◌≡◌, ℕ, ◌<◌, int_le, nat_le, Bool, true, false, cond, ◌&&◌, ℤ, ◌<ℤ◌}
+use Rattle.std.proofs.Common.{Option, List, [], ◌∷◌, ◌++◌, length, refl, sym, ap, ◌∙◌, arith, filter}
 use Rattle.std.proofs.lemmas.Bool.{and_left, and_right, lt-leb}
 use Rattle.hu_kind.specs.declared.entry.Entry.{Entry}
 use Rattle.hu_kind.specs.Order.{entry_cmp, ranking, cut}
