@@ -150,14 +150,14 @@ module _ (before more : List ℕ) (last room : ℕ) (up : Ascend ((before ++ las
   later : AllByRecursion (λ m. last < m) more
   later = by_members (λ m. last < m) more (λ m n.
       at_member (λ x. x < m) last (before ++ last ∷ []) (Ascend-across (before ++ last ∷ []) more up m n) (Member-append_right last before
-          (last ∷ []) (inl refl)))
+      (last ∷ []) (inl refl)))
 
   in_record : (cells : List (ℕ × ℤ)) → Ascend (items_in cells)
       → utility_in ((before ++ last ∷ []) ++ more) cells ≤ℤ cond (holds (before ++ last ∷ []) cells) (sized_most (before ++ last ∷ []) room cells) (pos 0)
   in_record cells rise =
       let set = before ++ last ∷ [] in
       subst (λ b. cond b (values_of (set ++ more) cells) (pos 0) ≤ℤ cond (holds set cells) (sized_most set room cells) (pos 0)) (sym
-          (holds-append set more cells))
+      (holds-append set more cells))
       (by (holds set cells) (holds more cells) refl)
     where
       same : later_values (before ++ last ∷ []) cells ≡ values_after last cells

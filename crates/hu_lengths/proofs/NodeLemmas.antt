@@ -195,7 +195,7 @@ pub bounds-sized : (r : Ranking) → IsRanking r → (nodes : List Node) (last r
 bounds-sized r rules nodes last room bound is set more list up few =
     let ends : Ascend (list.before ++ last ∷ []) = subst Ascend list.ends list.ascending in
     let under = utility-bounded list.before more last room (subst (λ s. Ascend (s ++ more)) list.ends up) ends few r.records
-        (each-ascending r.records rules.ascending) in
+    (each-ascending r.records rules.ascending) in
     let value : bound ≡ sized_bound r.records (list.before ++ last ∷ []) room = is set list ∙ ap (λ s. sized_bound r.records s room) list.ends in
     subst (λ s. utility r.records (s ++ more) ≤ℤ bound) (sym list.ends) (omega (arith, ints, under, value))
 
@@ -215,12 +215,12 @@ pub record IsBest (records : List (List (ℕ × ℤ))) (last room : ℕ) (node :
   pub least : pos 0 ≤ℤ sum_of best
   pub within : sum_of best ≤ℤ node.rest
 
-pub best-is : (records : List (Vec Dense Global)) (last room : ℕ) (node : Node) (cells : Vec Dense Global) (best : List ℤ)
-    → IsNodeAt (map pairs_in records) last node → cells ≡ get_or records node.place cells
-    → best ≡ take room (falling (values_after last (pairs_in cells))) → IsBest (map pairs_in records) last room node best
-best-is records last room node cells best at here kept =
+pub best-is : (records : List (Vec Dense Global)) (last room : ℕ) (node : Node) (cells : Vec Dense Global) (slice : List Dense) (best : List ℤ)
+    → IsNodeAt (map pairs_in records) last node → cells ≡ get_or records node.place cells → slice ≡ cells.items
+    → best ≡ take room (falling (values_after last (map dense_pair slice))) → IsBest (map pairs_in records) last room node best
+best-is records last room node cells slice best at here same kept =
     let pairs : pairs_in cells ≡ get_or (map pairs_in records) node.place [] = ap pairs_in here ∙ sym (record-at records node.place cells at.within) in
-    let is = ap sum_of kept ∙ ap (λ cs. first_sum room (falling (values_after last cs))) pairs in
+    let is = ap sum_of kept ∙ ap (λ cs. first_sum room (falling (values_after last cs))) (ap (map dense_pair) same ∙ pairs) in
     let both = greatest-within last room (get_or (map pairs_in records) node.place []) in
     let rest = at.rest in
     record { is = is; least = omega (arith, ints, is, both.0); within = omega (arith, ints, is, both.1, rest) }

@@ -64,14 +64,14 @@ module _ (long : ℕ) (floor : ℤ) (records : List (List (ℕ × ℤ))) where
   upto-found x reaches c =
       let sized = found floor (item_patterns records) in
       let here = Member-from_filter (λ (e : Entry). nat_le (length e.key) long) x (item_patterns records) (Member-from_contains x
-          (upto_length long (item_patterns records)) c) in
+      (upto_length long (item_patterns records)) c) in
       let enough : int_le floor x.utility ≡ true = grind (arith, ints) in
       let fits : has_length 0 long x.key ≡ true = and_from (nat_le 0 (length x.key)) (nat_le (length x.key) long) (le-leb 0 (length x.key)
-          (omega arith)) here.1 in
+      (omega arith)) here.1 in
       Contains-from_member x (sized_answer records floor None 0 long)
       (Member-to_ranking entry_cmp entry_exact x (of_lengths 0 long sized)
       (Member-filter (λ (e : Entry). has_length 0 long e.key) x sized
-          (Member-filter (λ (e : Entry). int_le floor e.utility) x (item_patterns records) here.0 enough) fits))
+      (Member-filter (λ (e : Entry). int_le floor e.utility) x (item_patterns records) here.0 enough) fits))
 
 -- offers of what was found first are offers of all up to a length
 pub mines-upto : {T E : Type 0} (result : Result T E) (old new : State) (long : ℕ) (records : List (List (ℕ × ℤ))) → IsInOrder old
@@ -79,9 +79,12 @@ pub mines-upto : {T E : Type 0} (result : Result T E) (old new : State) (long : 
 mines-upto (Ok x) old new long records ordered is =
     is ∙ offered-reaching old (sized_answer records (floor_in old) None 0 long) (upto_length long (item_patterns records)) ordered
     (λ e passing reaches. (found-upto long (floor_in old) records e, upto-found long (floor_in old) records e reaches))
-mines-upto (Err x) old new long records ordered some =
-    (some.0, All-weaker (Contains (sized_answer records (floor_in old) None 0 long)) (Contains (upto_length long (item_patterns records)))
-        (found-upto long (floor_in old) records) some.0 some.1, some.2)
+mines-upto (Err x) old new long records ordered some = (
+  some.0,
+  All-weaker (Contains (sized_answer records (floor_in old) None 0 long)) (Contains (upto_length long (item_patterns records)))
+      (found-upto long (floor_in old) records) some.0 some.1,
+  some.2,
+)
 
 pub if_ok-as : {T E : Type 0} (result : Result T E) (P Q : T → Type 0) → ((x : T) → P x → Q x) → IfOk result P → IfOk result Q
 if_ok-as (Ok x) P Q f h = f x h

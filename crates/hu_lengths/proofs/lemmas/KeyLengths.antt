@@ -57,7 +57,7 @@ key_of-shorter table ranks more each =
     let fewer : length few ≤ length many = ascending-fewer few many (Ascend-ranking (items_at table ranks)) (Ascend-ranking (items_at table more)) (λ z m.
     let from = Member-from_map (λ rank. slice_index table rank) z ranks (Member-from_ranking nat_cmp z (items_at table ranks) m) in
     Member-ranking z (items_at table more) (subst (λ w. Member w (items_at table more)) from.2
-        (Member-map (λ rank. slice_index table rank) from.0 more (each from.0 from.1)))) in
+    (Member-map (λ rank. slice_index table rank) from.0 more (each from.0 from.1)))) in
     omega (arith, fewer, length-map few pos, length-map many pos)
 
 -- a key that grows has no fewer numbers then

@@ -37,7 +37,7 @@ overflow_add-sum c =
     (subst (AllByRecursion (IsNodeAt c.args.ranked.now.records last)) (sym c.nodes-node-items.ensures.value)
     (nodes-at c.args.ranked.now c.records-records.ensures.rules c.args.list.now last c.requires.list)) in
     let fits : sum_by weight_of nodes < 2 ^ 127 = subst (λ ns. sum_by weight_of ns < 2 ^ 127)
-        (sym c.nodes-node-items.ensures.value) c.nodes-node-items.ensures.fits in
+    (sym c.nodes-node-items.ensures.value) c.nodes-node-items.ensures.fits in
     let next = most_of-next records last c.args.room nodes c.loop-node.node-index no_node c.loop-node-test.true in
     let within = most_of-within records last c.args.room nodes (suc c.loop-node.node-index) all in
     let before = most_of-within records last c.args.room nodes c.loop-node.node-index all in
@@ -54,7 +54,7 @@ loop-node-preserved c =
     (subst (AllByRecursion (IsNodeAt c.args.ranked.now.records last)) (sym c.nodes-node-items.ensures.value)
     (nodes-at c.args.ranked.now c.records-records.ensures.rules c.args.list.now last c.requires.list)) in
     let fits : sum_by weight_of nodes < 2 ^ 127 = subst (λ ns. sum_by weight_of ns < 2 ^ 127)
-        (sym c.nodes-node-items.ensures.value) c.nodes-node-items.ensures.fits in
+    (sym c.nodes-node-items.ensures.value) c.nodes-node-items.ensures.fits in
     let next = rw (← add-one) at (most_of-next records last c.args.room nodes c.loop-node.node-index no_node c.loop-node-test.true) in
     let within = rw (← add-one) at (most_of-within records last c.args.room nodes (suc c.loop-node.node-index) all) in
     let before = most_of-within records last c.args.room nodes c.loop-node.node-index all in
@@ -68,11 +68,11 @@ returns-clause-value c =
     let whole : to_z w128 c.loop-node.sum-bits ≡ most_of c.args.ranked.now.records last room c.args.list.now =
     c.loop-node.invariant
     ∙ ap (most_of (map pairs_in c.records-records.result.now) last room) (take_all c.loop-node.node-index nodes
-        (omega (arith, c.loop-node-test.false)) ∙ c.nodes-node-items.ensures.value)
+    (omega (arith, c.loop-node-test.false)) ∙ c.nodes-node-items.ensures.value)
     ∙ ap (λ rs. most_of rs last room c.args.list.now) c.records-records.ensures.value in
     λ set list. whole ∙ most_of-list c.args.ranked.now c.args.list.now last room set list
 
 pub returns-clause-law : goal.returns-clause-law
 returns-clause-law c =
     bounds-sized c.args.ranked.now c.records-records.ensures.rules c.args.list.now c.args.last c.args.room (to_z w128 c.loop-node.sum-bits)
-        (returns-clause-value c)
+    (returns-clause-value c)

@@ -1,4 +1,4 @@
-use Rattle.std.proofs.Common.{◌≡◌, ◌≤ℤ◌, ◌+ℤ◌, pos, take, map, sym, ap, ◌∙◌, subst, to_z, of_z, arith}
+use Rattle.std.proofs.Common.{◌≡◌, ◌≤ℤ◌, ◌+ℤ◌, pos, map, sym, ap, ◌∙◌, subst, to_z, of_z, arith}
 use Rattle.std.specs.Int.{w128}
 use Rattle.std.proofs.lemmas.Int.{ints}
 use Rattle.hu_kind.specs.Record.{positive_part}
@@ -19,16 +19,16 @@ total-requires-clause-least c =
 
 pub total-requires-clause-fits : goal.total-requires-clause-fits
 total-requires-clause-fits c =
-    let best = best-is c.args.records.now c.args.last c.args.room c.args.node.now c.index-records-node.result c.deref-2.result.now c.requires.node c.index-records-node.is
-    (c.deref-2.ensures.value ∙ c.in_ok-best.ensures ∙ ap (λ cs. take c.args.room (falling (values_after c.args.last (map dense_pair cs)))) c.deref.ensures.value) in
+    let best = best-is c.args.records.now c.args.last c.args.room c.args.node.now c.index-records-node.result c.deref.result.now c.deref-2.result.now
+    c.requires.node c.index-records-node.is c.deref.ensures.value (c.deref-2.ensures.value ∙ c.in_ok-best.ensures) in
     let least = best.least in
     let within = best.within in
     omega (arith, ints, least, within, c.requires.fits)
 
 pub overflow_add-node : goal.overflow_add-node
 overflow_add-node c =
-    let best = best-is c.args.records.now c.args.last c.args.room c.args.node.now c.index-records-node.result c.deref-2.result.now c.requires.node c.index-records-node.is
-    (c.deref-2.ensures.value ∙ c.in_ok-best.ensures ∙ ap (λ cs. take c.args.room (falling (values_after c.args.last (map dense_pair cs)))) c.deref.ensures.value) in
+    let best = best-is c.args.records.now c.args.last c.args.room c.args.node.now c.index-records-node.result c.deref.result.now c.deref-2.result.now
+    c.requires.node c.index-records-node.is c.deref.ensures.value (c.deref-2.ensures.value ∙ c.in_ok-best.ensures) in
     let least = best.least in
     let within = best.within in
     omega (arith, ints, least, within, c.requires.fits, c.total.ensures)
@@ -36,8 +36,8 @@ overflow_add-node c =
 pub returns : goal.returns
 returns c =
     let node = c.args.node.now in
-    let best = best-is c.args.records.now c.args.last c.args.room node c.index-records-node.result c.deref-2.result.now c.requires.node c.index-records-node.is
-    (c.deref-2.ensures.value ∙ c.in_ok-best.ensures ∙ ap (λ cs. take c.args.room (falling (values_after c.args.last (map dense_pair cs)))) c.deref.ensures.value) in
+    let best = best-is c.args.records.now c.args.last c.args.room c.args.node.now c.index-records-node.result c.deref.result.now c.deref-2.result.now
+    c.requires.node c.index-records-node.is c.deref.ensures.value (c.deref-2.ensures.value ∙ c.in_ok-best.ensures) in
     let least = best.least in
     let within = best.within in
     let sum : to_z w128 (of_z w128 (to_z w128 (of_z w128 node.own) +ℤ to_z w128 (of_z w128 c.total.result))) ≡ node.own +ℤ sum_of c.deref-2.result.now =

@@ -10,4 +10,4 @@ returns-clause-value c =
     let values = c.args.values.now in
     let same : to_z w128 (of_z w128 c.args.value) ≡ c.args.value = to_z-of_z w128 c.args.value c.ranges.value in
     c.unwrap_or.ensures ∙ ap (λ o. unwrap_or o (length values)) (c.first_below.ensures ∙ ap (λ v. position (λ other. int_lt other v) values) same)
-        ∙ unwrap_or-position (λ other. int_lt other c.args.value) values
+    ∙ unwrap_or-position (λ other. int_lt other c.args.value) values

@@ -18,6 +18,6 @@ returns c =
     ∙ sym (ap (λ (s : State). s.content) c.into_inner.ensures.state)
     ∙ ap (λ (s : State). s.content) c.in_ok-mine_sized.ensures
     ∙ ap (λ (s : State). (offered s patterns).content) (c.around-collect.ensures.state ∙ ap (sized_state 0 c.args.long)
-        (c.new.ensures ∙ ap (λ z. fresh z None) same))
+    (c.new.ensures ∙ ap (λ z. fresh z None) same))
     ∙ sized-answer (unranked c.args.ranked.now) c.args.floor None 0 c.args.long)
     c.into_entries.ensures

@@ -13,4 +13,5 @@ loop-entry-preserved g c =
 pub returns-in_err-offer : goal.returns-in_err-offer
 returns-in_err-offer g c =
     let some = part-some c.loop-entry.invariant in
-    stopped (g.C.Collect.state c.args.collect.now) (g.C.Collect.state c.offer.new.self) c.args.entries.items c.from_residual.result c.from_residual.ensures.0 (some.0, some.1, c.in_err-offer.ensures ∙ some.2)
+    stopped (g.C.Collect.state c.args.collect.now) (g.C.Collect.state c.offer.new.self) c.args.entries.items
+    c.from_residual.result c.from_residual.ensures.0 (some.0, some.1, c.in_err-offer.ensures ∙ some.2)
