@@ -1,0 +1,4 @@
+pub mod Lengths
+pub mod LengthsOnly
+pub mod Bound
+pub mod Worked
