@@ -45,10 +45,6 @@ each-at P [] k d all within = absurd (omega arith)
 each-at P (x ∷ xs) zero d all within = all.0
 each-at P (x ∷ xs) (suc k) d all within = each-at P xs k d all.1 (omega arith)
 
-pub by_number : {A : Type 0} (P : A → Type 0) (xs : List A) (d : A) → ((k : ℕ) → k < length xs → P (get_or xs k d)) → AllByRecursion P xs
-by_number P [] d each = tt
-by_number P (x ∷ xs) d each = (each 0 (omega arith), by_number P xs d (λ k within. each (suc k) (omega arith)))
-
 -- ---- walks
 
 totals-next : (elements : List (List (ℕ × ℤ))) (e : ℕ) → e < length elements → totals (drop e elements) ≡ total (element_at elements e) +ℤ totals (drop (suc e) elements)

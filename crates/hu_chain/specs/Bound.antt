@@ -1,9 +1,7 @@
 -- What a chain bounds: no pattern that grows from the chain's one earns more. After the prefix extension utility and
 -- the reduced sequence utility of HUS-Span (Wang, Huang and Chen, 2016).
-use Rattle.std.specs.List.{AllByRecursion}
-use Rattle.hu_kind.specs.Record.{IsItemset}
 use Rattle.std.specs.Prelude.{◌^◌, ℕ, ℤ, pos, ◌+ℤ◌, ◌≤ℤ◌, ◌<ℤ◌, Option, None, Some, is_some, unwrap_or, List, [], ◌∷◌, ⊤, if◌then◌else◌}
-use Rattle.hu_kind.specs.Sequence.{better, best_utility, IsSequence}
+use Rattle.hu_kind.specs.Sequence.{better, best_utility}
 use Rattle.hu_chain.specs.declared.place.Place.{Place}
 
 -- the greatest of what places count for
@@ -37,8 +35,3 @@ pub record IsFit (place : Place) : Type 0 where
   pub best : pos 0 ≤ℤ place.best
   pub rest : pos 0 ≤ℤ place.rest
   pub reach : reach place <ℤ pos (2 ^ 127)
-
--- all rules of a sequence record: its own, and those of each element
-pub record KeepsRules (elements : List (List (ℕ × ℤ))) : Type 0 where
-  pub sequence : IsSequence elements
-  pub itemsets : AllByRecursion IsItemset elements

@@ -7,7 +7,7 @@ ghost use Rattle.hu_kind.specs.Sequence.{best_utility, better, IsSequence};
 ghost use Rattle.hu_chain.specs.Pattern.{after, into, Ends, EndsBelow};
 ghost use Rattle.hu_chain.specs.Grown.{grown, CanGrow, IsGrownFrom};
 ghost use Rattle.hu_chain.specs.Place.{chain_of};
-ghost use Rattle.hu_chain.specs.Bound.{best_of, extension_bound, greatest, reach, reduced_bound, IsAtMost, IsFit, KeepsRules};
+ghost use Rattle.hu_chain.specs.Bound.{best_of, extension_bound, greatest, reach, reduced_bound, IsAtMost, IsFit};
 ghost use Rattle.hu_chain.specs.Search.{followed_places, follows, joined_places, joins, occurs, IsPlaceOf, MayFollow};
 
 use crate::place::{Place, cell_in, cells_at, total};
@@ -48,11 +48,9 @@ impl Model for Chain {
 
 impl Chain {
     /// The chain of the pattern of one item. The item's cell is looked for by halves in each element, and the values
-    /// are summed in one pass over the sequence. Once it is made, the rules of the record and of its elements are
-    /// known.
+    /// are summed in one pass over the sequence.
     pub fn start(alloc: Global, seq: &SeqRecord, item: Item) -> Result<Chain, NoMemory>
-        ensures value { IfOk result (λ chain. chain ≡ chain_of ((item.0 ∷ []) ∷ []) seq.now) }
-        ensures rules { IfOk result (λ _. KeepsRules seq.now) }
+        ensures { IfOk result (λ chain. chain ≡ chain_of ((item.0 ∷ []) ∷ []) seq.now) }
     {
         let walk = Walk {
             best: 0,
@@ -107,8 +105,8 @@ impl Chain {
     pub fn extension_bound(&self) -> i128
         ensures value { result ≡ extension_bound self.now }
         ensures range { (pos 0 ≤ℤ result) × (result <ℤ pos (2 ^ 127)) }
-        ensures bound { (pattern other : List (List ℕ)) → (elements : List (List (ℕ × ℤ))) → KeepsRules elements → Ends pattern → self.now ≡ chain_of pattern elements → IsGrownFrom pattern other → IsAtMost (best_utility other elements) result }
-        ensures within { (item : ℕ) → (pattern : List (List ℕ)) → (elements : List (List (ℕ × ℤ))) → KeepsRules elements → IsGrownFrom ((item ∷ []) ∷ []) pattern → self.now ≡ chain_of pattern elements → result ≤ℤ pos (sum_by absolute_of elements) }
+        ensures bound { (pattern other : List (List ℕ)) → (elements : List (List (ℕ × ℤ))) → IsSequence elements → Ends pattern → self.now ≡ chain_of pattern elements → IsGrownFrom pattern other → IsAtMost (best_utility other elements) result }
+        ensures within { (item : ℕ) → (pattern : List (List ℕ)) → (elements : List (List (ℕ × ℤ))) → IsSequence elements → IsGrownFrom ((item ∷ []) ∷ []) pattern → self.now ≡ chain_of pattern elements → result ≤ℤ pos (sum_by absolute_of elements) }
     {
         greatest_reach(&self.places).unwrap_or(0)
     }
@@ -119,7 +117,7 @@ impl Chain {
     pub fn reduced_bound(&self, seq: &SeqRecord, growth: Growth, item: Item) -> i128
         requires { (pattern : List (List ℕ)) × CanGrow growth pattern item.0 × (self.now ≡ chain_of pattern seq.now) }
         ensures value { (pattern : List (List ℕ)) → CanGrow growth pattern item.0 → self.now ≡ chain_of pattern seq.now → result ≡ reduced_bound self.now (grown growth pattern item.0) seq.now }
-        ensures bound { (pattern other : List (List ℕ)) → KeepsRules seq.now → CanGrow growth pattern item.0 → self.now ≡ chain_of pattern seq.now → IsGrownFrom (grown growth pattern item.0) other → IsAtMost (best_utility other seq.now) result }
+        ensures bound { (pattern other : List (List ℕ)) → CanGrow growth pattern item.0 → self.now ≡ chain_of pattern seq.now → IsGrownFrom (grown growth pattern item.0) other → IsAtMost (best_utility other seq.now) result }
     {
         if occurs(&self.places, seq.elements(), growth, item) {
             self.extension_bound()

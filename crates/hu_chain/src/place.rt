@@ -5,7 +5,7 @@ ghost use Rattle.std.specs.List.{AllByRecursion};
 ghost use Rattle.std.specs.List.Sorted.{IsPartitionPoint};
 ghost use Rattle.hu_kind.specs.Cell.{pairs_of};
 ghost use Rattle.hu_kind.specs.Order.{Ascend};
-ghost use Rattle.hu_kind.specs.Record.{items_in, total, IsItemset};
+ghost use Rattle.hu_kind.specs.Record.{items_in, total};
 ghost use Rattle.hu_kind.specs.Sequence.{IsSequence};
 ghost use Rattle.hu_chain.specs.Bound.{IsFit};
 ghost use Rattle.hu_chain.specs.Place.{element_at};
@@ -85,7 +85,6 @@ pub(crate) fn cells_at(elements: &[Element], number: usize) -> &[Cell]
     requires sequence { IsSequence elements.now }
     requires within { number < length elements.now }
     ensures value { pairs_of result.now ≡ element_at elements.now number }
-    ensures itemset { IsItemset (element_at elements.now number) }
     ensures plain { IsPlain (element_at elements.now number) }
     ensures few { length (element_at elements.now number) ≤ 4096 }
 {

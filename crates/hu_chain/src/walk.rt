@@ -3,9 +3,8 @@
 ghost use Rattle.std.specs.Prelude.{◌≡◌, ℕ, ◌<◌, ◌≤◌, ◌^◌, pos, ◌≤ℤ◌, ◌<ℤ◌, ◌-ℤ◌, ◌++◌, drop, length, option_to_list, IfOk, OnOk};
 ghost use Rattle.std.specs.List.{AllByRecursion};
 ghost use Rattle.hu_kind.specs.Cell.{pairs_of};
-ghost use Rattle.hu_kind.specs.Record.{total, IsItemset};
+ghost use Rattle.hu_kind.specs.Record.{total};
 ghost use Rattle.hu_kind.specs.Sequence.{IsSequence};
-ghost use Rattle.hu_chain.specs.Place.{element_at};
 ghost use Rattle.hu_chain.specs.Bound.{IsFit};
 ghost use Rattle.hu_chain.specs.Search.{best_past, left_past, walked, IsWalk};
 
@@ -67,8 +66,7 @@ impl<'a> Walk<'a> {
     }
 }
 
-/// The places of an item in the elements from one on, each after the best occurrence before its element. An element
-/// whose number is no `u32` is answered by want of memory, which so many elements would meet before.
+/// The places of an item in the elements from one on, each after the best occurrence before its element.
 pub(crate) fn places_from(
     alloc: Global,
     elements: &[Element],
@@ -80,14 +78,11 @@ pub(crate) fn places_from(
     requires walk { IsWalk elements.now first walk }
     ensures value { IfOk result (λ places. places.items ≡ walked item.0 first walk.entry.best walk.entry.left.now (drop first elements.now)) }
     ensures fit { IfOk result (λ places. AllByRecursion IsFit places.items) }
-    ensures itemsets { IfOk result (λ _. (k : ℕ) → first ≤ k → k < length elements.now → IsItemset (element_at elements.now k)) }
 {
     let mut walk = walk;
     let mut places = Vec::new(alloc);
     for number in first..elements.len() {
-        let Ok(element) = u32::try_from(number) else {
-            return Err(NoMemory);
-        };
+        let element = number as u32;
         let cells = cells_at(elements, number);
         push_place(&mut places, walk.tail(element, cells).ended(item))?;
         walk = walk.past(element, cells);

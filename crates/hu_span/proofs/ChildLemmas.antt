@@ -1,5 +1,5 @@
 -- Children, by their marks and in the order of their falling bounds.
-use Rattle.std.proofs.Common.{◌≡◌, ℕ, zero, suc, ◌+◌, ◌<◌, ◌≤◌, ◌^◌, Bool, true, false, cond, eqb, ℤ, pos, ◌≤ℤ◌, ◌<ℤ◌, int_le, Option, None, Some, is_some}
+use Rattle.std.proofs.Common.{◌≡◌, ℕ, zero, suc, ◌+◌, ◌<◌, ◌≤◌, ◌^◌, Bool, true, false, ℤ, pos, ◌≤ℤ◌, ◌<ℤ◌, int_le, Option, None, Some}
 use Rattle.std.proofs.Common.{List, [], ◌∷◌, ◌++◌, map, filter, length, get_or, take, refl, sym, ap, ◌∙◌, subst, ◌⊎◌, inl, inr, arith, append_assoc}
 use Rattle.std.proofs.Common.{length-append, Contains, IsPermutation}
 use Rattle.std.specs.declared.cmp.Ordering.TheVariants.{Less}
@@ -12,7 +12,6 @@ use Rattle.std.proofs.lemmas.Cmp.{back_total, int_cmp_total}
 use Rattle.std.proofs.lemmas.Int.{ints, by_lt_z}
 use Rattle.std.proofs.lemmas.List.{map-append, take_more}
 use Rattle.std.proofs.lemmas.List.Sorted.{ranks_by, sorted_far, Contains-permutation, IsPermutation-sym}
-use Rattle.std.proofs.lemmas.List.Sums.{sum_by-cons}
 use Rattle.hu_kind.specs.declared.entry.Entry.{Entry}
 use Rattle.hu_kind.specs.declared.item.Item.{Item}
 use Rattle.hu_kind.specs.Sequence.{best_utility, better, sequence_support, sequence_utility}
@@ -24,7 +23,7 @@ use Rattle.hu_collect.specs.Laws.{SameMembers}
 use Rattle.hu_chain.specs.declared.chain.Growth.{Growth}
 use Rattle.hu_chain.specs.declared.chain.Growth.TheVariants.{IntoLast, AfterLast}
 use Rattle.hu_chain.specs.declared.place.Place.{Place}
-use Rattle.hu_chain.specs.Bound.{best_of, IsFit, KeepsRules}
+use Rattle.hu_chain.specs.Bound.{best_of, IsFit}
 use Rattle.hu_chain.specs.Grown.{grown}
 use Rattle.hu_chain.specs.Pattern.{last_item, Ends}
 use Rattle.hu_chain.specs.Place.{chain_of}
@@ -36,14 +35,13 @@ use Rattle.hu_chain.proofs.lemmas.Patterns.{last_item-grown, Ends-grown}
 use Rattle.hu_span.specs.declared.child.Child.{Child}
 use Rattle.hu_span.specs.declared.mark.Mark.{Mark}
 use Rattle.hu_span.specs.declared.step.Step.{Step}
-use Rattle.hu_span.specs.declared.tally.Tally.{Tally}
 use Rattle.hu_span.specs.Child.{stepped, AreChildren, AreChildrenBy, ArePlaces, Fall, HasStep, IsChild, IsGathered, IsStep}
 use Rattle.hu_span.specs.Gather.{IsGrowth, MayTake}
-use Rattle.hu_span.specs.Growing.{AreRecords, GrowsOn, IsReached, Records}
+use Rattle.hu_span.specs.Growing.{GrowsOn, IsReached, Records}
 use Rattle.hu_span.specs.Mark.{is_of, mark_at, marks_from, marks_of, marks_with, places_of, record_at, IsMark}
 use Rattle.hu_span.specs.Tally.{bests_of, count_of, none_told, reaches_of, told}
 use Rattle.hu_span.proofs.MarkLemmas.{each-filter}
-use Rattle.hu_span.proofs.ReachLemmas.{can-reached, grown-reached, Ends-reached}
+use Rattle.hu_span.proofs.ReachLemmas.{can-reached, grown-reached}
 use Rattle.hu_span.proofs.TallyLemmas.{bounds-fit, bounds-hold, support-cons, told-all, IsSum}
 
 -- ---- best bound first

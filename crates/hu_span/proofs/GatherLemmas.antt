@@ -1,25 +1,24 @@
 -- The marks of an item among those that are gathered are the places of the grown pattern.
-use Rattle.std.proofs.Common.{◌≡◌, Some, ℕ, zero, suc, ◌+◌, ◌<◌, Bool, true, false, cond, eqb, ℤ, pos, ◌+ℤ◌, ◌-ℤ◌, ◌≤ℤ◌, ◌<ℤ◌, Option, option_to_list, List, []}
-use Rattle.std.proofs.Common.{◌∷◌, ◌++◌, map, length, drop, refl, sym, ap, ◌∙◌, subst, arith}
+use Rattle.std.proofs.Common.{◌≡◌, Some, ℕ, zero, suc, ◌+◌, ◌<◌, Bool, true, false, cond, eqb, ℤ, pos, ◌+ℤ◌, ◌-ℤ◌, option_to_list, List, []}
+use Rattle.std.proofs.Common.{◌∷◌, ◌++◌, map, drop, refl, sym, ap, ◌∙◌, subst, arith}
 use Rattle.std.specs.List.{flat_map, AllByRecursion}
 use Rattle.std.proofs.lemmas.Int.{ints}
 use Rattle.std.proofs.lemmas.Bool.{eqb-true, ne_eqb}
 use Rattle.std.proofs.lemmas.List.{map-append}
 use Rattle.hu_kind.specs.Order.{Ascend}
-use Rattle.hu_kind.specs.Record.{has, items_in, total, IsItemset}
-use Rattle.hu_kind.proofs.lemmas.Each.{each-weaker, each-append}
+use Rattle.hu_kind.specs.Record.{has, items_in, total}
 use Rattle.hu_kind.proofs.lemmas.Occurring.{at_member, has-member}
+use Rattle.hu_kind.specs.Sequence.{IsSequence}
 use Rattle.hu_chain.specs.declared.chain.Growth.{Growth}
 use Rattle.hu_chain.specs.declared.chain.Growth.TheVariants.{IntoLast, AfterLast}
 use Rattle.hu_chain.specs.declared.place.Place.{Place}
-use Rattle.hu_chain.specs.Bound.{KeepsRules}
 use Rattle.hu_chain.specs.Grown.{grown, CanGrow}
 use Rattle.hu_chain.specs.Pattern.{last_item}
 use Rattle.hu_chain.specs.Place.{cell_of, chain_of, element_at, totals}
 use Rattle.hu_chain.specs.Search.{best_past, found, found_at, followed_places, joined_places, left_past, walked, IsPlaceOf, IsPlain}
 use Rattle.hu_chain.proofs.lemmas.Bounds.{plain-rules}
 use Rattle.hu_chain.proofs.lemmas.Cells.{each-drop, Ascend-drop}
-use Rattle.hu_chain.proofs.lemmas.Gathered.{chain_of-grown, grown_places}
+use Rattle.hu_chain.proofs.lemmas.Gathered.{chain_of-grown}
 use Rattle.hu_chain.proofs.lemmas.Growing.{chain_of-rules, chain_of-start}
 use Rattle.hu_chain.proofs.lemmas.Patterns.{Ends-can_grow}
 use Rattle.hu_span.specs.declared.mark.Mark.{Mark}
@@ -155,7 +154,7 @@ abbrev pub grown_from : Growth → List (List ℕ) → ℕ → Records → List 
 grown_from growth pattern row [] = []
 grown_from growth pattern row (r ∷ rs) = row_marks growth r row (chain_of pattern r) ++ grown_from growth pattern (suc row) rs
 
-row-found : (growth : Growth) (pattern : List (List ℕ)) (item row : ℕ) (r : List (List (ℕ × ℤ))) → KeepsRules r → CanGrow growth pattern item
+row-found : (growth : Growth) (pattern : List (List ℕ)) (item row : ℕ) (r : List (List (ℕ × ℤ))) → IsSequence r → CanGrow growth pattern item
     → marks_with item (row_marks growth r row (chain_of pattern r)) ≡ map (mark_at row item) (chain_of (grown growth pattern item) r)
 row-found IntoLast pattern item row r rules can =
     let is = chain_of-rules pattern r (Ends-can_grow IntoLast pattern item can) in
@@ -166,7 +165,7 @@ row-found AfterLast pattern item row r rules can =
     followed-found item row r (last_item pattern) (plain-rules r rules) (chain_of pattern r) is
     ∙ ap (map (mark_at row item)) (sym (chain_of-grown AfterLast pattern item r can))
 
-pub grown-found : (growth : Growth) (pattern : List (List ℕ)) (item row : ℕ) (rs : Records) → AllByRecursion KeepsRules rs → CanGrow growth pattern item
+pub grown-found : (growth : Growth) (pattern : List (List ℕ)) (item row : ℕ) (rs : Records) → AllByRecursion IsSequence rs → CanGrow growth pattern item
     → marks_with item (grown_from growth pattern row rs) ≡ marks_from (grown growth pattern item) item row rs
 grown-found growth pattern item row [] rules can = refl
 grown-found growth pattern item row (r ∷ rs) rules can =
@@ -178,7 +177,7 @@ abbrev pub first_from : ℕ → Records → List Mark
 first_from row [] = []
 first_from row (r ∷ rs) = walk_marks row 0 (pos 0) (totals r) [] r ++ first_from (suc row) rs
 
-pub first-found : (item row : ℕ) (rs : Records) → AllByRecursion KeepsRules rs → marks_with item (first_from row rs) ≡ marks_from ((item ∷ []) ∷ []) item row rs
+pub first-found : (item row : ℕ) (rs : Records) → AllByRecursion IsSequence rs → marks_with item (first_from row rs) ≡ marks_from ((item ∷ []) ∷ []) item row rs
 first-found item row [] rules = refl
 first-found item row (r ∷ rs) rules =
     filter-append (is_of item) (walk_marks row 0 (pos 0) (totals r) [] r) (first_from (suc row) rs)

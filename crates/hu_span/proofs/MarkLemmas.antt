@@ -1,5 +1,5 @@
 -- Marks in the order of their items: those of an item stand side by side.
-use Rattle.std.proofs.Common.{◌≡◌, pos, ℕ, zero, suc, ◌<◌, ◌≤◌, ◌-◌, ◌&&◌, Bool, true, false, not, cond, eqb, ltb, nat_eq, List, [], ◌∷◌, ◌++◌, map, filter}
+use Rattle.std.proofs.Common.{◌≡◌, pos, ℕ, zero, suc, ◌<◌, ◌≤◌, ◌-◌, ◌&&◌, Bool, true, false, not, cond, eqb, ltb, nat_eq, List, [], ◌∷◌, ◌++◌, filter}
 use Rattle.std.proofs.Common.{length, get_or, take, drop, refl, sym, ap, ◌∙◌, subst, arith, Contains, IsPermutation}
 use Rattle.std.specs.List.{AllByRecursion}
 use Rattle.std.specs.List.Retain.{IsFiltered, DiffersFromLast}

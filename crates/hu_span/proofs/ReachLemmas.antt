@@ -1,12 +1,12 @@
 -- The patterns that a search reaches: their itemsets ascend, they are no longer than the records in which they occur, and
 -- they are all patterns of the records.
 use Rattle.std.proofs.Common.{◌≡◌, ℕ, ◌<◌, ◌≤◌, ℤ, is_some, List, [], ◌∷◌, ◌++◌, length, refl, sym, ap, ◌∙◌, true, false, Option, None, Some, subst, inl, inr}
-use Rattle.std.proofs.Common.{arith, length-append, sum_by, Contains, ◌↔◌}
+use Rattle.std.proofs.Common.{arith, length-append, Contains, ◌↔◌}
 use Rattle.std.specs.List.{AllByRecursion}
 use Rattle.hu_kind.specs.declared.entry.Entry.{Entry}
 use Rattle.hu_kind.specs.Order.{Ascend}
 use Rattle.hu_kind.specs.Record.{items_in, IsItemset}
-use Rattle.hu_kind.specs.Sequence.{best_utility, sequence_entry, sequence_patterns, sequence_support}
+use Rattle.hu_kind.specs.Sequence.{best_utility, sequence_entry, sequence_patterns, sequence_support, IsSequence}
 use Rattle.hu_kind.proofs.lemmas.Each.{each-append, each-weaker}
 use Rattle.hu_kind.proofs.lemmas.Members.{Member, Contains-from_member, Member-from_contains}
 use Rattle.hu_kind.proofs.lemmas.Occurring.{at_member, counted, count-member}
@@ -14,7 +14,6 @@ use Rattle.hu_chain.specs.declared.chain.Growth.{Growth}
 use Rattle.hu_chain.specs.declared.chain.Growth.TheVariants.{IntoLast, AfterLast}
 use Rattle.hu_chain.specs.Pattern.{into, last_from, Ends, EndsBelow}
 use Rattle.hu_chain.specs.Grown.{grown, CanGrow, IsGrownFrom, Leads}
-use Rattle.hu_chain.specs.Bound.{KeepsRules}
 use Rattle.hu_chain.proofs.lemmas.Bounds.{grown_from-none, Ends-grown_from}
 use Rattle.hu_chain.proofs.lemmas.Cells.{Ascend-itemset}
 use Rattle.hu_chain.proofs.lemmas.Patterns.{Ends-after}
@@ -85,7 +84,7 @@ grown-reached growth (items ∷ pattern) item (inr is) may = (is.0, grown_from-n
 
 -- ---- sizes and patterns
 
-ascending-rules : (elements : List (List (ℕ × ℤ))) → KeepsRules elements → AreAscending elements
+ascending-rules : (elements : List (List (ℕ × ℤ))) → IsSequence elements → AreAscending elements
 ascending-rules elements rules = each-weaker IsItemset (λ cells. Ascend (items_in cells)) elements Ascend-itemset rules.itemsets
 
 module _ (records : Records) (are : AreRecords records) where
@@ -94,10 +93,9 @@ module _ (records : Records) (are : AreRecords records) where
   steps-few steps is occurs =
       let pattern = pattern_of steps in
       let found = counted (λ r. is_some (best_utility pattern r)) records occurs in
-      let rules = at_member KeepsRules found.0 records are.rules found.1 in
+      let rules = at_member IsSequence found.0 records are.rules found.1 in
       let sub = occurs-sub found.0 pattern (ascending-rules found.0 rules) (from-ascending is.0 pattern is.1) found.2 in
-      let few = rules.sequence in
-      omega (arith, size-sub found.0 pattern sub, few.few, size-pattern_of steps)
+      omega (arith, size-sub found.0 pattern sub, rules.few, size-pattern_of steps)
 
   -- where a pattern occurs, what it grows from does
   pub support-before : (first other : List (List ℕ)) → Ends first → IsGrownFrom first other → 0 < sequence_support records other
@@ -111,12 +109,12 @@ module _ (records : Records) (are : AreRecords records) where
       by r m there (Some x) e = count-member (λ s. is_some (best_utility first s)) r records m (ap is_some e)
       by r m there None e =
           let gone : is_some (best_utility other r) ≡ false = ap is_some (grown_from-none first other r
-          (at_member KeepsRules r records are.rules m) ends from e) in
+          (at_member IsSequence r records are.rules m) ends from e) in
           let bad : true ≡ false = sym there ∙ gone in
           cc
 
   all-ascending : AllByRecursion AreAscending records
-  all-ascending = each-weaker KeepsRules AreAscending records ascending-rules are.rules
+  all-ascending = each-weaker IsSequence AreAscending records ascending-rules are.rules
 
   grows-pattern : (e : Entry) → GrowsOn records [] e → Contains (sequence_patterns records) e
   grows-pattern e on =

@@ -1,6 +1,6 @@
 -- What is gathered of all rows: the marks by which a pattern can grow.
 use Rattle.std.proofs.Common.{◌≡◌, ℕ, zero, suc, ◌+◌, ◌<◌, ◌≤◌, Bool, true, false, cond, eqb, ℤ, List, [], ◌∷◌, ◌++◌, map, length, append_assoc, append-nil}
-use Rattle.std.proofs.Common.{length-append, get_or, pos, ◌-ℤ◌, drop, take, refl, sym, ap, ◌∙◌, subst, ◌⊎◌, inl, inr, arith, IsPermutation}
+use Rattle.std.proofs.Common.{length-append, get_or, pos, ◌-ℤ◌, drop, take, refl, sym, ap, ◌∙◌, subst, arith, IsPermutation}
 use Rattle.std.specs.List.{flat_map, AllByRecursion}
 use Rattle.std.specs.List.Sorted.{IsNonDecreasingBy}
 use Rattle.std.proofs.lemmas.Bool.{eq-eqb, eqb-true, ne_eqb}
@@ -8,11 +8,12 @@ use Rattle.std.proofs.lemmas.List.Concat.{flat_map-append}
 use Rattle.hu_kind.specs.Order.{Ascend}
 use Rattle.hu_kind.specs.Record.{has, items_in}
 use Rattle.hu_kind.proofs.lemmas.Each.{each-append, each-drop, each-take, each-weaker}
+use Rattle.hu_kind.specs.Sequence.{IsSequence}
 use Rattle.hu_chain.specs.declared.chain.Growth.{Growth}
 use Rattle.hu_chain.specs.declared.chain.Growth.TheVariants.{IntoLast, AfterLast}
 use Rattle.hu_chain.specs.declared.place.Place.{Place}
-use Rattle.hu_chain.specs.Bound.{IsFit, KeepsRules}
-use Rattle.hu_chain.specs.Grown.{grown, CanGrow}
+use Rattle.hu_chain.specs.Bound.{IsFit}
+use Rattle.hu_chain.specs.Grown.{grown}
 use Rattle.hu_chain.specs.Pattern.{last_item, Ends}
 use Rattle.hu_chain.specs.Place.{cell_of, chain_of, element_at, totals}
 use Rattle.hu_chain.specs.Search.{IsPlaceOf, IsPlain}
@@ -180,7 +181,7 @@ into-above r row last (place ∷ places) plain is =
     plain-at (cs ∷ es) zero all = let one = all.0 in one.ascending
     plain-at (cs ∷ es) (suc e) all = plain-at es e all.1
 
-grown-above : (pattern : List (List ℕ)) (row : ℕ) (rs : Records) → AllByRecursion KeepsRules rs → Ends pattern
+grown-above : (pattern : List (List ℕ)) (row : ℕ) (rs : Records) → AllByRecursion IsSequence rs → Ends pattern
     → AllByRecursion (λ mark. last_item pattern < mark.item.0) (grown_from IntoLast pattern row rs)
 grown-above pattern row [] rules ends = tt
 grown-above pattern row (r ∷ rs) rules ends =
@@ -198,7 +199,7 @@ each-all : {A : Type 0} (P : A → Type 0) → ((x : A) → P x) → (xs : List 
 each-all P all [] = tt
 each-all P all (x ∷ xs) = (all x, each-all P all xs)
 
-pub grown-sorted : (growth : Growth) (records : Records) (pattern : List (List ℕ)) (marks sorted : List Mark) → AllByRecursion KeepsRules records
+pub grown-sorted : (growth : Growth) (records : Records) (pattern : List (List ℕ)) (marks sorted : List Mark) → AllByRecursion IsSequence records
     → IsReached pattern
     → marks ≡ grown_from growth pattern 0 records → AllByRecursion IsFit (places_of marks) → IsNonDecreasingBy (λ mark. mark.item.0) sorted
     → IsPermutation marks sorted
@@ -218,7 +219,7 @@ grown-sorted growth records pattern marks sorted rules is whole fit up same each
         each-weaker (λ (mark : Mark). last_item pattern < mark.item.0) (λ (mark : Mark). MayTake IntoLast pattern mark.item.0) marks
         (λ mark low. may-reached IntoLast pattern mark.item.0 is (record { ends = Ends-reached pattern is; below = low })) above
 
-pub first-sorted : (records : Records) (marks sorted : List Mark) → AllByRecursion KeepsRules records → marks ≡ first_from 0 records
+pub first-sorted : (records : Records) (marks sorted : List Mark) → AllByRecursion IsSequence records → marks ≡ first_from 0 records
     → AllByRecursion IsFit (places_of marks)
     → IsNonDecreasingBy (λ mark. mark.item.0) sorted → IsPermutation marks sorted → ((item : ℕ) → marks_with item sorted ≡ marks_with item marks)
     → AreGrown records [] AfterLast sorted

@@ -1,5 +1,5 @@
 -- What a search makes that offers all children of a pattern and then enters them best bound first.
-use Rattle.std.proofs.Common.{◌≡◌, ℕ, zero, suc, ◌<◌, ◌≤◌, ◌+◌, true, ℤ, ◌<ℤ◌, ◌≤ℤ◌, List, [], ◌∷◌, ◌++◌, length, get_or, take, drop, refl, sym, ap, ◌∙◌, subst}
+use Rattle.std.proofs.Common.{◌≡◌, ℕ, zero, suc, ◌<◌, ◌≤◌, ◌+◌, ℤ, ◌<ℤ◌, ◌≤ℤ◌, List, [], ◌∷◌, length, get_or, take, drop, sym, ap, ◌∙◌, subst}
 use Rattle.std.proofs.Common.{inl, inr, ◌⊎◌, arith, Contains, Result, Ok, Err, IsErr, IfOk}
 use Rattle.std.specs.List.{AllByRecursion}
 use Rattle.std.proofs.lemmas.Bool.{false≢true}
@@ -8,15 +8,13 @@ use Rattle.std.proofs.lemmas.List.{take_more}
 use Rattle.std.proofs.lemmas.List.Elements.{Contains-append_left, Contains-push, Contains-push_cases}
 use Rattle.hu_kind.specs.declared.entry.Entry.{Entry}
 use Rattle.hu_kind.specs.Sequence.{sequence_entry, sequence_support}
-use Rattle.hu_kind.proofs.lemmas.Each.{each-get}
 use Rattle.hu_kind.proofs.lemmas.Members.{Member, Member-from_contains, Contains-from_member}
 use Rattle.hu_kind.proofs.lemmas.Occurring.{at_member}
-use Rattle.hu_collect.specs.Rule.{passes}
 use Rattle.hu_collect.specs.State.{State, offered, floor_in, IsInOrder, Reached, ReachedSome}
-use Rattle.hu_collect.proofs.lemmas.Searching.{empty-contains, reached-rule, reached-in_order, reached-floor, reached-none, reached-one, reached-then}
+use Rattle.hu_collect.proofs.lemmas.Searching.{empty-contains, reached-in_order, reached-floor, reached-none, reached-one, reached-then}
 use Rattle.hu_collect.proofs.lemmas.Searching.{reached-as, some-reached, some-as, some-then}
 use Rattle.hu_chain.specs.declared.chain.Growth.{Growth}
-use Rattle.hu_chain.specs.Grown.{grown, CanGrow, Leads, IsGrownFrom}
+use Rattle.hu_chain.specs.Grown.{grown, CanGrow, Leads}
 use Rattle.hu_chain.proofs.lemmas.Bounds.{grown-first}
 use Rattle.hu_chain.proofs.lemmas.Patterns.{Ends-grown}
 use Rattle.hu_chain.proofs.lemmas.Reached.{grown_from-itself}

@@ -9,10 +9,10 @@ use Rattle.std.proofs.lemmas.Bool.{eq-eqb, eqb-true, ltb-true, ne_eqb, lt-ltb}
 use Rattle.std.proofs.lemmas.List.{map-append}
 use Rattle.std.proofs.lemmas.List.Sums.{sum_by-cons}
 use Rattle.hu_kind.specs.Record.{absolute_of}
-use Rattle.hu_kind.specs.Sequence.{better, best_utility, sequence_support, sequence_utility}
+use Rattle.hu_kind.specs.Sequence.{better, best_utility, sequence_support, sequence_utility, IsSequence}
 use Rattle.hu_kind.proofs.lemmas.Each.{each-left, each-right}
 use Rattle.hu_chain.specs.declared.place.Place.{Place}
-use Rattle.hu_chain.specs.Bound.{best_of, extension_bound, greatest, reach, IsAtMost, IsFit, KeepsRules}
+use Rattle.hu_chain.specs.Bound.{best_of, extension_bound, greatest, reach, IsAtMost, IsFit}
 use Rattle.hu_chain.specs.Grown.{IsGrownFrom}
 use Rattle.hu_chain.specs.Pattern.{Ends}
 use Rattle.hu_chain.specs.Place.{chain_of}
@@ -21,7 +21,7 @@ use Rattle.hu_chain.proofs.lemmas.Gathered.{best_of-chain}
 use Rattle.hu_span.proofs.NumberLemmas.{kept-z}
 use Rattle.hu_span.specs.declared.mark.Mark.{Mark}
 use Rattle.hu_span.specs.declared.tally.Tally.{Tally}
-use Rattle.hu_span.specs.Growing.{AreRecords, Records}
+use Rattle.hu_span.specs.Growing.{Records}
 use Rattle.hu_span.specs.Mark.{mark_at, marks_from, places_of}
 use Rattle.hu_span.specs.Tally.{bests_of, count_of, next_row, none_told, reaches_of, same_row, told, told_from, told_with, IsTally}
 
@@ -232,7 +232,7 @@ fit-first pattern item row r rs fit =
     back [] = refl
     back (place ∷ places) = ap (λ ps. place ∷ ps) (back places)
 
-pub bounds-hold : (pattern other : List (List ℕ)) (item row : ℕ) (rs : Records) → AllByRecursion KeepsRules rs → Ends pattern → IsGrownFrom pattern other
+pub bounds-hold : (pattern other : List (List ℕ)) (item row : ℕ) (rs : Records) → AllByRecursion IsSequence rs → Ends pattern → IsGrownFrom pattern other
     → AllByRecursion IsFit (places_of (marks_from pattern item row rs)) → sequence_utility rs other ≤ℤ bounds pattern rs
 bounds-hold pattern other item row [] rules ends from fit = omega (arith, ints)
 bounds-hold pattern other item row (r ∷ rs) rules ends from fit =
@@ -247,7 +247,7 @@ bounds-hold pattern other item row (r ∷ rs) rules ends from fit =
     at_most None bound is low = low
     at_most (Some u) bound is low = is
 
-pub bounds-fit : (first : ℕ) (pattern : List (List ℕ)) (rs : Records) → AllByRecursion KeepsRules rs → IsGrownFrom ((first ∷ []) ∷ []) pattern
+pub bounds-fit : (first : ℕ) (pattern : List (List ℕ)) (rs : Records) → AllByRecursion IsSequence rs → IsGrownFrom ((first ∷ []) ∷ []) pattern
     → bounds pattern rs ≤ℤ pos (sum_by (λ elements. sum_by absolute_of elements) rs)
 bounds-fit first pattern [] rules from = omega (arith, ints)
 bounds-fit first pattern (r ∷ rs) rules from =

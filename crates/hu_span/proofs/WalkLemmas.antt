@@ -1,5 +1,5 @@
 -- The rules of tails and walks, and of the marks that they give.
-use Rattle.std.proofs.Common.{◌≡◌, ℕ, zero, suc, ◌+◌, ◌<◌, ◌≤◌, ◌^◌, Bool, true, false, cond, eqb, ℤ, pos, ◌+ℤ◌, ◌-ℤ◌, ◌≤ℤ◌, ◌<ℤ◌, List, [], ◌∷◌, ◌++◌, map}
+use Rattle.std.proofs.Common.{◌≡◌, ℕ, zero, suc, ◌+◌, ◌<◌, ◌≤◌, ◌^◌, Bool, true, false, cond, eqb, ℤ, pos, ◌+ℤ◌, ◌-ℤ◌, ◌≤ℤ◌, ◌<ℤ◌, List, [], ◌∷◌, ◌++◌}
 use Rattle.std.proofs.Common.{length, length-drop, append_assoc, append-nil, get_or, take, ◌-◌, drop, refl, sym, ap, ◌∙◌, subst, arith, sum_by}
 use Rattle.std.specs.Int.{int_max}
 use Rattle.std.specs.List.{AllByRecursion}
@@ -9,10 +9,11 @@ use Rattle.std.proofs.lemmas.List.{drop_more, length-map, map-append, take_all}
 use Rattle.std.proofs.lemmas.List.Sums.{sum_by-cons}
 use Rattle.hu_kind.specs.declared.item.Cell.{Cell}
 use Rattle.hu_kind.specs.Cell.{pairs_of, pair_of}
-use Rattle.hu_kind.specs.Record.{items_in, total}
+use Rattle.hu_kind.specs.Record.{total}
 use Rattle.hu_kind.proofs.lemmas.Each.{each-append}
+use Rattle.hu_kind.specs.Sequence.{IsSequence}
 use Rattle.hu_chain.specs.declared.place.Place.{Place}
-use Rattle.hu_chain.specs.Bound.{IsFit, KeepsRules}
+use Rattle.hu_chain.specs.Bound.{IsFit}
 use Rattle.hu_chain.specs.Place.{element_at, totals}
 use Rattle.hu_chain.specs.Search.{best_past, left_past, IsLeft, IsPlain, IsPlaceOf}
 use Rattle.hu_chain.proofs.lemmas.Bounds.{plain-rules}
@@ -104,12 +105,12 @@ low-totals (cells ∷ elements) plain =
 
 -- ---- the marks beside a place
 
-module _ (elements : List (List (ℕ × ℤ))) (rules : KeepsRules elements) where
+module _ (elements : List (List (ℕ × ℤ))) (rules : IsSequence elements) where
   plain : AllByRecursion IsPlain elements
   plain = plain-rules elements rules
 
   few : (e : ℕ) → length (element_at elements e) ≤ 4096
-  few e = let is = rules.sequence in omega (arith, few-at elements e, is.few)
+  few e = omega (arith, few-at elements e, rules.few)
 
   pub cell-few : (last : ℕ) (place : Place) → IsPlaceOf elements last place → place.cell < 4096
   cell-few last place is = let at = place-at elements last place is in omega (arith, at.1, few place.element)
@@ -273,7 +274,7 @@ tail-end row e c best rest cells i marks whole past so_far =
     sym (append-nil marks) ∙ ap (λ cs. marks ++ tail_marks row e c best rest (pairs_of cs)) (sym (drop-past cells i past)) ∙ so_far
 
 -- the walk after the first place of a row
-pub walk-later : (elements : List (List (ℕ × ℤ))) (last : ℕ) (place : Place) (places : List Place) (walk : Walk) → KeepsRules elements
+pub walk-later : (elements : List (List (ℕ × ℤ))) (last : ℕ) (place : Place) (places : List Place) (walk : Walk) → IsSequence elements
     → IsPlaceOf elements last place
     → AllByRecursion (IsPlaceOf elements last) places → IsFit place → AllByRecursion IsFit places → walk.best ≡ place.best
     → walk.ahead ≡ place.rest -ℤ total (cells_after elements place)

@@ -3,9 +3,8 @@ use Rattle.std.specs.Prelude.{◌≡◌, ◌<◌, ◌^◌, ◌⊎◌, ℕ, ℤ, 
 use Rattle.std.specs.List.{AllByRecursion, sum_by}
 use Rattle.hu_kind.specs.declared.entry.Entry.{Entry}
 use Rattle.hu_kind.specs.Record.{absolute_of}
-use Rattle.hu_kind.specs.Sequence.{sequence_entry, sequence_support}
+use Rattle.hu_kind.specs.Sequence.{sequence_entry, sequence_support, IsSequence}
 use Rattle.hu_chain.specs.declared.chain.Growth.{Growth}
-use Rattle.hu_chain.specs.Bound.{KeepsRules}
 use Rattle.hu_chain.specs.Grown.{grown, IsGrownFrom}
 use Rattle.hu_span.specs.Gather.{MayTake}
 
@@ -19,7 +18,7 @@ Pattern = List (List ℕ)
 
 -- records that keep their rules, and whose values sum to at most 2 ^ 127 - 1
 pub record AreRecords (records : List (List (List (ℕ × ℤ)))) : Type 0 where
-  pub rules : AllByRecursion KeepsRules records
+  pub rules : AllByRecursion IsSequence records
   pub fits : sum_by (λ elements. sum_by absolute_of elements) records < 2 ^ 127
 
 -- a pattern comes of one item by growths

@@ -6,7 +6,7 @@ use Rattle.std.specs.List.{AllByRecursion, Contains}
 use Rattle.hu_kind.specs.declared.entry.Entry.{Entry}
 use Rattle.hu_collect.specs.State.{State, Reached, ReachedSome, floor_in}
 use Rattle.hu_span.specs.declared.child.Child.{Child}
-use Rattle.hu_span.specs.Child.{child_entry, stepped, AreChildren, IsChild, Fall}
+use Rattle.hu_span.specs.Child.{child_entry, stepped, AreChildren, Fall}
 use Rattle.hu_span.specs.Growing.{GrowsOn, Records}
 
 -- the entry is that of a child

@@ -4,7 +4,8 @@ ghost use Rattle.std.specs.Prelude.{◌≡◌, ◌++◌, ◌^◌, ◌-ℤ◌, �
 ghost use Rattle.std.specs.List.{AllByRecursion};
 ghost use Rattle.hu_kind.specs.Cell.{pairs_of};
 ghost use Rattle.hu_kind.specs.Record.{total};
-ghost use Rattle.hu_chain.specs.Bound.{KeepsRules, IsFit};
+ghost use Rattle.hu_kind.specs.Sequence.{IsSequence};
+ghost use Rattle.hu_chain.specs.Bound.{IsFit};
 ghost use Rattle.hu_chain.specs.Pattern.{last_item};
 ghost use Rattle.hu_chain.specs.Search.{best_past, left_past, IsPlaceOf};
 ghost use Rattle.hu_span.specs.Child.{ArePlaces};
@@ -20,7 +21,7 @@ use std::alloc::Global;
 /// The marks of all items of records, in the order of the items.
 pub(crate) fn first_marks(alloc: Global, records: &[SeqRecord]) -> Result<Vec<Mark>, NoMemory>
     ensures marks { IfOk result (λ marks. AreGrown records.now [] Growth.AfterLast marks.items) }
-    ensures rules { IfOk result (λ _. AllByRecursion KeepsRules records.now) }
+    ensures rules { IfOk result (λ _. AllByRecursion IsSequence records.now) }
 {
     let mut marks = Vec::new(alloc);
     'records: for (row, record) in records.iter().enumerate() {
@@ -42,7 +43,7 @@ pub(crate) fn marks_into(
     records: &[SeqRecord],
     marks: &[Mark],
 ) -> Result<Vec<Mark>, NoMemory>
-    requires rules { AllByRecursion KeepsRules records.now }
+    requires rules { AllByRecursion IsSequence records.now }
     requires places { (p : Pattern) × IsReached p
         × ArePlaces records.now p (last_item p) marks.now }
     ensures { (p : Pattern) → IsReached p → ArePlaces records.now p (last_item p) marks.now
@@ -62,7 +63,7 @@ pub(crate) fn marks_after(
     records: &[SeqRecord],
     marks: &[Mark],
 ) -> Result<Vec<Mark>, NoMemory>
-    requires rules { AllByRecursion KeepsRules records.now }
+    requires rules { AllByRecursion IsSequence records.now }
     requires places { (p : Pattern) × IsReached p
         × ArePlaces records.now p (last_item p) marks.now }
     ensures { (p : Pattern) → IsReached p → ArePlaces records.now p (last_item p) marks.now
@@ -93,7 +94,7 @@ fn row_len(marks: &[Mark], row: usize) -> usize
 
 /// Appends the marks of the cells after a mark in its element.
 fn push_beside(marks: &mut Vec<Mark>, elements: &[Element], mark: &Mark) -> Result<(), NoMemory>
-    requires rules { KeepsRules elements.now }
+    requires rules { IsSequence elements.now }
     requires place { (last : ℕ) × IsPlaceOf elements.now last mark.now.place }
     requires fit { IsFit mark.now.place }
     ensures marks { OnOk result (marks.new.items
@@ -120,7 +121,7 @@ fn push_later(
     first: &Mark,
     left: &[Mark],
 ) -> Result<(), NoMemory>
-    requires rules { KeepsRules elements.now }
+    requires rules { IsSequence elements.now }
     requires places { (last : ℕ)
         × AllByRecursion (IsPlaceOf elements.now last) (places_of (first.now ∷ left.now)) }
     requires fit { AllByRecursion IsFit (places_of (first.now ∷ left.now)) }
@@ -199,15 +200,14 @@ impl<'a> Walk<'a> {
     }
 }
 
-/// Appends the marks of all cells of the elements from one on, each after the best occurrence before its element. An
-/// element whose number is no `u32` is answered by want of memory, which so many elements would meet before.
+/// Appends the marks of all cells of the elements from one on, each after the best occurrence before its element.
 fn push_walk(
     marks: &mut Vec<Mark>,
     elements: &[Element],
     first: usize,
     walk: Walk<'_>,
 ) -> Result<(), NoMemory>
-    requires rules { KeepsRules elements.now }
+    requires rules { IsSequence elements.now }
     requires walk { IsWalk elements.now first walk }
     ensures marks { OnOk result (marks.new.items
         ≡ marks.old.items ++ marks_past elements.now first walk.entry) }
@@ -215,9 +215,7 @@ fn push_walk(
 {
     let mut walk = walk;
     'elements: for number in first..elements.len() {
-        let Ok(element) = u32::try_from(number) else {
-            return Err(NoMemory);
-        };
+        let element = number as u32;
         let tail = Tail {
             row: walk.row,
             element,

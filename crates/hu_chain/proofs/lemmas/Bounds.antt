@@ -1,11 +1,12 @@
 -- What bounds hold of growths: no place of a grown pattern reaches further than the places that it comes of.
-use Rattle.std.proofs.Common.{◌≡◌, ℕ, suc, ◌<◌, Bool, true, false, cond, eqb, ℤ, pos, ◌+ℤ◌, ◌≤ℤ◌, ◌<ℤ◌, ◌^◌, Option, None, Some, is_some, unwrap_or, option_map, option_to_list, List, [], ◌∷◌, ◌++◌, length, drop, refl, sym, ap, ◌∙◌, subst, arith, sum_by}
+use Rattle.std.proofs.Common.{◌≡◌, ℕ, suc, ◌<◌, ◌≤◌, Bool, true, false, cond, eqb, ℤ, pos, ◌+ℤ◌, ◌≤ℤ◌, ◌<ℤ◌, ◌^◌, Option, None, Some, is_some, unwrap_or, option_map, option_to_list, List, [], ◌∷◌, ◌++◌, length, drop, refl, sym, ap, ◌∙◌, subst, arith, sum_by}
 use Rattle.std.specs.List.{AllByRecursion}
 use Rattle.std.specs.Option.{option_and_then}
 use Rattle.std.proofs.lemmas.Int.{ints, clamps}
 use Rattle.std.proofs.lemmas.Bool.{eqb-true, ne_eqb}
+use Rattle.std.proofs.lemmas.List.Sums.{sum_by-cons}
 use Rattle.hu_kind.specs.Record.{absolute_of, has, holds, items_in, total, value_of, values_of, IsItemset}
-use Rattle.hu_kind.specs.Sequence.{better, best_utility}
+use Rattle.hu_kind.specs.Sequence.{better, best_utility, IsSequence}
 use Rattle.hu_kind.specs.Order.{Ascend}
 use Rattle.hu_kind.proofs.lemmas.Occurring.{at_member, has-member}
 use Rattle.hu_chain.specs.declared.chain.Growth.{Growth}
@@ -14,7 +15,7 @@ use Rattle.hu_chain.specs.declared.place.Place.{Place}
 use Rattle.hu_chain.specs.Pattern.{after, earlier, into, last_item, last_itemset, Ends, EndsBelow}
 use Rattle.hu_chain.specs.Grown.{grown, CanGrow, Leads, IsGrownFrom}
 use Rattle.hu_chain.specs.Place.{cell_of, chain_of, totals}
-use Rattle.hu_chain.specs.Bound.{best_of, extension_bound, greatest, reach, reduced_bound, IsAtMost, IsFit, KeepsRules}
+use Rattle.hu_chain.specs.Bound.{best_of, extension_bound, greatest, reach, reduced_bound, IsAtMost, IsFit}
 use Rattle.hu_chain.specs.Search.{found, occurs, IsPlain}
 use Rattle.hu_chain.proofs.Better.{better-assoc, map-better}
 use Rattle.hu_chain.proofs.lemmas.Patterns.{Ends-can_grow, Ends-grown}
@@ -79,8 +80,19 @@ plain-itemsets [] above is = tt
 plain-itemsets (cells ∷ elements) above is = (record { ascending = Ascend-itemset cells is.0; none_below = above.0 }, plain-itemsets elements above.1 is.1)
 
 -- the elements of a sequence that keeps its rules
-pub plain-rules : (elements : List (List (ℕ × ℤ))) → KeepsRules elements → AllByRecursion IsPlain elements
-plain-rules elements rules = let is = rules.sequence in plain-itemsets elements (all-above elements is.none_below) rules.itemsets
+pub plain-rules : (elements : List (List (ℕ × ℤ))) → IsSequence elements → AllByRecursion IsPlain elements
+plain-rules elements rules = plain-itemsets elements (all-above elements rules.none_below) rules.itemsets
+
+-- no itemset is empty, so that there are no more elements than cells
+elements-below : (elements : List (List (ℕ × ℤ))) → AllByRecursion IsItemset elements → length elements ≤ sum_by length elements
+elements-below [] is = omega arith
+elements-below (cells ∷ elements) is =
+    let here = is.0.some in
+    omega (arith, sum_by-cons (λ (cs : List (ℕ × ℤ)). length cs) cells elements, elements-below elements is.1)
+
+-- how many elements a sequence has at most
+pub elements-few : (elements : List (List (ℕ × ℤ))) → IsSequence elements → length elements ≤ 4096
+elements-few elements rules = omega (arith, elements-below elements rules.itemsets, rules.few)
 
 -- ---- what a place earns is below what it reaches
 
@@ -245,7 +257,7 @@ after-places_in pattern item before (cells ∷ later) ends is =
 -- ---- any number of growths
 
 -- one growth lowers what the places reach
-pub grown-below : (growth : Growth) (pattern : List (List ℕ)) (item : ℕ) (elements : List (List (ℕ × ℤ))) → KeepsRules elements → CanGrow growth pattern item
+pub grown-below : (growth : Growth) (pattern : List (List ℕ)) (item : ℕ) (elements : List (List (ℕ × ℤ))) → IsSequence elements → CanGrow growth pattern item
     → IsBelow (greatest reach (chain_of (grown growth pattern item) elements)) (greatest reach (chain_of pattern elements))
 grown-below IntoLast pattern item elements rules can =
     let P : List Place → List Place → Type 0 = λ ps qs. IsBelow (greatest reach ps) (greatest reach qs) in
@@ -258,7 +270,7 @@ grown-below AfterLast pattern item elements rules can =
     (after-places_in pattern item [] elements can (plain-rules elements rules)) in
     subst (λ ps. P ps (chain_of pattern elements)) (sym (chain_of-places (after pattern item) elements)) (subst (P (places_in (after pattern item) [] elements)) (sym (chain_of-places pattern elements)) is)
 
-leads-below : (steps : List (Growth × ℕ)) (pattern other : List (List ℕ)) (elements : List (List (ℕ × ℤ))) → KeepsRules elements → Leads steps pattern other
+leads-below : (steps : List (Growth × ℕ)) (pattern other : List (List ℕ)) (elements : List (List (ℕ × ℤ))) → IsSequence elements → Leads steps pattern other
     → IsBelow (greatest reach (chain_of other elements)) (greatest reach (chain_of pattern elements))
 leads-below [] pattern other elements rules leads = subst (λ p. IsBelow (greatest reach (chain_of p elements)) (greatest reach (chain_of pattern elements))) leads (IsBelow-refl (greatest reach (chain_of pattern elements)))
 leads-below (step ∷ steps) pattern other elements rules leads =
@@ -276,7 +288,7 @@ pub Ends-grown_from : (pattern other : List (List ℕ)) → Ends pattern → IsG
 Ends-grown_from pattern other ends from = leads-end from.steps pattern other ends from.leads
 
 -- a grown pattern earns no more than the places reach
-pub grown_from-below : (pattern other : List (List ℕ)) (elements : List (List (ℕ × ℤ))) → KeepsRules elements → Ends pattern → IsGrownFrom pattern other
+pub grown_from-below : (pattern other : List (List ℕ)) (elements : List (List (ℕ × ℤ))) → IsSequence elements → Ends pattern → IsGrownFrom pattern other
     → IsBelow (best_utility other elements) (greatest reach (chain_of pattern elements))
 grown_from-below pattern other elements rules ends from =
     let far = Ends-grown_from pattern other ends from in
@@ -285,7 +297,7 @@ grown_from-below pattern other elements rules ends from =
     (IsBelow-trans (best_of (chain_of other elements)) (greatest reach (chain_of other elements)) (greatest reach (chain_of pattern elements)) best (leads-below from.steps pattern other elements rules from.leads))
 
 -- the extension bound holds of every grown pattern
-pub extension-holds : (pattern other : List (List ℕ)) (elements : List (List (ℕ × ℤ))) → KeepsRules elements → Ends pattern → IsGrownFrom pattern other
+pub extension-holds : (pattern other : List (List ℕ)) (elements : List (List (ℕ × ℤ))) → IsSequence elements → Ends pattern → IsGrownFrom pattern other
     → IsAtMost (best_utility other elements) (extension_bound (chain_of pattern elements))
 extension-holds pattern other elements rules ends from = IsAtMost-below (best_utility other elements) (greatest reach (chain_of pattern elements)) (grown_from-below pattern other elements rules ends from)
 
@@ -302,7 +314,7 @@ none-reached (place ∷ places) e = absurd (some (best_of places) e)
     some (Some u) h = cc
 
 -- where a pattern doesn't occur, no grown pattern does
-pub grown_from-none : (pattern other : List (List ℕ)) (elements : List (List (ℕ × ℤ))) → KeepsRules elements → Ends pattern → IsGrownFrom pattern other → best_utility pattern elements ≡ None → best_utility other elements ≡ None
+pub grown_from-none : (pattern other : List (List ℕ)) (elements : List (List (ℕ × ℤ))) → IsSequence elements → Ends pattern → IsGrownFrom pattern other → best_utility pattern elements ≡ None → best_utility other elements ≡ None
 grown_from-none pattern other elements rules ends from none =
     let gone = none-reached (chain_of pattern elements) (best_of-chain_of pattern elements ends ∙ none) in
     nothing (best_utility other elements) (subst (IsBelow (best_utility other elements)) gone (grown_from-below pattern other elements rules ends from))
@@ -312,7 +324,7 @@ grown_from-none pattern other elements rules ends from none =
     nothing (Some u) h = absurd h
 
 -- the reduced bound holds of every pattern that grows from the grown one
-pub reduced-holds : (growth : Growth) (pattern other : List (List ℕ)) (item : ℕ) (elements : List (List (ℕ × ℤ))) → KeepsRules elements → CanGrow growth pattern item → IsGrownFrom (grown growth pattern item) other
+pub reduced-holds : (growth : Growth) (pattern other : List (List ℕ)) (item : ℕ) (elements : List (List (ℕ × ℤ))) → IsSequence elements → CanGrow growth pattern item → IsGrownFrom (grown growth pattern item) other
     → IsAtMost (best_utility other elements) (reduced_bound (chain_of pattern elements) (grown growth pattern item) elements)
 reduced-holds growth pattern other item elements rules can from = by (best_utility (grown growth pattern item) elements) refl
   where
@@ -341,14 +353,14 @@ start-places_in item before (cells ∷ later) is =
     both (Some x) None sum here up h i = omega (arith, ints)
     both (Some x) (Some y) sum here up h i = omega (arith, ints, clamps)
 
-pub extension-within : (item : ℕ) (pattern : List (List ℕ)) (elements : List (List (ℕ × ℤ))) → KeepsRules elements → IsGrownFrom ((item ∷ []) ∷ []) pattern
+pub extension-within : (item : ℕ) (pattern : List (List ℕ)) (elements : List (List (ℕ × ℤ))) → IsSequence elements → IsGrownFrom ((item ∷ []) ∷ []) pattern
     → extension_bound (chain_of pattern elements) ≤ℤ pos (sum_by absolute_of elements)
 extension-within item pattern elements rules from =
     let one : List (List ℕ) = (item ∷ []) ∷ [] in
     let plain = plain-rules elements rules in
     let start = subst (λ ps. IsBelow (greatest reach ps) (Some (totals elements))) (sym (chain_of-places one elements)) (start-places_in item [] elements plain) in
     let all = IsBelow-trans (greatest reach (chain_of pattern elements)) (greatest reach (chain_of one elements)) (Some (totals elements)) (leads-below from.steps one pattern elements rules from.leads) start in
-    let sum = totals-absolute elements rules.sequence in
+    let sum = totals-absolute elements rules in
     let low = totals-above elements plain in
     within (greatest reach (chain_of pattern elements)) (totals elements) (pos (sum_by absolute_of elements)) all sum low
   where

@@ -1,21 +1,22 @@
-use Rattle.std.proofs.Common.{◌≡◌, ◌∙◌, ◌-ℤ◌, ◌++◌, ap, sym, subst, arith, option_to_list, inl, inr}
+use Rattle.std.proofs.Common.{◌∙◌, ◌-ℤ◌, ◌++◌, ap, sym, subst, arith, option_to_list}
 use Rattle.std.specs.List.{AllByRecursion}
 use Rattle.std.proofs.lemmas.Int.{ints}
-use Rattle.std.proofs.lemmas.Bool.{cases_lt}
 use Rattle.hu_kind.specs.Cell.{pairs_of}
-use Rattle.hu_kind.specs.Record.{total, IsItemset}
-use Rattle.hu_chain.specs.Place.{element_at}
+use Rattle.hu_kind.specs.Record.{total}
 use Rattle.hu_chain.specs.Bound.{IsFit}
-use Rattle.hu_chain.specs.Search.{best_past, left_past}
+use Rattle.hu_chain.proofs.lemmas.Bounds.{elements-few}
 use Rattle.hu_chain.proofs.Turns.{IsWhole, IsTail-whole, IsWalk-past, fit-more, found-whole_element, walked-next, whole-holds}
 use Rattle.hu_chain.proofs.walk.places_from.Goals as goal
+
+pub overflow_cast-element : goal.overflow_cast-element
+overflow_cast-element c = let few = elements-few c.args.elements.now c.requires.sequence in omega arith
 
 pub ended-requires : goal.ended-requires
 ended-requires c =
     let elements = c.args.elements.now in
     let e = c.loop-number.number in
     let whole : IsWhole elements e c.loop-number.walk c.tail.result = record {
-      element = c.tail.ensures.element ∙ c.in-Ok.ensures.1;
+      element = c.tail.ensures.element;
       first = c.tail.ensures.first;
       cells = ap pairs_of c.tail.ensures.cells ∙ c.cells_at-cells.ensures.value;
       best = c.tail.ensures.best;
@@ -34,7 +35,7 @@ loop-number-preserved c =
     let elements = c.args.elements.now in
     let e = c.loop-number.number in
     let whole : IsWhole elements e c.loop-number.walk c.tail.result = record {
-      element = c.tail.ensures.element ∙ c.in-Ok.ensures.1;
+      element = c.tail.ensures.element;
       first = c.tail.ensures.first;
       cells = ap pairs_of c.tail.ensures.cells ∙ c.cells_at-cells.ensures.value;
       best = c.tail.ensures.best;
@@ -43,8 +44,8 @@ loop-number-preserved c =
     let walk = c.loop-number.walk in
     let rules = c.loop-number.invariant.rules in
     let made = c.loop-number.places.items in
-    let best = c.past-walk.ensures.best ∙ ap (λ n. best_past n walk.best walk.left.now) c.in-Ok.ensures.1 in
-    let left = c.past-walk.ensures.left ∙ ap (λ n. left_past n walk.left.now) c.in-Ok.ensures.1 in
+    let best = c.past-walk.ensures.best in
+    let left = c.past-walk.ensures.left in
     let ahead = c.past-walk.ensures.ahead ∙ ap (λ t. walk.ahead -ℤ t) (ap total c.cells_at-cells.ensures.value) in
     let here = c.ended.ensures.value ∙ found-whole_element elements e c.args.item.0 walk c.tail.result c.loop-number-test.true rules whole in
     let more = c.in_ok-push_place.ensures ∙ ap (λ o. made ++ option_to_list o) here in
@@ -52,8 +53,4 @@ loop-number-preserved c =
       so_far = walked-next elements c.args.item.0 e walk.best walk.left.now made c.push_place.new.places.items _ c.past-walk.result c.loop-number-test.true c.loop-number.invariant.so_far more best left;
       rules = IsWalk-past elements e walk c.past-walk.result c.requires.sequence c.loop-number-test.true c.cells_at-cells.ensures.plain rules best left ahead;
       fit = subst (AllByRecursion IsFit) (sym c.in_ok-push_place.ensures) (fit-more c.ended.result made c.loop-number.invariant.fit c.ended.ensures.fit);
-      itemsets = λ k from below. elim (cases_lt k e) [
-        | inl before ↦ c.loop-number.invariant.itemsets k from before
-        | inr after ↦ let same : e ≡ k = omega arith in subst (λ n. IsItemset (element_at elements n)) same c.cells_at-cells.ensures.itemset
-      ];
     }

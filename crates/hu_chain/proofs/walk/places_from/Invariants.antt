@@ -1,7 +1,5 @@
-use Rattle.std.proofs.Common.{◌≡◌, ◌<◌, ◌≤◌, ℕ, ◌++◌, drop}
+use Rattle.std.proofs.Common.{◌≡◌, ◌++◌, drop}
 use Rattle.std.specs.List.{AllByRecursion}
-use Rattle.hu_kind.specs.Record.{IsItemset}
-use Rattle.hu_chain.specs.Place.{element_at}
 use Rattle.hu_chain.specs.Bound.{IsFit}
 use Rattle.hu_chain.specs.Search.{walked, IsWalk}
 use Rattle.hu_chain.proofs.walk.places_from.Given as goal
@@ -12,5 +10,4 @@ invariant-loop-number l = record {
       ≡ walked l.item.0 l.first l.initial.walk.best l.initial.walk.left.now (drop l.first l.elements);
   rules : IsWalk l.elements l.number l.walk;
   fit : AllByRecursion IsFit l.places.items;
-  itemsets : (k : ℕ) → l.first ≤ k → k < l.number → IsItemset (element_at l.elements k);
 }

@@ -2,7 +2,6 @@ use Rattle.std.proofs.Common.{rules, ◌⊎◌, ◌<ℤ◌, subst, to_z, of_z, C
 use Rattle.std.specs.Int.{w128}
 use Rattle.std.proofs.lemmas.Int.{to_z-of_z}
 use Rattle.std.proofs.lemmas.List.Sorted.{answers_always}
-use Rattle.hu_span.specs.declared.child.Child.{Child}
 use Rattle.hu_span.proofs.ChildLemmas.{among-kept, others-kept, fall-sorted, stands_before, stands_before_order}
 use Rattle.hu_span.proofs.child.best_of.Goals as goal
 

@@ -1,11 +1,11 @@
-use Rattle.std.proofs.Common.{◌≡◌, ◌∙◌, ◌+ℤ◌, ◌<ℤ◌, ◌^◌, pos, to_z, of_z, refl, sym, ap, subst, arith}
+use Rattle.std.proofs.Common.{◌∙◌, ◌+ℤ◌, ◌<ℤ◌, ◌^◌, pos, to_z, of_z, refl, sym, ap, subst, arith}
 use Rattle.std.specs.Int.{w128}
 use Rattle.std.proofs.lemmas.Int.{ints}
 use Rattle.hu_span.specs.declared.tally.Tally.{Tally}
 use Rattle.hu_span.specs.Tally.{bests_of, reaches_of}
 use Rattle.hu_span.proofs.ChildLemmas.{step-child, step-fits, step-reaches}
-use Rattle.hu_span.proofs.NumberLemmas.{fits-z, kept-z}
-use Rattle.hu_span.proofs.TallyLemmas.{IsKept, IsKept-fits}
+use Rattle.hu_span.proofs.NumberLemmas.{kept-z}
+use Rattle.hu_span.proofs.TallyLemmas.{IsKept-fits}
 use Rattle.hu_span.proofs.child.child_of.Goals as goal
 
 pub tally_of-tally-requires-clause-fit : goal.tally_of-tally-requires-clause-fit

@@ -1,11 +1,9 @@
-use Rattle.std.proofs.Common.{◌≡◌, ◌∙◌, map, take, get_or, sym, ap, subst, arith}
+use Rattle.std.proofs.Common.{◌∙◌, map, get_or, sym, ap, subst, arith}
 use Rattle.std.specs.List.{AllByRecursion}
 use Rattle.std.proofs.lemmas.List.{take_all}
 use Rattle.hu_kind.specs.declared.item.Item.{Item}
 use Rattle.hu_kind.proofs.lemmas.Each.{each-push}
-use Rattle.hu_kind.proofs.lemmas.Members.{Member, Contains-from_member, Member-from_contains}
 use Rattle.hu_collect.specs.Laws.{SameMembers}
-use Rattle.hu_span.specs.declared.child.Child.{Child}
 use Rattle.hu_span.specs.declared.mark.Mark.{Mark}
 use Rattle.hu_span.specs.Child.{IsChild}
 use Rattle.hu_span.proofs.ChildLemmas.{all-gathered, item-marked, steps_by, step-gathered, steps-next}

@@ -1,4 +1,4 @@
-use Rattle.hu_span.proofs.WalkLemmas.{are-after, AreAfter}
+use Rattle.hu_span.proofs.WalkLemmas.{are-after}
 use Rattle.hu_span.proofs.gather.cells_after.Goals as goal
 
 pub slice_bounds-result-count : goal.slice_bounds-result-count

@@ -1,10 +1,9 @@
-use Rattle.std.proofs.Common.{◌≡◌, ◌∙◌, ◌++◌, ◌^◌, ◌<ℤ◌, suc, pos, take, drop, get_or, [], to_z, of_z, sym, ap, subst, arith, add-one, append_assoc, append-nil}
-use Rattle.std.specs.Int.{w128}
+use Rattle.std.proofs.Common.{◌∙◌, ◌++◌, suc, pos, take, drop, get_or, [], sym, ap, subst, arith, add-one, append_assoc, append-nil}
 use Rattle.std.specs.List.{AllByRecursion}
 use Rattle.std.proofs.lemmas.Int.{ints}
 use Rattle.std.proofs.lemmas.List.{take_all, take_more}
 use Rattle.hu_kind.proofs.lemmas.Each.{each-push}
-use Rattle.hu_chain.specs.Bound.{KeepsRules}
+use Rattle.hu_kind.specs.Sequence.{IsSequence}
 use Rattle.hu_chain.specs.Place.{totals}
 use Rattle.hu_chain.proofs.lemmas.Gathered.{totals-all}
 use Rattle.hu_span.specs.Gather.{walk_marks}
@@ -43,9 +42,8 @@ records-preserved c =
     let after = first_from (suc row) (drop (suc row) records) in
     let split = first-next records row r c.records-test.true c.index-records-row.is in
     let so_far = c.records.invariant.so_far in
-    let rule : KeepsRules r = record { sequence = c.elements.ensures.rules; itemsets = c.elements.ensures.itemsets } in
-    let rules = each-push KeepsRules (take row records) (get_or records row r) c.records.invariant.rules (subst KeepsRules c.index-records-row.is rule) in
-    let front = subst (AllByRecursion KeepsRules) (sym (take_more records row r c.records-test.true)) rules in
+    let rules = each-push IsSequence (take row records) (get_or records row r) c.records.invariant.rules (subst IsSequence c.index-records-row.is c.elements.ensures.rules) in
+    let front = subst (AllByRecursion IsSequence) (sym (take_more records row r c.records-test.true)) rules in
     record {
       so_far = rw add-one (ap (λ ms. ms ++ after) c.in_ok-push_walk.ensures.marks
           ∙ (λ j. (old ++ walk_marks row 0 (pos 0) (ahead j) [] (seen j)) ++ after)
@@ -59,7 +57,7 @@ returns-clause-marks c =
     let records = c.args.records.now in
     let row = c.records.row in
     let past = c.records-test.false in
-    let rules = subst (AllByRecursion KeepsRules) (take_all row records (omega (arith, past))) c.records.invariant.rules in
+    let rules = subst (AllByRecursion IsSequence) (take_all row records (omega (arith, past))) c.records.invariant.rules in
     let whole = sym (append-nil c.records.marks.items) ∙ ap (λ rs. c.records.marks.items ++ first_from row rs) (sym (drop-past records row past))
     ∙ c.records.invariant.so_far in
     first-sorted records c.records.marks.items c.by_item.new.marks.items rules whole c.records.invariant.fit

@@ -1,6 +1,7 @@
 use Rattle.std.proofs.Common.{◌≡◌, ◌++◌, drop, take}
 use Rattle.std.specs.List.{AllByRecursion}
-use Rattle.hu_chain.specs.Bound.{IsFit, KeepsRules}
+use Rattle.hu_kind.specs.Sequence.{IsSequence}
+use Rattle.hu_chain.specs.Bound.{IsFit}
 use Rattle.hu_span.specs.Mark.{places_of}
 use Rattle.hu_span.proofs.GatherLemmas.{first_from}
 use Rattle.hu_span.proofs.gather.first_marks.Given as goal
@@ -9,5 +10,5 @@ abbrev pub invariant-records : goal.invariant-records
 invariant-records l = record {
   so_far : l.marks.items ++ first_from l.row (drop l.row l.records) ≡ first_from 0 l.records;
   fit : AllByRecursion IsFit (places_of l.marks.items);
-  rules : AllByRecursion KeepsRules (take l.row l.records);
+  rules : AllByRecursion IsSequence (take l.row l.records);
 }

@@ -1,4 +1,4 @@
-use Rattle.std.proofs.Common.{◌≡◌, ◌∙◌, ◌∷◌, ◌++◌, List, take, drop, ℕ, sym, ap, subst, arith}
+use Rattle.std.proofs.Common.{◌∙◌, ◌∷◌, ◌++◌, List, take, drop, sym, ap, subst, arith}
 use Rattle.std.specs.List.{AllByRecursion}
 use Rattle.hu_chain.specs.declared.chain.Growth.TheVariants.{AfterLast}
 use Rattle.hu_chain.specs.Bound.{IsFit}
@@ -6,9 +6,9 @@ use Rattle.hu_chain.specs.Pattern.{last_item}
 use Rattle.hu_chain.specs.Search.{IsPlaceOf}
 use Rattle.hu_span.specs.declared.mark.Mark.{Mark}
 use Rattle.hu_span.specs.Gather.{front_of, later_marks}
-use Rattle.hu_span.specs.Mark.{places_of, record_at}
+use Rattle.hu_span.specs.Mark.{places_of}
 use Rattle.hu_span.proofs.ReachLemmas.{Ends-reached}
-use Rattle.hu_span.proofs.RowsLemmas.{front-within, grown-sorted, no-marks, record_at-any, rows-end, rows-first, rows-fit, rows-next, rows-places, rows-within}
+use Rattle.hu_span.proofs.RowsLemmas.{front-within, grown-sorted, no-marks, record_at-any, rows-end, rows-fit, rows-next, rows-places, rows-within}
 use Rattle.hu_span.proofs.RowsLemmas.{AreRowsLeft}
 use Rattle.hu_span.proofs.gather.marks_after.Goals as goal
 

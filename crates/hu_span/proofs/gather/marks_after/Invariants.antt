@@ -1,4 +1,4 @@
-use Rattle.std.proofs.Common.{◌≡◌, ℕ, List, length}
+use Rattle.std.proofs.Common.{ℕ, List, length}
 use Rattle.hu_chain.specs.Pattern.{last_item}
 use Rattle.hu_span.specs.Child.{ArePlaces}
 use Rattle.hu_span.specs.Growing.{IsReached}

@@ -5,7 +5,7 @@ use Rattle.std.proofs.lemmas.Int.{ints}
 use Rattle.std.proofs.lemmas.Result.{on_ok_weaker}
 use Rattle.hu_kind.specs.Record.{total}
 use Rattle.hu_chain.proofs.lemmas.Cells.{total-above, IsAbove}
-use Rattle.hu_span.specs.Gather.{cells_after, walk_marks, IsWalk}
+use Rattle.hu_span.specs.Gather.{cells_after, walk_marks}
 use Rattle.hu_span.specs.Mark.{places_of}
 use Rattle.hu_span.proofs.NumberLemmas.{kept-z}
 use Rattle.hu_span.proofs.WalkLemmas.{after-above, low-later, walk-later}

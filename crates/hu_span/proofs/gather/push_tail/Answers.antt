@@ -1,10 +1,10 @@
-use Rattle.std.proofs.Common.{◌≡◌, ◌∙◌, ◌+◌, ◌+ℤ◌, ◌-ℤ◌, suc, pos, get_or, to_z, of_z, ap, sym, arith}
+use Rattle.std.proofs.Common.{◌≡◌, ◌∙◌, ◌+◌, ◌+ℤ◌, ◌-ℤ◌, suc, pos, get_or, to_z, of_z, ap, arith}
 use Rattle.std.specs.Int.{w128}
 use Rattle.std.proofs.lemmas.Int.{ints}
 use Rattle.hu_kind.specs.declared.item.Cell.{Cell}
 use Rattle.hu_kind.specs.Record.{total}
 use Rattle.hu_span.specs.Gather.{marks_in}
-use Rattle.hu_span.proofs.NumberLemmas.{fits-z, kept-z}
+use Rattle.hu_span.proofs.NumberLemmas.{kept-z}
 use Rattle.hu_span.proofs.WalkLemmas.{cell-left, fit-in, stays-fit, tail-end, tail-next}
 use Rattle.hu_span.proofs.gather.push_tail.Goals as goal
 

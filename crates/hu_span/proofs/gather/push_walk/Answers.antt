@@ -1,13 +1,15 @@
-use Rattle.std.proofs.Common.{◌≡◌, ◌∙◌, ◌++◌, ◌-ℤ◌, refl, sym, ap, arith, add-one, append_assoc, suc}
+use Rattle.std.proofs.Common.{◌∙◌, ◌++◌, ◌-ℤ◌, refl, sym, ap, arith, add-one, append_assoc, suc}
 use Rattle.std.proofs.lemmas.Int.{ints}
 use Rattle.hu_kind.specs.Record.{total}
 use Rattle.hu_chain.specs.Place.{element_at, totals}
-use Rattle.hu_chain.specs.Search.{best_past, left_past}
 use Rattle.hu_span.specs.Gather.{marks_past, tail_marks}
-use Rattle.hu_span.specs.Mark.{places_of}
 use Rattle.hu_span.proofs.NumberLemmas.{kept-z}
 use Rattle.hu_span.proofs.WalkLemmas.{drop-at, element_at-any, low-at, low-later, marks-next, tail-walk, walk-next}
+use Rattle.hu_chain.proofs.lemmas.Bounds.{elements-few}
 use Rattle.hu_span.proofs.gather.push_walk.Goals as goal
+
+pub overflow_cast-element : goal.overflow_cast-element
+overflow_cast-element c = let few = elements-few c.args.elements.now c.requires.rules in omega arith
 
 pub push_tail-requires : goal.push_tail-requires
 push_tail-requires c =
@@ -34,9 +36,8 @@ elements-preserved c =
     let later = low-later elements c.requires.rules e in
     let best = kept-z walk.best is.best (omega (arith, ints, is.ahead, is.fits, later)) in
     let ahead = kept-z walk.ahead (omega (arith, ints, is.ahead, later)) (omega (arith, ints, is.best, is.fits)) in
-    let number = c.in-Ok.ensures.1 in
-    let nbest = c.past-walk.ensures.best ∙ ap (λ n. best_past n walk.best (places_of walk.left.now)) number in
-    let nleft = c.past-walk.ensures.left ∙ ap (λ n. left_past n (places_of walk.left.now)) number in
+    let nbest = c.past-walk.ensures.best in
+    let nleft = c.past-walk.ensures.left in
     let rest = c.in_ok-ahead.ensures.rest ∙ (λ j. ahead j -ℤ total (cells j)) in
     let all = is.ahead ∙ ap totals (drop-at elements e c.elements-test.true) in
     let more = low-later elements c.requires.rules (suc e) in
@@ -49,7 +50,7 @@ elements-preserved c =
     let here' = tail_marks walk.row e 0 walk.best walk.ahead (element_at elements e) in
     rw add-one (record {
       so_far = ap (λ ms. ms ++ after) c.in_ok-ahead.ensures.marks
-          ∙ (λ j. (old ++ tail_marks walk.row (number j) 0 (best j) (ahead j) (cells j)) ++ after)
+          ∙ (λ j. (old ++ tail_marks walk.row e 0 (best j) (ahead j) (cells j)) ++ after)
           ∙ append_assoc old here' after
           ∙ ap (λ ms. old ++ ms) (sym split) ∙ so_far;
       rules = walk-next elements c.requires.rules e walk next is c.elements-test.true nbest nleft nahead;

@@ -1,11 +1,10 @@
-use Rattle.std.proofs.Common.{rules, ◌≡◌, ◌<◌, ◌≤◌, ◌+◌, ◌-◌, ◌*◌, ◌<ℤ◌, pos, [], ◌∷◌, ◌++◌, length, length-append, get_or, refl, sym, ap, ◌∙◌, subst, arith}
+use Rattle.std.proofs.Common.{rules, ◌≡◌, ◌<◌, ◌+◌, ◌-◌, ◌*◌, ◌<ℤ◌, pos, [], ◌∷◌, length, length-append, get_or, sym, ap, ◌∙◌, subst, arith}
 use Rattle.std.proofs.Common.{inl, inr}
 use Rattle.std.proofs.lemmas.Int.{ints}
 use Rattle.hu_kind.specs.Sequence.{sequence_support}
 use Rattle.hu_collect.specs.State.{floor_in, IsInOrder, Reached, ReachedSome}
 use Rattle.hu_collect.proofs.lemmas.Searching.{stopped}
 use Rattle.hu_chain.specs.declared.chain.Growth.TheVariants.{IntoLast, AfterLast}
-use Rattle.hu_chain.specs.Pattern.{last_item}
 use Rattle.hu_chain.proofs.lemmas.Patterns.{last_item-grown}
 use Rattle.hu_span.specs.declared.child.Child.{Child}
 use Rattle.hu_span.specs.Child.{stepped, ArePlaces, IsChild, IsGathered}

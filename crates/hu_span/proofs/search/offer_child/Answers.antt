@@ -1,8 +1,8 @@
-use Rattle.std.proofs.Common.{◌<ℤ◌, ◌≡◌, ◌∙◌, ◌++◌, ◌∷◌, [], to_z, of_z, SFits, rules, sym, ap, subst, arith}
+use Rattle.std.proofs.Common.{◌<ℤ◌, ◌≡◌, ◌∙◌, ◌∷◌, [], to_z, of_z, SFits, rules, sym, ap, subst, arith}
 use Rattle.std.specs.Int.{w128}
 use Rattle.std.proofs.lemmas.Int.{ints, to_z-of_z}
 use Rattle.hu_kind.specs.declared.entry.Entry.{Entry}
-use Rattle.hu_kind.specs.Sequence.{sequence_key, sequence_support, sequence_utility}
+use Rattle.hu_kind.specs.Sequence.{sequence_key, sequence_utility}
 use Rattle.hu_collect.specs.State.{floor_in, Takes}
 use Rattle.hu_collect.proofs.lemmas.Searching.{offered-low}
 use Rattle.hu_span.specs.Child.{child_entry, stepped}

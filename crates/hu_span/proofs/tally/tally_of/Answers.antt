@@ -1,4 +1,4 @@
-use Rattle.std.proofs.Common.{◌∙◌, ◌+◌, take, get_or, pos, sym, ap, subst, arith}
+use Rattle.std.proofs.Common.{◌∙◌, take, get_or, pos, sym, ap, subst, arith}
 use Rattle.std.proofs.lemmas.Int.{ints}
 use Rattle.std.proofs.lemmas.List.{take_more}
 use Rattle.hu_span.specs.declared.mark.Mark.{Mark}

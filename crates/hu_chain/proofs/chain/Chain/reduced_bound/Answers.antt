@@ -30,7 +30,7 @@ returns-then-occurs-clause-value c pattern can is =
     stored ∙ c.extension_bound.ensures.value ∙ sym value
 
 pub returns-then-occurs-clause-bound : goal.returns-then-occurs-clause-bound
-returns-then-occurs-clause-bound c pattern other rules can is from =
+returns-then-occurs-clause-bound c pattern other can is from =
     let places = c.args.self.now in
     let elements = c.args.seq.now in
     let growth = c.args.growth in
@@ -39,7 +39,7 @@ returns-then-occurs-clause-bound c pattern other rules can is from =
     let value = reduced-seen growth pattern item elements places true can is tested in
     let fits = c.extension_bound.type_inv in
     let stored : to_z w128 (of_z w128 c.extension_bound.result) ≡ c.extension_bound.result = omega (arith, ints) in
-    let holds = reduced-holds growth pattern other item elements rules can from in
+    let holds = reduced-holds growth pattern other item elements c.elements.ensures.rules can from in
     subst (λ bound. IsAtMost (best_utility other elements) bound) (sym (ap (λ ps. reduced_bound ps (grown growth pattern item) elements) is) ∙ value ∙ sym (stored ∙ c.extension_bound.ensures.value)) holds
 
 pub returns-else-occurs-clause-value : goal.returns-else-occurs-clause-value
@@ -53,12 +53,12 @@ returns-else-occurs-clause-value c pattern can is =
     sym value
 
 pub returns-else-occurs-clause-bound : goal.returns-else-occurs-clause-bound
-returns-else-occurs-clause-bound c pattern other rules can is from =
+returns-else-occurs-clause-bound c pattern other can is from =
     let places = c.args.self.now in
     let elements = c.args.seq.now in
     let growth = c.args.growth in
     let item = c.args.item.0 in
     let tested = ap (λ es. occurs growth item es places) (sym c.elements.ensures.value) ∙ ap (occurs growth item c.elements.result.now) (sym (c.deref.ensures.value ∙ c.self.view_is)) ∙ sym c.occurs.ensures ∙ c.if-occurs.false in
     let value = reduced-seen growth pattern item elements places false can is tested in
-    let holds = reduced-holds growth pattern other item elements rules can from in
+    let holds = reduced-holds growth pattern other item elements c.elements.ensures.rules can from in
     subst (λ bound. IsAtMost (best_utility other elements) bound) (sym (ap (λ ps. reduced_bound ps (grown growth pattern item) elements) is) ∙ value) holds

@@ -1,11 +1,8 @@
-use Rattle.std.proofs.Common.{◌∙◌, ap, sym, subst, pos, arith, []}
-use Rattle.std.specs.List.{AllByRecursion}
+use Rattle.std.proofs.Common.{◌∙◌, ap, sym, pos, arith, []}
 use Rattle.std.proofs.lemmas.Int.{ints}
-use Rattle.hu_kind.specs.Record.{IsItemset}
 use Rattle.hu_chain.specs.Place.{totals}
 use Rattle.hu_chain.specs.Search.{walked}
 use Rattle.hu_chain.proofs.Tails.{totals-absolute}
-use Rattle.hu_chain.proofs.Turns.{by_number}
 use Rattle.hu_chain.proofs.lemmas.Growing.{chain_of-start}
 use Rattle.hu_chain.proofs.chain.Chain.start.Goals as goal
 
@@ -16,11 +13,6 @@ places_from-requires-clause-walk c =
     let fits = c.absolute.ensures.fits in
     record { ahead = omega (arith, ints); best = omega (arith, ints); fits = omega (arith, ints); left = tt }
 
-pub returns-clause-value : goal.returns-clause-value
-returns-clause-value c =
+pub returns : goal.returns
+returns c =
     c.in_ok-places.ensures.value ∙ ap (walked c.args.item.0 0 (pos 0) []) c.elements.ensures.value ∙ sym (chain_of-start c.args.item.0 c.args.seq.now)
-
-pub returns-clause-rules : goal.returns-clause-rules
-returns-clause-rules c =
-    let itemsets = by_number IsItemset c.elements.result.now [] (λ k within. c.in_ok-places.ensures.itemsets k (omega arith) within) in
-    record { sequence = c.elements.ensures.rules; itemsets = subst (AllByRecursion IsItemset) c.elements.ensures.value itemsets }

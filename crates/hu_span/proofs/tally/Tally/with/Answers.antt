@@ -2,7 +2,7 @@ use Rattle.std.proofs.Common.{◌≡◌, ◌∙◌, ◌+◌, ◌+ℤ◌, ◌<◌
 use Rattle.std.specs.Int.{int_max, w128}
 use Rattle.std.proofs.lemmas.Int.{ints, clamps, to_z-of_z}
 use Rattle.hu_chain.specs.Bound.{reach}
-use Rattle.hu_span.proofs.NumberLemmas.{fits-z, kept-z}
+use Rattle.hu_span.proofs.NumberLemmas.{kept-z}
 use Rattle.hu_span.proofs.TallyLemmas.{told-next, told-same, IsKept-fits}
 use Rattle.hu_span.proofs.tally.Tally.with.Goals as goal
 use Rattle.hu_span.proofs.tally.Tally.with.Goals.{else-self-gt0-via-then-self-gt0+else-self-mark, else-self-gt0-via-else-self-gt0}
