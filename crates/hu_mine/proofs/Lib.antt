@@ -1,2 +1,3 @@
 mod BatchLemmas
 mod SearchLemmas
+mod SizedLemmas

@@ -1,7 +1,7 @@
 //! The engines.
 
 ghost use Rattle.std.specs.Prelude.{◌≡◌};
-ghost use Rattle.hu_mine.specs.Engine.{offers};
+ghost use Rattle.hu_mine.specs.Engine.{offers, offers_further};
 
 use hu_kind::Task;
 
@@ -30,6 +30,16 @@ impl Engine {
             (Task::Items | Task::Closed, _) => true,
             (Task::Sequences, Engine::Plain | Engine::Chain) => true,
             (Task::Sequences, _) => false,
+        }
+    }
+
+    /// Whether the further tasks offer the engine: itemsets of some lengths, and those of a high average utility.
+    pub fn serves_further(self) -> bool
+        ensures { result ≡ offers_further self }
+    {
+        match self {
+            Engine::Plain | Engine::Lists => true,
+            _ => false,
         }
     }
 }

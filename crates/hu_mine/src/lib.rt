@@ -1,6 +1,6 @@
 //! The choice of an engine: batches of records in, their answer out.
 //!
-//! [`item_entries`], [`closed_entries`] and [`sequence_entries`] mine by the engine that is named. All engines of a task
+//! [`item_entries`], [`sized_entries`], [`closed_entries`] and [`sequence_entries`] mine by the engine that is named. All engines of a task
 //! give the same answer, so that an engine stands in no clause of theirs but that a task has to offer it. The crate stands
 //! on the engines, on the totals, ranks, gates and start floors that they begin with, and on the collectors.
 #![tactic(auto)]
@@ -10,6 +10,8 @@ mod engine;
 mod kept;
 mod mine;
 mod search;
+mod sized;
 
 pub use engine::Engine;
 pub use mine::{closed_entries, item_entries, sequence_entries};
+pub use sized::sized_entries;

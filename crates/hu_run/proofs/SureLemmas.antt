@@ -1,16 +1,16 @@
 -- Where neither a read of a named file nor the writing of the text can fail.
 use Rattle.std.proofs.Common.{◌≡◌, ℕ, ◌≤◌, List, Result, Ok, Err, Option, Some, None, refl, sym, ap, ◌∙◌, inl, inr, arith, subst}
-use Rattle.std.specs.Prelude.{◌≢◌, ◌⊎◌, IsOk, IsErr, IsOkAnd, IfOk, IfSome, ⊤, length}
+use Rattle.std.specs.Prelude.{◌≢◌, ◌⊎◌, IsErr, IsOkAnd, IfOk, IfSome, ⊤}
 use Rattle.std.specs.List.{Contains}
 use Rattle.std.proofs.lemmas.Bool.{cases_order}
 use Rattle.hu_io.specs.Count.{Rose}
 use Rattle.hu_io.specs.State.{Broke}
-use Rattle.hu_io.specs.MemoryFiles.{FilesView, NamedFilesNeverFail}
-use Rattle.hu_io.specs.MemorySink.{SinkView, RoomySinksNeverFail, sink_state}
+use Rattle.hu_io.specs.MemoryFiles.{NamedFilesNeverFail}
+use Rattle.hu_io.specs.MemorySink.{RoomySinksNeverFail}
 use Rattle.hu_run.specs.Job.{Asked, job, names_of}
 use Rattle.hu_run.specs.Ending.{Ending, writes, refuses, lacks, ending, status_of}
 use Rattle.hu_run.specs.Run.{Streams, Runs, Writing}
-use Rattle.hu_run.specs.Laws.{IsSurelyDone, IsDoneInMemory, EndsAsTold, HasRoom, IsUntroubled, sure_streams, memory_streams}
+use Rattle.hu_run.specs.Laws.{IsSurelyDone, IsDoneInMemory, EndsAsTold, HasRoom, sure_streams, memory_streams}
 use Rattle.hu_run.proofs.EndLemmas.{place_is_among}
 
 -- ---- results and options

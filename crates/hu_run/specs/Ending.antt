@@ -6,10 +6,11 @@ use Rattle.hu_kind.specs.declared.task.Task.{Task}
 use Rattle.hu_kind.specs.declared.task.Task.TheVariants.{Items, Closed, Sequences}
 use Rattle.hu_kind.specs.Answer.{item_answer, closed_answer, sequence_answer}
 use Rattle.hu_kind.specs.Record.{absolute_of}
+use Rattle.hu_lengths.specs.Lengths.{sized_answer}
 use Rattle.hu_report.specs.Text.{answer_text}
 use Rattle.hu_input.specs.Formats.{transaction_reading, sequence_reading}
 use Rattle.hu_input.specs.Input.{Refusal, Unread, refused_line, missing_file, input}
-use Rattle.hu_run.specs.Job.{Mining, Asked, mine, drill}
+use Rattle.hu_run.specs.Job.{Mining, Sizing, Asked, mine, size, drill}
 use Rattle.hu_run.specs.Drill.{drill_text}
 
 -- the text that is written, the first line that is refused with the name of its file, or the first file that isn't there
@@ -41,9 +42,15 @@ mining_ending mining contents names = by_task mining.task
     by_task Closed = ending_by (λ records. answer_text Closed (closed_answer records mining.least mining.top)) (transactions contents names)
     by_task Sequences = ending_by (λ records. answer_text Sequences (sequence_answer records mining.least mining.top)) (sequences contents names)
 
+-- the ending of asking for itemsets of some lengths: the text of those of all records of the named files
+abbrev pub sized_ending : Sizing → (List ℕ → Option (List ℕ)) → List (List ℕ) → Ending
+sized_ending s contents names =
+    ending_by (λ records. answer_text Items (sized_answer records s.least s.top s.short s.long)) (transactions contents names)
+
 -- the ending of a job over its files, where their contents are told; a drill has none
 abbrev pub ending : Asked → Option (List ℕ → Option (List ℕ)) → List (List ℕ) → Option Ending
 ending (mine mining) contents names = option_map (λ told. mining_ending mining told names) contents
+ending (size sizing) contents names = option_map (λ told. sized_ending sizing told names) contents
 ending (drill seed) contents names = Some (writes (drill_text seed))
 
 -- the status of a run that comes to an ending

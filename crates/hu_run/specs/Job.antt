@@ -1,5 +1,6 @@
--- The words of the command line as a job: TASK ENGINE MIN TOP FILE [BATCH ..], or drill SEED.
-use Rattle.std.specs.Prelude.{◌≡◌, ⊤, ℕ, ◌≤◌, nat_lt, Bool, true, false, ◌&&◌, ℤ, pos, ◌≤ℤ◌, int_le, unsigned_abs, IfSome, Option, None, Some, Result, Ok, Err, List, [], length, drop, codes, slice_index_or, if◌then◌else◌}
+-- The words of the command line as a job: TASK ENGINE MIN TOP FILE [BATCH ..], sized ENGINE MIN TOP SHORT LONG FILE [BATCH ..],
+-- or drill SEED.
+use Rattle.std.specs.Prelude.{◌≡◌, ⊤, ℕ, ◌≤◌, nat_lt, nat_le, Bool, true, false, ◌&&◌, ℤ, pos, ◌≤ℤ◌, int_le, unsigned_abs, IfSome, Option, None, Some, Result, Ok, Err, List, [], length, drop, codes, slice_index_or, if◌then◌else◌}
 use Rattle.std.specs.Option.{option_and_then, option_map}
 use Rattle.std.specs.Result.{result_ok}
 use Rattle.std.specs.Str.{bytes_eq}
@@ -10,11 +11,11 @@ use Rattle.hu_kind.specs.declared.task.Task.TheVariants.{Items, Closed, Sequence
 use Rattle.hu_kind.specs.Number.{number}
 use Rattle.hu_mine.specs.declared.engine.Engine.{Engine}
 use Rattle.hu_mine.specs.declared.engine.Engine.TheVariants.{Plain, Lists, Project, Kept, Chain}
-use Rattle.hu_mine.specs.Engine.{offers}
+use Rattle.hu_mine.specs.Engine.{offers, offers_further}
 use Rattle.hu_run.specs.declared.words.Job.{Job}
 use Rattle.hu_run.specs.declared.words.Job.TheVariants as words
 use Rattle.hu_run.specs.declared.words.WordFault.{WordFault}
-use Rattle.hu_run.specs.declared.words.WordFault.TheVariants.{TooFewWords, TooManyWords, BadSeed, TaskUnknown, EngineNotOffered, BadMinimum, BadTop, TooManyFiles}
+use Rattle.hu_run.specs.declared.words.WordFault.TheVariants.{TooFewWords, TooManyWords, BadSeed, TaskUnknown, EngineNotOffered, BadMinimum, BadTop, BadLengths, TooManyFiles}
 
 -- the task that a word names
 abbrev pub task_of : List ℕ → Option Task
@@ -71,6 +72,23 @@ top_of word =
 abbrev pub seed_of : List ℕ → Option ℕ
 seed_of word = option_map unsigned_abs (kept_if (λ n. int_le (pos 1) n && int_le n (pos 2147483646)) (result_ok (number word)))
 
+-- the engine that a word names, where a further task offers it
+abbrev pub further_engine : List ℕ → Option Engine
+further_engine word = kept_if offers_further (engine_of word)
+
+-- the length that a word says: a number from 1 to 4,096
+abbrev pub length_of : List ℕ → Option ℕ
+length_of word = option_map unsigned_abs (kept_if (λ n. int_le (pos 1) n && int_le n (pos 4096)) (result_ok (number word)))
+
+-- a least and a greatest length of itemsets
+abbrev pub AreLengths : ℕ → ℕ → Type 0
+AreLengths short long = (1 ≤ short) × (short ≤ long) × (long ≤ 4096)
+
+-- the least and the greatest length that two words say
+abbrev pub lengths_of : List ℕ → List ℕ → Option (ℕ × ℕ)
+lengths_of short_word long_word = option_and_then (λ short. option_and_then (λ long. if nat_le short long then Some (short, long) else None)
+    (length_of long_word)) (length_of short_word)
+
 -- the patterns of a task by an engine: those that earn a least utility, all of them or the first k
 pub record Mining : Type 0 where
   pub task : Task
@@ -78,29 +96,49 @@ pub record Mining : Type 0 where
   pub least : ℤ
   pub top : Option ℕ
 
--- what is asked for: to mine files, or a drill by a seed
+-- the itemsets of some lengths by an engine
+pub record Sizing : Type 0 where
+  pub engine : Engine
+  pub least : ℤ
+  pub top : Option ℕ
+  pub short : ℕ
+  pub long : ℕ
+
+-- what is asked for: to mine files, for all itemsets or for those of some lengths, or a drill by a seed
 pub data Asked : Type 0 where
   mine : Mining → Asked
+  size : Sizing → Asked
   drill : ℕ → Asked
 
 -- mining by these numbers
 abbrev pub mining : Task → Engine → ℤ → Option ℕ → Asked
 mining task engine least top = mine (record { task = task; engine = engine; least = least; top = top })
 
+-- itemsets of some lengths by these numbers
+abbrev pub sizing : Engine → ℤ → Option ℕ → ℕ → ℕ → Asked
+sizing engine least top short long =
+    size (record { engine = engine; least = least; top = top; short = short; long = long })
+
 -- the word at a place
 abbrev pub word_at : List (List ℕ) → ℕ → List ℕ
 word_at words i = slice_index_or words i []
+
+-- an engine, a least utility and a k, which words say from the second on, or their first fault; the engine is read before
+abbrev pub search_of : Option Engine → List (List ℕ) → Result (Engine × ℤ × Option ℕ) WordFault
+search_of named words = do
+  engine ← or_fault named EngineNotOffered
+  least ← or_fault (least_of (word_at words 2)) BadMinimum
+  top ← or_fault (top_of (word_at words 3)) BadTop
+  Ok (engine, least, top)
 
 -- the job of words that name a task, or their first fault. The names of its files are the words after the fourth, at most 64.
 abbrev pub mining_job : List (List ℕ) → Result Asked WordFault
 mining_job words = do
   enough ← refuse_if (nat_lt (length words) 5) TooFewWords
   task ← or_fault (task_of (word_at words 0)) TaskUnknown
-  engine ← or_fault (offered_engine task (word_at words 1)) EngineNotOffered
-  least ← or_fault (least_of (word_at words 2)) BadMinimum
-  top ← or_fault (top_of (word_at words 3)) BadTop
+  search ← search_of (offered_engine task (word_at words 1)) words
   few ← refuse_if (nat_lt 68 (length words)) TooManyFiles
-  Ok (mining task engine least top)
+  Ok (mining task search.0 search.1 search.2)
 
 -- the job of words that begin with `drill`, or their first fault
 abbrev pub drill_job : List (List ℕ) → Result Asked WordFault
@@ -110,13 +148,26 @@ drill_job words = do
   seed ← or_fault (seed_of (word_at words 1)) BadSeed
   Ok (drill seed)
 
+-- the job of words that begin with `sized`, or their first fault. The names of its files are the words after the sixth, at most 64.
+abbrev pub sized_job : List (List ℕ) → Result Asked WordFault
+sized_job words = do
+  enough ← refuse_if (nat_lt (length words) 7) TooFewWords
+  search ← search_of (further_engine (word_at words 1)) words
+  lengths ← or_fault (lengths_of (word_at words 4) (word_at words 5)) BadLengths
+  few ← refuse_if (nat_lt 70 (length words)) TooManyFiles
+  Ok (sizing search.0 search.1 search.2 lengths.0 lengths.1)
+
 -- the job of the words, or their first fault
 abbrev pub job : List (List ℕ) → Result Asked WordFault
-job words = if bytes_eq (word_at words 0) (codes "drill") then drill_job words else mining_job words
+job words =
+    if bytes_eq (word_at words 0) (codes "drill") then drill_job words
+    else if bytes_eq (word_at words 0) (codes "sized") then sized_job words
+    else mining_job words
 
 -- the words that name the files of a job
 abbrev pub names_of : {W : Type 0} → Asked → List W → List W
 names_of (mine m) words = drop 4 words
+names_of (size s) words = drop 6 words
 names_of (drill seed) words = []
 
 -- a seed in its range
@@ -126,19 +177,23 @@ IsSeed seed = (1 ≤ seed) × (seed ≤ 2147483646)
 -- the numbers of a job are in their ranges, and its task offers its engine
 abbrev pub IsLawful : Asked → Type 0
 IsLawful (mine m) = (offers m.task m.engine ≡ true) × (pos 1 ≤ℤ m.least) × IfSome m.top (λ k. 1 ≤ k)
+IsLawful (size s) = (offers_further s.engine ≡ true) × (pos 1 ≤ℤ s.least) × IfSome s.top (λ k. 1 ≤ k) × AreLengths s.short s.long
 IsLawful (drill seed) = IsSeed seed
 
 -- a job that reads no file
 abbrev pub IsDrill : Asked → Type 0
 IsDrill (mine m) = ⊥
+IsDrill (size s) = ⊥
 IsDrill (drill seed) = ⊤
 
 -- what a `Job` asks for
 abbrev pub asked_of : Job → Asked
 asked_of (words.Mine task engine least top names) = mining task engine least top
+asked_of (words.Sized engine least top short long names) = sizing engine least top short long
 asked_of (words.Drill seed) = drill seed
 
 -- the names of its files
 abbrev pub files_of : Job → List (String Global)
 files_of (words.Mine task engine least top names) = names.now
+files_of (words.Sized engine least top short long names) = names.now
 files_of (words.Drill seed) = []

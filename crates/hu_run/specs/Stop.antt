@@ -18,6 +18,7 @@ word_text word.TaskUnknown = codes "unknown task"
 word_text word.EngineNotOffered = codes "engine not offered"
 word_text word.BadMinimum = codes "bad minimum"
 word_text word.BadTop = codes "bad top"
+word_text word.BadLengths = codes "bad lengths"
 word_text word.TooManyFiles = codes "too many files"
 
 -- the line that tells a text

@@ -1,5 +1,5 @@
 -- Worked rows: what words ask for, what jobs come to, and the line of a refusal, by computation.
-use Rattle.std.specs.Prelude.{◌≡◌, ℕ, pos, Option, None, Some, Result, Ok, Err, List, [], ◌∷◌, ◌++◌, codes, length, replicate, refl}
+use Rattle.std.specs.Prelude.{◌≡◌, ℕ, pos, Option, None, Some, Ok, Err, List, [], ◌∷◌, codes, length, replicate, refl}
 use Rattle.std.specs.Fmt.{digits}
 use Rattle.std.specs.Map.{lookup}
 use Rattle.std.specs.Str.{bytes_eq}

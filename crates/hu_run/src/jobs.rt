@@ -7,6 +7,7 @@ ghost use Rattle.hu_run.specs.Attempt.{Answers};
 
 mod drill;
 mod mine;
+mod sized;
 
 use crate::answer::Answer;
 use crate::stop::Stop;
@@ -33,6 +34,14 @@ pub(crate) fn answer<'a, F: Files>(
             top,
             names,
         } => mine::answer(alloc, files, task, engine, least, top, names),
+        Job::Sized {
+            engine,
+            least,
+            top,
+            short,
+            long,
+            names,
+        } => sized::answer(alloc, files, engine, least, top, short, long, names),
         Job::Drill { seed } => Ok(drill::answer(alloc, seed)?),
     }
 }

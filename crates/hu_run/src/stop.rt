@@ -113,6 +113,7 @@ fn word_text(fault: WordFault) -> &'static str
         WordFault::EngineNotOffered => "engine not offered",
         WordFault::BadMinimum => "bad minimum",
         WordFault::BadTop => "bad top",
+        WordFault::BadLengths => "bad lengths",
         WordFault::TooManyFiles => "too many files",
     }
 }

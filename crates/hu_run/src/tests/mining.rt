@@ -118,6 +118,16 @@ const SEQUENCE_RUNS: [(&str, &str, &str); 10] = [
     ("1 all empty comments", "", ""),
 ];
 
+const SIZED_RUNS: [(&str, &str, &str); 3] = [
+    (
+        "30 all 2 3 a",
+        "2 3 5 #UTIL: 37\n2 4 5 #UTIL: 36\n2 3 4 #UTIL: 34\n1 3 5 #UTIL: 31\n2 5 #UTIL: 31\n2 4 #UTIL: 30\n",
+        "",
+    ),
+    ("1 2 1 1 front back", "2 #UTIL: 22\n1 #UTIL: 20\n", ""),
+    ("30 all 6 4096 a", "1 2 3 4 5 6 #UTIL: 30\n", ""),
+];
+
 /// The record has 2^40 - 1 itemsets, and the sequence as many patterns: the plain engines would list them.
 const FORTY_ITEMS_RUN: [(&str, &str, &str); 1] = [(
     "40 all forty",
@@ -151,6 +161,14 @@ fn itemsets(rt: HostRuntime) -> Result<(), Fail> {
     }
     for job in &ITEM_JOBS[1..] {
         each_ends(&rt, rt.alloc(), *job, 0, &FORTY_ITEMS_RUN)?;
+    }
+    Ok(())
+}
+
+#[test]
+fn itemsets_of_some_lengths(rt: HostRuntime) -> Result<(), Fail> {
+    for job in &["sized plain", "sized lists"] {
+        each_ends(&rt, rt.alloc(), *job, 0, &SIZED_RUNS)?;
     }
     Ok(())
 }

@@ -6,7 +6,7 @@ use std::alloc::Global;
 use std::process::Abort;
 use std::test::Fail;
 
-const WORDS: [(&str, &str, &str); 16] = [
+const WORDS: [(&str, &str, &str); 22] = [
     ("", "", "hupm: too few words\n"),
     ("items plain 30 all", "", "hupm: too few words\n"),
     ("drill", "", "hupm: too few words\n"),
@@ -14,6 +14,12 @@ const WORDS: [(&str, &str, &str); 16] = [
     ("drill 0", "", "hupm: bad seed\n"),
     ("drill 2147483647", "", "hupm: bad seed\n"),
     ("drill x", "", "hupm: bad seed\n"),
+    ("sized lists 0 0 0 0", "", "hupm: too few words\n"),
+    ("sized project 0 0 0 0 f", "", "hupm: engine not offered\n"),
+    ("sized plain 0 0 0 0 f", "", "hupm: bad minimum\n"),
+    ("sized plain 1 0 0 0 f", "", "hupm: bad top\n"),
+    ("sized lists 30 all 5 4 f", "", "hupm: bad lengths\n"),
+    ("sized lists 30 all 1 4097 f", "", "hupm: bad lengths\n"),
     ("sets lists 0 0 f", "", "hupm: unknown task\n"),
     ("seq kept 1 all f", "", "hupm: engine not offered\n"),
     ("seq lists 1 all f", "", "hupm: engine not offered\n"),
