@@ -1,3 +1,4 @@
+pub mod lemmas
 mod ReadingLemmas
 mod TokensLemmas
 mod ItemsetLemmas
