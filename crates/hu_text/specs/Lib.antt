@@ -1,0 +1,4 @@
+pub mod Told
+pub mod Records
+pub mod Laws
+pub mod Worked
