@@ -110,7 +110,7 @@ sound-parts told shape items =
     }
 
 -- the cells of a line are those of its body
-cells-body : (told : List Token) → IsShaped told → cells (body told) ≡ cells told
+pub cells-body : (told : List Token) → IsShaped told → cells (body told) ≡ cells told
 cells-body told shape = sym (
     ap cells shape.is
     ∙ filter_map-append pair_in (body told) (ItemsetEnd ∷ SequenceEnd ∷ shape.rest)

@@ -1,4 +1,5 @@
 pub mod Token
 pub mod Reading
 pub mod Itemset
+pub mod Canonical
 pub mod Worked

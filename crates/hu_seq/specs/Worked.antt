@@ -1,7 +1,9 @@
 -- Worked lines, by computation.
-use Rattle.std.specs.Prelude.{◌≡◌, pos, None, Some, Ok, Err, [], ◌∷◌, codes, refl, replicate}
+use Rattle.std.specs.Prelude.{◌≡◌, ℕ, ℤ, List, pos, None, Some, Ok, Err, [], ◌∷◌, codes, refl, replicate}
 use Rattle.hu_seq.specs.declared.fault.SeqFault.TheVariants.{BadToken, NoEnd, AfterEnd, OpenItemset, EmptyItemset, NoItems, TooManyItems, ItemOutOfRange, DuplicateItem, Negative, SumTooLarge, TotalDisagrees}
 use Rattle.hu_seq.specs.declared.token.Token.TheVariants.{Cell}
+use Rattle.std.specs.Fmt.{digits}
+use Rattle.hu_seq.specs.Canonical.{canonical_line}
 use Rattle.hu_seq.specs.Token.{token_of}
 use Rattle.hu_seq.specs.Reading.{reading, too_many_items}
 
@@ -82,3 +84,26 @@ sum_past_the_limit = refl
 pub wrong_total : reading (codes "1[2] -1 -2 SUtility:3") ≡ Err (TotalDisagrees (pos 3) (pos 2))
 unfolding reading token_of
 wrong_total = refl
+
+-- a sequence with its canonical line, which says it again
+abbrev pub of_two : List (List (ℕ × ℤ))
+of_two = ((1, pos 5) ∷ (2, pos 3) ∷ []) ∷ ((4, pos 1) ∷ []) ∷ []
+
+pub canonical_of_two : canonical_line of_two ≡ codes "1[5] 2[3] -1 4[1] -1 -2 SUtility:9"
+unfolding digits
+canonical_of_two = refl
+
+pub canonical_of_two_read : reading (canonical_line of_two) ≡ Ok of_two
+unfolding reading token_of digits
+canonical_of_two_read = refl
+
+-- what breaks a rule isn't said again: an itemset without a cell is refused, and items that
+-- descend are put in order
+pub empty_itemset_not_read : reading (canonical_line ([] ∷ [])) ≡ Err EmptyItemset
+unfolding reading token_of digits
+empty_itemset_not_read = refl
+
+pub descending_put_in_order : reading (canonical_line (((2, pos 3) ∷ (1, pos 5) ∷ []) ∷ [])) ≡
+    Ok (((1, pos 5) ∷ (2, pos 3) ∷ []) ∷ [])
+unfolding reading token_of digits
+descending_put_in_order = refl

@@ -1,5 +1,6 @@
-//! Sequence lines: [`read_sequence`] gives the sequence of a line, or the first fault in the order of [`SeqFault`]. It
-//! stands on the types, tokens and numbers of `hu_kind`.
+//! Sequence lines: [`read_sequence`] gives the sequence of a line, or the first fault in the order of [`SeqFault`], and
+//! [`write_sequence`] gives the one line in which a sequence is written. Both stand on the types, tokens and numbers of
+//! `hu_kind`.
 //!
 //! What the tokens of a line are is defined in `specs/Token.antt`, and what a line says in `specs/Reading.antt`.
 #![tactic(auto)]
@@ -12,6 +13,8 @@ mod read;
 #[cfg(test)]
 mod tests;
 mod token;
+mod write;
 
 pub use fault::SeqFault;
 pub use read::read_sequence;
+pub use write::write_sequence;

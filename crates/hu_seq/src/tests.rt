@@ -1,6 +1,6 @@
-//! Sequence lines and what is read of them.
+//! Sequence lines, what is read of them, and what is written.
 
-use crate::read_sequence;
+use crate::{read_sequence, write_sequence};
 use hu_kind::SeqRecord;
 use std::alloc::Global;
 use std::process::Abort;
@@ -86,6 +86,17 @@ fn edges_of_a_line(rt: HostRuntime) -> Result<(), Fail> {
     Ok(())
 }
 
+#[test]
+fn a_canonical_line(rt: HostRuntime) -> Result<(), Fail> {
+    let one = read_sequence(rt.alloc(), b"2[3]  1[05] -1 4[1] -1 -2")?;
+    let line = write_sequence(rt.alloc(), &one)?;
+    assert_eq!(rt;
+        line.as_slice(),
+        b"1[5] 2[3] -1 4[1] -1 -2 SUtility:9".as_slice()
+    );
+    Ok(())
+}
+
 /// A line of one cell in each itemset.
 fn line_of(alloc: Global, count: usize) -> Result<String, Fail> {
     let mut line = String::new(alloc);
@@ -102,6 +113,8 @@ fn most_cells_of_a_line(rt: HostRuntime) -> Result<(), Fail> {
     assert!(rt; line.len() <= 1_048_576);
     let one = read_sequence(rt.alloc(), line.as_bytes())?;
     assert_eq!(rt; one.elements().len(), 4096);
+    let again = write_sequence(rt.alloc(), &one)?;
+    assert_eq!(rt; again.as_slice(), line.as_bytes());
 
     let line = line_of(rt.alloc(), 4097)?;
     let told = read(&rt, rt.alloc(), line.as_str())?;

@@ -39,14 +39,15 @@ pub tokens-append : (text more : List ℕ) → tokens (text ++ 32 ∷ more) ≡ 
 tokens-append text more =
     ap (filter has_byte) (slice_split-append is_space text 32 more refl) ∙ filter-append has_byte (slice_split is_space text) (slice_split is_space more)
 
-split-word : (b : ℕ) (bs : List ℕ) → Lacks 32 (b ∷ bs) → slice_split is_space (b ∷ bs) ≡ (b ∷ bs) ∷ []
-split-word b [] lacks = rw (lacks.0) refl
-split-word b (c ∷ cs) lacks = rw (lacks.0) (ap (onto_first b) (split-word c cs lacks.1))
+-- where no element passes, the list is the one piece
+pub split-whole : {A : Type 0} (p : A → Bool) (xs : List A) → AllByRecursion (λ x. p x ≡ false) xs → slice_split p xs ≡ xs ∷ []
+split-whole p [] lacks = refl
+split-whole p (x ∷ xs) lacks = rw lacks.0 (ap (onto_first x) (split-whole p xs lacks.1))
 
 -- a word without a space is one token
 pub tokens-word : (word : List ℕ) → 0 < length word → Lacks 32 word → tokens word ≡ word ∷ []
 tokens-word [] some lacks = absurd (omega (arith, some))
-tokens-word (b ∷ bs) some lacks = ap (filter has_byte) (split-word b bs lacks)
+tokens-word (b ∷ bs) some lacks = ap (filter has_byte) (split-whole is_space (b ∷ bs) lacks)
 
 -- a word, and others with a space before each
 pub tokens-spaced : {X : Type 0} (text : X → List ℕ) (word : List ℕ) (xs : List X) → IsWritten word → AllByRecursion (λ x. IsWritten (text x)) xs
