@@ -1,5 +1,5 @@
 -- The text of an answer tells its entries.
-use Rattle.std.proofs.Common.{◌≡◌, ℕ, ◌<◌, ◌==◌, ℤ, pos, unsigned_abs, Bool, true, false, ◌||◌, None, Some, unwrap_or, List, [], ◌∷◌, ◌++◌, map, refl, sym, ap, ◌∙◌, append_assoc, arith, codes, decimal, flat_map}
+use Rattle.std.proofs.Common.{◌≡◌, ℕ, ◌<◌, ◌==◌, ℤ, pos, unsigned_abs, false, None, Some, unwrap_or, List, [], ◌∷◌, ◌++◌, map, refl, sym, ap, ◌∙◌, append_assoc, arith, codes, decimal, flat_map}
 use Rattle.std.specs.Fmt.{signed_decimal}
 use Rattle.std.specs.List.{AllByRecursion, list_any}
 use Rattle.std.proofs.lemmas.Bool.Decides.{nat_tests}
@@ -10,6 +10,7 @@ use Rattle.hu_kind.specs.Token.{tokens}
 use Rattle.hu_kind.proofs.lemmas.Each.{each-append, each-weaker}
 use Rattle.hu_report.specs.Text.{key_text, line_of}
 use Rattle.hu_seq.proofs.lemmas.Cuts.{tokens-append, tokens-word, tokens-spaced}
+use Rattle.hu_seq.proofs.lemmas.Firsts.{none-any}
 use Rattle.hu_seq.proofs.lemmas.Numerals.{Lacks, IsWritten, written-signed_decimal}
 use Rattle.hu_text.specs.Laws.{TextTellsEntries, HaveOneText, OneTextOneKeys, OneTextOneUtilities, OneTextOneAnswer}
 use Rattle.hu_text.specs.Told.{Told, told, words_tell, printed, IsReadable, IsSmall}
@@ -42,14 +43,6 @@ line-body Sequences e = sym (append_assoc (key_text e.key) (earned_part e.utilit
 
 -- ---- they have no line feed and no carriage return
 
-none-cases : (a b : Bool) → (a || b) ≡ false → (a ≡ false) × (b ≡ false)
-none-cases true b h = absurd (let no : true ≡ false = h in cc)
-none-cases false b h = (refl, h)
-
-pub lacks-test : (byte : ℕ) (text : List ℕ) → list_any (λ b. b == byte) text ≡ false → Lacks byte text
-lacks-test byte [] h = tt
-lacks-test byte (b ∷ bs) h = let both = none-cases (b == byte) (list_any (λ c. c == byte) bs) h in (both.0, lacks-test byte bs both.1)
-
 space_other : (byte : ℕ) → byte < 32 → (32 == byte) ≡ false
 space_other byte low = grind (arith, nat_tests)
 
@@ -69,7 +62,7 @@ key-lacks byte (n ∷ ns) low small =
 
 earned-lacks : (byte : ℕ) (utility : ℤ) → byte < 32 → IsSmall utility → list_any (λ b. b == byte) (codes " #UTIL: ") ≡ false → Lacks byte (earned_part utility)
 earned-lacks byte utility low small none =
-    each-append (λ b. (b == byte) ≡ false) (codes " #UTIL: ") (signed_decimal utility) (lacks-test byte (codes " #UTIL: ") none)
+    each-append (λ b. (b == byte) ≡ false) (codes " #UTIL: ") (signed_decimal utility) (none-any (λ b. b == byte) (codes " #UTIL: ") none)
     ((written-signed_decimal utility small).low byte (omega arith))
 
 item-lacks : (byte : ℕ) (e : Entry) → byte < 32 → IsReadable e → list_any (λ b. b == byte) (codes " #UTIL: ") ≡ false → Lacks byte (item_body e)
@@ -82,7 +75,7 @@ closed-lacks : (byte : ℕ) (e : Entry) → byte < 32 → IsReadable e → list_
 closed-lacks byte e low is none other =
     let P = λ (b : ℕ). (b == byte) ≡ false in
     let digits = (written-signed_decimal (pos e.support) is.support).low byte (omega arith) in
-    let support = each-append P (codes " #SUP: ") (decimal e.support) (lacks-test byte (codes " #SUP: ") other) digits in
+    let support = each-append P (codes " #SUP: ") (decimal e.support) (none-any (λ b. b == byte) (codes " #SUP: ") other) digits in
     let held = each-append P (key_text e.key) (codes " #SUP: " ++ decimal e.support) (key-lacks byte e.key low is.key) support in
     each-append P (held_part e) (earned_part e.utility) held (earned-lacks byte e.utility low is.utility none)
 

@@ -1,44 +1,14 @@
 -- What the words of a line tell: numbers, and after a label one number.
-use Rattle.std.proofs.Common.{◌≡◌, ℕ, suc, ◌+◌, ◌<◌, ◌^◌, ◌==◌, ℤ, pos, Bool, true, false, Option, None, Some, slice_get, List, [], ◌∷◌, ◌++◌, map, take, drop, filter_map, refl, ap, ◌∙◌, arith, codes, decimal}
+use Rattle.std.proofs.Common.{◌≡◌, ℕ, ◌<◌, ◌^◌, ◌==◌, ℤ, pos, true, false, Option, None, Some, slice_get, List, [], ◌∷◌, ◌++◌, map, filter_map, refl, ap, ◌∙◌, arith, codes, decimal}
 use Rattle.std.specs.Fmt.{signed_decimal}
-use Rattle.std.specs.List.{AllByRecursion, before_first, after_first, position_or_len}
+use Rattle.std.specs.List.{AllByRecursion, before_first}
 use Rattle.std.specs.Option.{option_and_then}
 use Rattle.std.specs.Result.{result_ok}
 use Rattle.std.specs.Str.{bytes_eq}
 use Rattle.std.proofs.lemmas.Bool.Decides.{nat_tests}
 use Rattle.hu_text.specs.Told.{number_in, is_label, number_after, words_tell, IsSmall}
+use Rattle.hu_seq.proofs.lemmas.Firsts.{before_first-append, after_first-append, after_first-later, after_first-here}
 use Rattle.hu_seq.proofs.lemmas.Numerals.{IsWritten, written-signed_decimal, signed_number-signed_decimal}
-
--- ---- the first that passes a test
-
-first_place : {X : Type 0} (p : X → Bool) (x : X) (xs : List X) → p x ≡ true → position_or_len p (x ∷ xs) ≡ 0
-first_place p x xs h = rw h refl
-
-later_place : {X : Type 0} (p : X → Bool) (x : X) (xs : List X) → p x ≡ false → position_or_len p (x ∷ xs) ≡ suc (position_or_len p xs)
-later_place p x xs h = rw h (omega arith)
-
-before_first-later : {X : Type 0} (p : X → Bool) (x : X) (xs : List X) → p x ≡ false → before_first p (x ∷ xs) ≡ x ∷ before_first p xs
-before_first-later p x xs h = ap (λ k. take k (x ∷ xs)) (later_place p x xs h)
-
-after_first-later : {X : Type 0} (p : X → Bool) (x : X) (xs : List X) → p x ≡ false → after_first p (x ∷ xs) ≡ after_first p xs
-after_first-later p x xs h =
-    let next : position_or_len p (x ∷ xs) + 1 ≡ suc (position_or_len p xs + 1) = omega (arith, later_place p x xs h) in
-    ap (λ k. drop k (x ∷ xs)) next
-
-after_first-here : {X : Type 0} (p : X → Bool) (x : X) (xs : List X) → p x ≡ true → after_first p (x ∷ xs) ≡ xs
-after_first-here p x xs h =
-    let next : position_or_len p (x ∷ xs) + 1 ≡ 1 = omega (arith, first_place p x xs h) in
-    ap (λ k. drop k (x ∷ xs)) next
-
-pub before_first-append : {X : Type 0} (p : X → Bool) (xs : List X) (y : X) (ys : List X) → AllByRecursion (λ x. p x ≡ false) xs → p y ≡ true
-    → before_first p (xs ++ y ∷ ys) ≡ xs
-before_first-append p [] y ys all h = ap (λ k. take k (y ∷ ys)) (first_place p y ys h)
-before_first-append p (x ∷ xs) y ys all h =
-    before_first-later p x (xs ++ y ∷ ys) all.0 ∙ ap (λ more. x ∷ more) (before_first-append p xs y ys all.1 h)
-
-pub after_first-append : {X : Type 0} (p : X → Bool) (xs ys : List X) → AllByRecursion (λ x. p x ≡ false) xs → after_first p (xs ++ ys) ≡ after_first p ys
-after_first-append p [] ys all = refl
-after_first-append p (x ∷ xs) ys all = after_first-later p x (xs ++ ys) all.0 ∙ after_first-append p xs ys all.1
 
 -- ---- numbers are no labels, and are read
 
