@@ -1,3 +1,4 @@
+pub mod lemmas
 mod CellLemmas
 mod CanonicalLemmas
 mod JudgedLemmas
