@@ -3,3 +3,5 @@ pub mod Lines
 pub mod Words
 pub mod Texts
 pub mod Entries
+pub mod Inputs
+pub mod RecordTexts

@@ -5,7 +5,8 @@ use Rattle.hu_kind.specs.Record.{absolute_of, IsRecord}
 use Rattle.hu_kind.specs.Sequence.{IsSequence}
 
 -- records of one kind with their rule and their absolute sums
-pub record AreOfRun {R : Type 0} (IsLawful : R → Type 0) (absolute : R → ℕ) (records : List R) : Type 0 where
+pub record AreOfRun {R : Type 0} (IsLawful : R → Type 0) (absolute : R → ℕ)
+    (records : List R) : Type 0 where
   pub lawful : AllByRecursion IsLawful records
   pub sum_fits : sum_by absolute records < 2 ^ 127
 

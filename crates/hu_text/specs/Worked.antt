@@ -15,12 +15,17 @@ pub item_line_told : told (codes "2 3 5 #UTIL: 37\n") ≡
 item_line_told = refl
 
 pub closed_line_told : told (codes "2 3 5 #SUP: 3 #UTIL: 37\n") ≡
-    record { key = pos 2 ∷ pos 3 ∷ pos 5 ∷ []; support = Some (pos 3); utility = Some (pos 37) } ∷ []
+    record { key = pos 2 ∷ pos 3 ∷ pos 5 ∷ []; support = Some (pos 3); utility = Some (pos 37) }
+    ∷ []
 closed_line_told = refl
 
 -- two lines of `seq`
 pub sequence_lines_told : told (codes "1 -1 2 -1 #UTIL: 8\n" ++ codes "1 2 -1 #UTIL: 7\n") ≡
-    record { key = pos 1 ∷ negsuc 0 ∷ pos 2 ∷ negsuc 0 ∷ []; support = None; utility = Some (pos 8) }
+    record {
+      key = pos 1 ∷ negsuc 0 ∷ pos 2 ∷ negsuc 0 ∷ [];
+      support = None;
+      utility = Some (pos 8);
+    }
     ∷ record { key = pos 1 ∷ pos 2 ∷ negsuc 0 ∷ []; support = None; utility = Some (pos 7) }
     ∷ []
 sequence_lines_told = refl

@@ -2,7 +2,9 @@
 
 ghost use Rattle.hu_text.specs.Laws.{OneTextOneKeys};
 
-use crate::{law_of_answer_texts, law_of_readable_answers};
+use crate::{
+    law_of_answer_texts, law_of_readable_answers, law_of_record_texts, law_of_sequence_texts,
+};
 use std::rt::HostRuntime;
 
 /// A call of a law is all that its caller's proof needs.
@@ -16,4 +18,6 @@ fn keys_are_told()
 fn laws(_rt: HostRuntime) {
     keys_are_told();
     law_of_readable_answers();
+    law_of_record_texts();
+    law_of_sequence_texts();
 }
