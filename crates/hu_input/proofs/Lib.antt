@@ -5,3 +5,4 @@ mod FrontLemmas
 mod FileLemmas
 mod WholeLemmas
 mod NamesLemmas
+mod ContentLemmas

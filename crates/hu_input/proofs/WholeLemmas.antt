@@ -24,7 +24,7 @@ with_front-nil (Err e) = refl
 abbrev pub IfThere : FilesState → List ℕ → (List ℕ → Type 0) → Type 0
 IfThere files name IsSo = IfSome files.contents (λ told. IfSome (told name) IsSo)
 
-there_by : (contents : Option (List ℕ → Option (List ℕ))) (name : List ℕ) (P : List ℕ → Type 0) → ((content : List ℕ) → P content) → IfSome contents (λ told. IfSome (told name) P)
+pub there_by : (contents : Option (List ℕ → Option (List ℕ))) (name : List ℕ) (P : List ℕ → Type 0) → ((content : List ℕ) → P content) → IfSome contents (λ told. IfSome (told name) P)
 there_by None name P always = tt
 there_by (Some told) name P always = content_by (told name)
   where
@@ -32,7 +32,7 @@ there_by (Some told) name P always = content_by (told name)
     content_by None = tt
     content_by (Some content) = always content
 
-both_by : (contents : Option (List ℕ → Option (List ℕ))) (name : List ℕ) (P Q S : List ℕ → Type 0) → ((content : List ℕ) → P content → Q content → S content)
+pub both_by : (contents : Option (List ℕ → Option (List ℕ))) (name : List ℕ) (P Q S : List ℕ → Type 0) → ((content : List ℕ) → P content → Q content → S content)
     → IfSome contents (λ told. IfSome (told name) P) → IfSome contents (λ told. IsSomeAnd (told name) Q) → IfSome contents (λ told. IsSomeAnd (told name) S)
 both_by None name P Q S so first second = tt
 both_by (Some told) name P Q S so first second = content_by (told name) first second
@@ -41,7 +41,7 @@ both_by (Some told) name P Q S so first second = content_by (told name) first se
     content_by None p q = absurd q
     content_by (Some content) p q = so content p q
 
-weaker_by : (contents : Option (List ℕ → Option (List ℕ))) (name : List ℕ) (P : List ℕ → Type 0) → IfSome contents (λ told. IsSomeAnd (told name) P) → IfSome contents (λ told. IfSome (told name) P)
+pub weaker_by : (contents : Option (List ℕ → Option (List ℕ))) (name : List ℕ) (P : List ℕ → Type 0) → IfSome contents (λ told. IsSomeAnd (told name) P) → IfSome contents (λ told. IfSome (told name) P)
 weaker_by None name P known = tt
 weaker_by (Some told) name P known = content_by (told name) known
   where

@@ -6,4 +6,5 @@ pub mod Names
 pub mod View
 pub mod Intake
 pub mod Reading
+pub mod Content
 pub mod Worked

@@ -10,7 +10,7 @@ use crate::reason::Reason;
 use hu_base::Base;
 use hu_io::Files;
 use hu_kind::NoMemory;
-use std::alloc::{AllocFailed, Global};
+use std::alloc::{AllocError, AllocFailed, Global};
 
 /// How many bytes are read at once.
 const BUFFER: usize = 65_536;
@@ -54,7 +54,7 @@ pub fn read_files<'a, T: Format, F: Files>(
 }
 
 /// The buffer into which files are read.
-fn new_buffer(alloc: Global) -> Result<Vec<u8>, NoMemory>
+pub(crate) fn new_buffer(alloc: Global) -> Result<Vec<u8>, NoMemory>
     ensures { IfOk result (λ buffer. 0 < vec_len buffer) }
 {
     Ok(vec![in alloc; 0u8; BUFFER]?)
@@ -67,6 +67,17 @@ impl From<NoMemory> for InputStop<'_> {
     ghost from_gives = { λ _ e. e ≡ stop.NoMemory };
 
     fn from(_fault: NoMemory) -> Self {
+        InputStop::NoMemory
+    }
+}
+
+impl From<AllocError> for InputStop<'_> {
+    ghost use Rattle.std.specs.Prelude.{◌≡◌};
+    ghost use Rattle.hu_input.specs.declared.input.InputStop.TheVariants as stop;
+
+    ghost from_gives = { λ _ e. e ≡ stop.NoMemory };
+
+    fn from(_error: AllocError) -> Self {
         InputStop::NoMemory
     }
 }

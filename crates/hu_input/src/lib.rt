@@ -6,6 +6,7 @@
 //! contents, in `specs/Input.antt`. [`Part`] and [`tell`] put a line on an error stream part by part.
 #![tactic(auto)]
 
+mod content;
 mod format;
 mod input;
 mod intake;
@@ -14,6 +15,7 @@ mod reason;
 #[cfg(test)]
 mod tests;
 
+pub use content::read_content;
 pub use format::{Format, Sequences, Transactions};
 pub use input::{InputStop, read_files};
 pub use part::{Part, tell};
