@@ -12,7 +12,6 @@ use Rattle.std.proofs.lemmas.Cmp.{back_total, int_cmp_total}
 use Rattle.std.proofs.lemmas.Int.{ints, by_lt_z}
 use Rattle.std.proofs.lemmas.List.{map-append, take_more}
 use Rattle.std.proofs.lemmas.List.Sorted.{ranks_by, sorted_far, Contains-permutation, IsPermutation-sym}
-use Rattle.hu_kind.specs.declared.entry.Entry.{Entry}
 use Rattle.hu_kind.specs.declared.item.Item.{Item}
 use Rattle.hu_kind.specs.Sequence.{best_utility, better, sequence_support, sequence_utility}
 use Rattle.hu_kind.proofs.lemmas.Members.{Member, Contains-from_member, Member-append_left, Member-append_right, Member-filter, Member-from_contains}
@@ -24,24 +23,23 @@ use Rattle.hu_chain.specs.declared.chain.Growth.{Growth}
 use Rattle.hu_chain.specs.declared.chain.Growth.TheVariants.{IntoLast, AfterLast}
 use Rattle.hu_chain.specs.declared.place.Place.{Place}
 use Rattle.hu_chain.specs.Bound.{best_of, IsFit}
-use Rattle.hu_chain.specs.Grown.{grown}
+use Rattle.hu_chain.specs.Grown.{grown, IsGrownFrom}
 use Rattle.hu_chain.specs.Pattern.{last_item, Ends}
 use Rattle.hu_chain.specs.Place.{chain_of}
 use Rattle.hu_chain.specs.Search.{IsPlaceOf}
 use Rattle.hu_chain.proofs.lemmas.Gathered.{best_of-chain}
 use Rattle.hu_chain.proofs.lemmas.Growing.{chain_of-rules}
-use Rattle.hu_chain.proofs.lemmas.Bounds.{grown-first}
 use Rattle.hu_chain.proofs.lemmas.Patterns.{last_item-grown, Ends-grown}
 use Rattle.hu_span.specs.declared.child.Child.{Child}
 use Rattle.hu_span.specs.declared.mark.Mark.{Mark}
 use Rattle.hu_span.specs.declared.step.Step.{Step}
 use Rattle.hu_span.specs.Child.{stepped, AreChildren, AreChildrenBy, ArePlaces, Fall, HasStep, IsChild, IsGathered, IsStep}
 use Rattle.hu_span.specs.Gather.{IsGrowth, MayTake}
-use Rattle.hu_span.specs.Growing.{GrowsOn, IsReached, Records}
+use Rattle.hu_span.specs.Growing.{IsReached, Records}
 use Rattle.hu_span.specs.Mark.{is_of, mark_at, marks_from, marks_of, marks_with, places_of, record_at, IsMark}
 use Rattle.hu_span.specs.Tally.{bests_of, count_of, none_told, reaches_of, told}
 use Rattle.hu_span.proofs.MarkLemmas.{each-filter}
-use Rattle.hu_span.proofs.ReachLemmas.{can-reached, grown-reached}
+use Rattle.hu_span.proofs.ReachLemmas.{grown-reached}
 use Rattle.hu_span.proofs.TallyLemmas.{bounds-fit, bounds-hold, support-cons, told-all, IsSum}
 
 -- ---- best bound first
@@ -193,15 +191,16 @@ occurs-marks pattern item row (r ∷ rs) ends some = by (occurs-marks pattern it
 -- ---- a child
 
 -- what is true of a child, by its parts
-record IsWhole (records : Records) (pattern : List (List ℕ)) (step : Step) (marks : List Mark) (u : ℤ) (n : ℕ) (b : ℤ) : Type 0 where
+record IsWhole (records : Records) (keep : ℕ → Bool) (pattern : List (List ℕ)) (step : Step) (marks : List Mark) (u : ℤ) (n : ℕ) (b : ℤ) : Type 0 where
   pub may : MayTake step.growth pattern step.item.0
+  pub kept : keep step.item.0 ≡ true
   pub places : ArePlaces records (stepped pattern step) step.item.0 marks
   pub occurs : 0 < sequence_support records (stepped pattern step)
   pub utility : u ≡ sequence_utility records (stepped pattern step)
   pub support : n ≡ sequence_support records (stepped pattern step)
-  pub bound : (entry : Entry) → GrowsOn records (stepped pattern step) entry → entry.utility ≤ℤ b
+  pub bound : (other : List (List ℕ)) → IsGrownFrom (stepped pattern step) other → sequence_utility records other ≤ℤ b
 
-module _ (records : Records) (pattern : List (List ℕ)) (step : Step) (marks : List Mark) (from : IsStep records pattern step marks) where
+module _ (records : Records) (keep : ℕ → Bool) (pattern : List (List ℕ)) (step : Step) (marks : List Mark) (from : IsStep records keep pattern step marks) where
   reached : IsReached (stepped pattern step)
   reached = grown-reached step.growth pattern step.item.0 from.begun from.may
 
@@ -227,7 +226,7 @@ module _ (records : Records) (pattern : List (List ℕ)) (step : Step) (marks : 
       omega (arith, ints, sum, most, fit)
 
   pub step-child : (child : Child) → child.step ≡ step → child.marks.now ≡ marks → child.utility ≡ bests_of (told marks) → child.support ≡ (told marks).rows
-      → child.bound ≡ reaches_of (told marks) → IsChild records pattern child
+      → child.bound ≡ reaches_of (told marks) → IsChild records keep pattern child
   step-child child step_is marks_is utility support bound =
       let sum = sums in
       let rows = sum.rows in
@@ -237,23 +236,20 @@ module _ (records : Records) (pattern : List (List ℕ)) (step : Step) (marks : 
       let some = from.some in
       let ends = Ends-grown step.growth pattern step.item.0 in
       let held = marks-occur (stepped pattern step) step.item.0 0 records ends (subst (λ ms. 0 < length ms) from.places.is some) in
-      let P : Step → Type 0 = λ s. IsWhole records pattern s child.marks.now child.utility child.support child.bound in
+      let P : Step → Type 0 = λ s. IsWhole records keep pattern s child.marks.now child.utility child.support child.bound in
       let whole : P step = record {
         may = may;
+        kept = from.kept;
         places = subst (ArePlaces records (stepped pattern step) step.item.0) (sym marks_is) from.places;
         occurs = held;
         utility = omega (arith, ints, utility, bests);
         support = omega (arith, support, rows);
-        bound = λ e on.
-            let g = on.grows in
-            let can = can-reached on.growth (stepped pattern step) on.item reached on.may in
-            let high = bounds-hold (stepped pattern step) g.other step.item.0 0 records from.are.rules ends
-            (grown-first on.growth (stepped pattern step) g.other on.item can g.from) fits in
-            let is = ap (λ (x : Entry). x.utility) g.is in
-            omega (arith, ints, high, is, bound, reaches);
+        bound = λ other grows.
+            let high = bounds-hold (stepped pattern step) other step.item.0 0 records from.are.rules ends grows fits in
+            omega (arith, ints, high, bound, reaches);
       } in
       let w : P child.step = subst P (sym step_is) whole in
-      record { may = w.may; places = w.places; occurs = w.occurs; utility = w.utility; support = w.support; bound = w.bound }
+      record { may = w.may; kept = w.kept; places = w.places; occurs = w.occurs; utility = w.utility; support = w.support; bound = w.bound }
 
 -- ---- all children of a kind of growth
 
@@ -261,25 +257,27 @@ module _ (records : Records) (pattern : List (List ℕ)) (step : Step) (marks : 
 abbrev pub steps_by : Growth → List Item → List Step
 steps_by growth items = map (λ item. record { growth = growth; item = item }) items
 
-module _ (records : Records) (pattern : List (List ℕ)) (growth : Growth) (marks : List Mark) (from : IsGathered records pattern growth marks) where
+module _ (records : Records) (keep : ℕ → Bool) (pattern : List (List ℕ)) (growth : Growth) (marks : List Mark) (from : IsGathered records keep pattern growth marks) where
   -- an item of the marks makes a child
   pub step-gathered : (item : Item) → Member item (map (λ mark. mark.item) marks) → (run : List Mark) → run ≡ marks_with item.0 marks
-      → IsStep records pattern (record { growth = growth; item = item }) run
+      → IsStep records keep pattern (record { growth = growth; item = item }) run
   step-gathered item m run is =
       let on = Member-from_map (λ (mark : Mark). mark.item) item marks m in
       let mark = on.0 in
       let grows = from.grown in
-      let here = at_member (IsGrowth growth pattern) mark marks grows.each on.1 in
+      let here = at_member (IsGrowth keep growth pattern) mark marks grows.each on.1 in
       let may : MayTake growth pattern item.0 = subst (λ (i : Item). MayTake growth pattern i.0) on.2 here.may in
-      let places = is ∙ grows.places item.0 may in
+      let kept : keep item.0 ≡ true = subst (λ (i : Item). keep i.0 ≡ true) on.2 here.kept in
+      let places = is ∙ grows.places item.0 kept may in
       let among = Member-filter (is_of item.0) mark marks on.1 (eq-eqb item.0 mark.item.0 (sym (ap (λ (i : Item). i.0) on.2))) in
       let reached = grown-reached growth pattern item.0 from.begun may in
       let fit = subst (λ ms. AllByRecursion IsFit (places_of ms)) (sym is ∙ places) (fit-each (marks_with item.0 marks)
-      (each-filter (IsGrowth growth pattern) (is_of item.0) marks grows.each)) in
+      (each-filter (IsGrowth keep growth pattern) (is_of item.0) marks grows.each)) in
       record {
         are = from.are;
         begun = from.begun;
         may = may;
+        kept = kept;
         some = subst (λ ms. 0 < length ms) (sym is) (some (marks_with item.0 marks) mark among);
         places = record {
           is = places;
@@ -292,18 +290,18 @@ module _ (records : Records) (pattern : List (List ℕ)) (growth : Growth) (mark
       some [] mark m = absurd m
       some (x ∷ ms) mark m = omega arith
 
-      fit-each : (ms : List Mark) → AllByRecursion (IsGrowth growth pattern) ms → AllByRecursion IsFit (places_of ms)
+      fit-each : (ms : List Mark) → AllByRecursion (IsGrowth keep growth pattern) ms → AllByRecursion IsFit (places_of ms)
       fit-each [] all = tt
       fit-each (m ∷ ms) all = let first = all.0 in (first.fit, fit-each ms all.1)
 
   -- and each step by which the pattern occurs is made
   pub all-gathered : (items : List Item) (children : List Child) → SameMembers (map (λ mark. mark.item) marks) items
       → map (λ child. child.step) children ≡ steps_by growth items
-      → (item : ℕ) → MayTake growth pattern item → 0 < sequence_support records (grown growth pattern item) → HasStep children growth item
-  all-gathered items children same steps item may held =
+      → (item : ℕ) → keep item ≡ true → MayTake growth pattern item → 0 < sequence_support records (grown growth pattern item) → HasStep children growth item
+  all-gathered items children same steps item kept_item may held =
       let grows = from.grown in
       let some = occurs-marks (grown growth pattern item) item 0 records (Ends-grown growth pattern item) held in
-      let mark = first (marks_with item marks) (subst (λ ms. 0 < length ms) (sym (grows.places item may)) some) in
+      let mark = first (marks_with item marks) (subst (λ ms. 0 < length ms) (sym (grows.places item kept_item may)) some) in
       let kept = Member-from_filter (is_of item) mark.0 marks mark.1 in
       let item_is : item ≡ mark.0.item.0 = eqb-true item mark.0.item.0 kept.1 in
       let among = (same mark.0.item).0 (Contains-from_member mark.0.item (map (λ (m : Mark). m.item) marks)
@@ -321,21 +319,21 @@ module _ (records : Records) (pattern : List (List ℕ)) (growth : Growth) (mark
       first (m ∷ ms) some = (m, inl refl)
 
 -- children of both kinds of growth
-pub children-both : (records : Records) (pattern : List (List ℕ)) (first later : List Child) → AreChildrenBy records pattern IntoLast first
-    → AreChildrenBy records pattern AfterLast later
-    → AreChildren records pattern (first ++ later)
-children-both records pattern first later into after = record { each = each-append (IsChild records pattern) first later into.each after.each; all = all }
+pub children-both : (records : Records) (keep : ℕ → Bool) (pattern : List (List ℕ)) (first later : List Child) → AreChildrenBy records keep pattern IntoLast first
+    → AreChildrenBy records keep pattern AfterLast later
+    → AreChildren records keep pattern (first ++ later)
+children-both records keep pattern first later into after = record { each = each-append (IsChild records keep pattern) first later into.each after.each; all = all }
   where
-    all : (growth : Growth) (item : ℕ) → MayTake growth pattern item → 0 < sequence_support records (grown growth pattern item)
+    all : (growth : Growth) (item : ℕ) → keep item ≡ true → MayTake growth pattern item → 0 < sequence_support records (grown growth pattern item)
         → HasStep (first ++ later) growth item
-    all IntoLast item may held = let has = into.all item may held in (
+    all IntoLast item kept may held = let has = into.all item kept may held in (
       has.0,
       Contains-from_member has.0 (first ++ later)
           (Member-append_left has.0 first later (Member-from_contains has.0 first has.1)),
       has.2,
       has.3,
     )
-    all AfterLast item may held = let has = after.all item may held in (
+    all AfterLast item kept may held = let has = after.all item kept may held in (
       has.0,
       Contains-from_member has.0 (first ++ later)
           (Member-append_right has.0 first later (Member-from_contains has.0 later has.1)),

@@ -1,7 +1,7 @@
 -- Marks in the order of their items: those of an item stand side by side.
 use Rattle.std.proofs.Common.{◌≡◌, pos, ℕ, zero, suc, ◌<◌, ◌≤◌, ◌-◌, ◌&&◌, Bool, true, false, not, cond, eqb, ltb, nat_eq, List, [], ◌∷◌, ◌++◌, filter}
 use Rattle.std.proofs.Common.{length, get_or, take, drop, refl, sym, ap, ◌∙◌, subst, arith, Contains, IsPermutation}
-use Rattle.std.specs.List.{AllByRecursion}
+use Rattle.std.specs.List.{flat_map, AllByRecursion}
 use Rattle.std.specs.List.Retain.{IsFiltered, DiffersFromLast}
 use Rattle.std.specs.List.Sorted.{IsNonDecreasingBy, IsPartitionedBy, IsPartitionPoint, IsStableByKey}
 use Rattle.std.specs.declared.cmp.Ordering.TheVariants.{Less, Equal, Greater}
@@ -17,6 +17,7 @@ use Rattle.hu_kind.proofs.lemmas.Occurring.{at_member, by_members}
 use Rattle.hu_collect.specs.Laws.{SameMembers}
 use Rattle.hu_chain.specs.declared.place.Place.{Place}
 use Rattle.hu_span.specs.declared.mark.Mark.{Mark}
+use Rattle.hu_span.specs.Kept.{takes}
 use Rattle.hu_span.specs.Mark.{is_of, marks_with}
 
 -- what holds of each holds of each in another order
@@ -41,6 +42,33 @@ filter-append p (x ∷ xs) ys = by (p x) (filter-append p xs ys)
         → cond b (x ∷ filter p (xs ++ ys)) (filter p (xs ++ ys)) ≡ cond b (x ∷ filter p xs) (filter p xs) ++ filter p ys
     by true e = ap (λ zs. x ∷ zs) e
     by false e = e
+
+-- ---- marks of kept items
+
+module _ (keep : ℕ → Bool) where
+  pub taken-flat_map : {A : Type 0} (f : A → List Mark) (xs : List A) → flat_map (λ x. filter (takes keep) (f x)) xs ≡ filter (takes keep) (flat_map f xs)
+  taken-flat_map f [] = refl
+  taken-flat_map f (x ∷ xs) = ap (λ ms. filter (takes keep) (f x) ++ ms) (taken-flat_map f xs) ∙ sym (filter-append (takes keep) (f x) (flat_map f xs))
+
+  pub taken-kept : (marks : List Mark) → AllByRecursion (λ mark. keep mark.item.0 ≡ true) (filter (takes keep) marks)
+  taken-kept [] = tt
+  taken-kept (mark ∷ marks) = by (keep mark.item.0) refl (taken-kept marks)
+    where
+      by : (b : Bool) → keep mark.item.0 ≡ b → AllByRecursion (λ m. keep m.item.0 ≡ true) (filter (takes keep) marks)
+          → AllByRecursion (λ m. keep m.item.0 ≡ true) (cond b (mark ∷ filter (takes keep) marks) (filter (takes keep) marks))
+      by true e rest = (e, rest)
+      by false e rest = rest
+
+  -- those of a kept item are all of the item's
+  pub taken-with : (item : ℕ) (marks : List Mark) → keep item ≡ true → marks_with item (filter (takes keep) marks) ≡ marks_with item marks
+  taken-with item [] kept = refl
+  taken-with item (mark ∷ marks) kept = by (keep mark.item.0) refl (eqb item mark.item.0) refl (taken-with item marks kept)
+    where
+      by : (k : Bool) → keep mark.item.0 ≡ k → (b : Bool) → eqb item mark.item.0 ≡ b → marks_with item (filter (takes keep) marks) ≡ marks_with item marks
+          → marks_with item (cond k (mark ∷ filter (takes keep) marks) (filter (takes keep) marks)) ≡ cond b (mark ∷ marks_with item marks) (marks_with item marks)
+      by true e b i rest = (λ j. cond (i j) (mark ∷ rest j) (rest j))
+      by false e true i rest = let bad : true ≡ false = sym kept ∙ ap keep (eqb-true item mark.item.0 i) ∙ e in cc
+      by false e false i rest = rest
 
 -- ---- a stable sort by the items
 

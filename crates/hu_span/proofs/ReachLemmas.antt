@@ -1,6 +1,6 @@
 -- The patterns that a search reaches: their itemsets ascend, they are no longer than the records in which they occur, and
 -- they are all patterns of the records.
-use Rattle.std.proofs.Common.{◌≡◌, ℕ, ◌<◌, ◌≤◌, ℤ, is_some, List, [], ◌∷◌, ◌++◌, length, refl, sym, ap, ◌∙◌, true, false, Option, None, Some, subst, inl, inr}
+use Rattle.std.proofs.Common.{◌≡◌, Bool, ℕ, ◌<◌, ◌≤◌, ℤ, is_some, List, [], ◌∷◌, ◌++◌, length, refl, sym, ap, ◌∙◌, true, false, Option, None, Some, subst, inl, inr}
 use Rattle.std.proofs.Common.{arith, length-append, Contains, ◌↔◌}
 use Rattle.std.specs.List.{AllByRecursion}
 use Rattle.hu_kind.specs.declared.entry.Entry.{Entry}
@@ -23,6 +23,7 @@ use Rattle.hu_span.specs.Gather.{MayTake}
 use Rattle.hu_span.specs.Growing.{AreRecords, GrowsOn, IsBegun, IsReached, Records}
 use Rattle.hu_span.specs.Step.{pattern_of}
 use Rattle.hu_span.proofs.StepLemmas.{size-pattern_of}
+use Rattle.hu_span.proofs.WeighedLemmas.{all-kept}
 use Rattle.hu_span.proofs.Subsequences.{occurs-sub, pattern_entry-from, pattern_entry-member, size-sub, AreAscending, IsSomeAscending}
 
 -- ---- itemsets ascend
@@ -116,8 +117,8 @@ module _ (records : Records) (are : AreRecords records) where
   all-ascending : AllByRecursion AreAscending records
   all-ascending = each-weaker IsSequence AreAscending records ascending-rules are.rules
 
-  grows-pattern : (e : Entry) → GrowsOn records [] e → Contains (sequence_patterns records) e
-  grows-pattern e on =
+  grows-pattern : (keep : ℕ → Bool) → (e : Entry) → GrowsOn records keep [] e → Contains (sequence_patterns records) e
+  grows-pattern keep e on =
       let g = on.grows in
       let from : IsReached g.other = joined on.growth on.item on.may g.other g.from in
       let ends = Ends-reached g.other from in
@@ -139,23 +140,24 @@ module _ (records : Records) (are : AreRecords records) where
       some [] ends = absurd (omega (arith, ends.some))
       some (x ∷ p) ends = omega arith
 
-  pattern-grows : (e : Entry) → Contains (sequence_patterns records) e → GrowsOn records [] e
-  pattern-grows e c =
+  pattern-grows : (keep : ℕ → Bool) → ((item : ℕ) → keep item ≡ true) → (e : Entry) → Contains (sequence_patterns records) e
+      → GrowsOn records keep [] e
+  pattern-grows keep every e c =
       let p = pattern_entry-from records all-ascending e (Member-from_contains e (sequence_patterns records) c) in
       by p.pattern p.some p.itemsets p.occurs p.is
     where
       by : (pattern : List (List ℕ)) → 0 < length pattern → AllByRecursion IsSomeAscending pattern → 0 < sequence_support records pattern
           → e ≡ sequence_entry records pattern
-          → GrowsOn records [] e
+          → GrowsOn records keep [] e
       by [] some all occurs is = absurd (omega arith)
       by ([] ∷ rest) some all occurs is = absurd (omega (arith, all.0.0))
       by ((i ∷ more) ∷ rest) some all occurs is = record {
         growth = AfterLast;
         item = i;
         may = tt;
-        grows = record { other = (i ∷ more) ∷ rest; from = reached i more rest all.0.1 all.1; occurs = occurs; is = is };
+        grows = record { other = (i ∷ more) ∷ rest; from = reached i more rest all.0.1 all.1; kept = all-kept keep every ((i ∷ more) ∷ rest); occurs = occurs; is = is };
       }
 
   -- what grows from the empty pattern are all patterns
-  pub all-patterns : (e : Entry) → GrowsOn records [] e ↔ Contains (sequence_patterns records) e
-  all-patterns e = (grows-pattern e, pattern-grows e)
+  pub all-patterns : (keep : ℕ → Bool) → ((item : ℕ) → keep item ≡ true) → (e : Entry) → GrowsOn records keep [] e ↔ Contains (sequence_patterns records) e
+  all-patterns keep every e = (grows-pattern keep e, pattern-grows keep every e)

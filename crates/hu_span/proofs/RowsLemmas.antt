@@ -1,9 +1,10 @@
 -- What is gathered of all rows: the marks by which a pattern can grow.
 use Rattle.std.proofs.Common.{◌≡◌, ℕ, zero, suc, ◌+◌, ◌<◌, ◌≤◌, Bool, true, false, cond, eqb, ℤ, List, [], ◌∷◌, ◌++◌, map, length, append_assoc, append-nil}
-use Rattle.std.proofs.Common.{length-append, get_or, pos, ◌-ℤ◌, drop, take, refl, sym, ap, ◌∙◌, subst, arith, IsPermutation}
+use Rattle.std.proofs.Common.{length-append, filter, get_or, pos, ◌-ℤ◌, drop, take, refl, sym, ap, ◌∙◌, subst, arith, IsPermutation}
 use Rattle.std.specs.List.{flat_map, AllByRecursion}
 use Rattle.std.specs.List.Sorted.{IsNonDecreasingBy}
 use Rattle.std.proofs.lemmas.Bool.{eq-eqb, eqb-true, ne_eqb}
+use Rattle.std.proofs.lemmas.List.{length-map}
 use Rattle.std.proofs.lemmas.List.Concat.{flat_map-append}
 use Rattle.hu_kind.specs.Order.{Ascend}
 use Rattle.hu_kind.specs.Record.{has, items_in}
@@ -23,9 +24,11 @@ use Rattle.hu_span.specs.declared.mark.Mark.{Mark}
 use Rattle.hu_span.specs.Child.{ArePlaces}
 use Rattle.hu_span.specs.Gather.{beside_marks, front_of, later_marks, row_marks, tail_marks, walk_marks, AreGrown, IsGrowth, MayTake}
 use Rattle.hu_span.specs.Growing.{IsReached, Records}
+use Rattle.hu_span.specs.Kept.{takes, weighed_in, weighed_of}
 use Rattle.hu_span.specs.Mark.{mark_at, marks_from, marks_of, marks_with, places_of, record_at, IsMark}
 use Rattle.hu_span.proofs.GatherLemmas.{first-found, first_from, grown-found, grown_from}
-use Rattle.hu_span.proofs.MarkLemmas.{each-permutation}
+use Rattle.hu_span.proofs.WeighedLemmas.{weighed-record}
+use Rattle.hu_span.proofs.MarkLemmas.{each-filter, each-permutation, filter-append, taken-flat_map, taken-kept, taken-with}
 use Rattle.hu_span.proofs.ReachLemmas.{can-reached, may-reached, Ends-reached}
 
 -- ---- beside each place
@@ -55,9 +58,14 @@ beside-rows before (r ∷ rs) pattern item =
     here [] = refl
     here (place ∷ places) = λ j. beside_marks (at_before before j) (length before) place ++ here places j
 
-pub beside-all : (records : Records) (pattern : List (List ℕ)) (item : ℕ)
-    → flat_map (beside records) (marks_of records pattern item) ≡ grown_from IntoLast pattern 0 records
-beside-all records pattern item = beside-rows [] records pattern item
+-- and those of kept items
+abbrev pub beside_kept : (ℕ → Bool) → Records → Mark → List Mark
+beside_kept keep records mark = filter (takes keep) (beside records mark)
+
+pub beside-all : (keep : ℕ → Bool) (records : Records) (pattern : List (List ℕ)) (item : ℕ)
+    → flat_map (beside_kept keep records) (marks_of records pattern item) ≡ filter (takes keep) (grown_from IntoLast pattern 0 records)
+beside-all keep records pattern item =
+    taken-flat_map keep (beside records) (marks_of records pattern item) ∙ ap (filter (takes keep)) (beside-rows [] records pattern item)
 
 -- ---- row by row
 
@@ -189,46 +197,55 @@ grown-above pattern row (r ∷ rs) rules ends =
     (into-above r row (last_item pattern) (chain_of pattern r) (plain-rules r rules.0) (chain_of-rules pattern r ends))
     (grown-above pattern (suc row) rs rules.1 ends)
 
-each-growth : (growth : Growth) (pattern : List (List ℕ)) (marks : List Mark) → AllByRecursion (λ mark. MayTake growth pattern mark.item.0) marks
+each-growth : (keep : ℕ → Bool) (growth : Growth) (pattern : List (List ℕ)) (marks : List Mark) → AllByRecursion (λ mark. keep mark.item.0 ≡ true) marks
+    → AllByRecursion (λ mark. MayTake growth pattern mark.item.0) marks
     → AllByRecursion IsFit (places_of marks)
-    → AllByRecursion (IsGrowth growth pattern) marks
-each-growth growth pattern [] may fit = tt
-each-growth growth pattern (m ∷ ms) may fit = (record { may = may.0; fit = fit.0 }, each-growth growth pattern ms may.1 fit.1)
+    → AllByRecursion (IsGrowth keep growth pattern) marks
+each-growth keep growth pattern [] kept may fit = tt
+each-growth keep growth pattern (m ∷ ms) kept may fit =
+    (record { kept = kept.0; may = may.0; fit = fit.0 }, each-growth keep growth pattern ms kept.1 may.1 fit.1)
 
 each-all : {A : Type 0} (P : A → Type 0) → ((x : A) → P x) → (xs : List A) → AllByRecursion P xs
 each-all P all [] = tt
 each-all P all (x ∷ xs) = (all x, each-all P all xs)
 
-pub grown-sorted : (growth : Growth) (records : Records) (pattern : List (List ℕ)) (marks sorted : List Mark) → AllByRecursion IsSequence records
+pub grown-sorted : (keep : ℕ → Bool) (growth : Growth) (records : Records) (pattern : List (List ℕ)) (marks sorted : List Mark) → AllByRecursion IsSequence records
     → IsReached pattern
-    → marks ≡ grown_from growth pattern 0 records → AllByRecursion IsFit (places_of marks) → IsNonDecreasingBy (λ mark. mark.item.0) sorted
+    → marks ≡ filter (takes keep) (grown_from growth pattern 0 records) → AllByRecursion IsFit (places_of marks) → IsNonDecreasingBy (λ mark. mark.item.0) sorted
     → IsPermutation marks sorted
-    → ((item : ℕ) → marks_with item sorted ≡ marks_with item marks) → AreGrown records pattern growth sorted
-grown-sorted growth records pattern marks sorted rules is whole fit up same each = record {
-  sorted = up;
-  each = each-permutation (IsGrowth growth pattern) marks sorted same (each-growth growth pattern marks (may growth whole) fit);
-  places = λ item may. each item ∙ ap (marks_with item) whole ∙ grown-found growth pattern item 0 records rules (can-reached growth pattern item is may);
-}
+    → ((item : ℕ) → marks_with item sorted ≡ marks_with item marks) → AreGrown records keep pattern growth sorted
+grown-sorted keep growth records pattern marks sorted rules is whole fit up same each =
+    let all = grown_from growth pattern 0 records in
+    let M : Mark → Type 0 = λ mark. MayTake growth pattern mark.item.0 in
+    let kept = subst (AllByRecursion (λ (mark : Mark). keep mark.item.0 ≡ true)) (sym whole) (taken-kept keep all) in
+    let mays = subst (AllByRecursion M) (sym whole) (each-filter M (takes keep) all (may growth)) in
+    record {
+      sorted = up;
+      each = each-permutation (IsGrowth keep growth pattern) marks sorted same (each-growth keep growth pattern marks kept mays fit);
+      places = λ item k m. each item ∙ ap (marks_with item) whole ∙ taken-with keep item all k
+          ∙ grown-found growth pattern item 0 records rules (can-reached growth pattern item is m);
+    }
   where
-    may : (growth : Growth) → marks ≡ grown_from growth pattern 0 records → AllByRecursion (λ mark. MayTake growth pattern mark.item.0) marks
-    may AfterLast whole = each-all (λ (mark : Mark). MayTake AfterLast pattern mark.item.0)
-        (λ mark. may-reached AfterLast pattern mark.item.0 is (Ends-reached pattern is)) marks
-    may IntoLast whole =
-        let above = subst (AllByRecursion (λ (mark : Mark). last_item pattern < mark.item.0)) (sym whole)
-        (grown-above pattern 0 records rules (Ends-reached pattern is)) in
-        each-weaker (λ (mark : Mark). last_item pattern < mark.item.0) (λ (mark : Mark). MayTake IntoLast pattern mark.item.0) marks
-        (λ mark low. may-reached IntoLast pattern mark.item.0 is (record { ends = Ends-reached pattern is; below = low })) above
+    may : (growth : Growth) → AllByRecursion (λ (mark : Mark). MayTake growth pattern mark.item.0) (grown_from growth pattern 0 records)
+    may AfterLast = each-all (λ (mark : Mark). MayTake AfterLast pattern mark.item.0)
+        (λ mark. may-reached AfterLast pattern mark.item.0 is (Ends-reached pattern is)) (grown_from AfterLast pattern 0 records)
+    may IntoLast =
+        each-weaker (λ (mark : Mark). last_item pattern < mark.item.0) (λ (mark : Mark). MayTake IntoLast pattern mark.item.0) (grown_from IntoLast pattern 0 records)
+        (λ mark low. may-reached IntoLast pattern mark.item.0 is (record { ends = Ends-reached pattern is; below = low }))
+        (grown-above pattern 0 records rules (Ends-reached pattern is))
 
-pub first-sorted : (records : Records) (marks sorted : List Mark) → AllByRecursion IsSequence records → marks ≡ first_from 0 records
-    → AllByRecursion IsFit (places_of marks)
+pub first-sorted : (keep : ℕ → Bool) (records : Records) (marks sorted : List Mark) → AllByRecursion IsSequence records
+    → marks ≡ filter (takes keep) (first_from 0 records) → AllByRecursion IsFit (places_of marks)
     → IsNonDecreasingBy (λ mark. mark.item.0) sorted → IsPermutation marks sorted → ((item : ℕ) → marks_with item sorted ≡ marks_with item marks)
-    → AreGrown records [] AfterLast sorted
-first-sorted records marks sorted rules whole fit up same each = record {
-  sorted = up;
-  each = each-permutation (IsGrowth AfterLast []) marks sorted same (each-growth AfterLast [] marks
-      (each-all (λ (mark : Mark). MayTake AfterLast [] mark.item.0) (λ mark. tt) marks) fit);
-  places = λ item may. each item ∙ ap (marks_with item) whole ∙ first-found item 0 records rules;
-}
+    → AreGrown records keep [] AfterLast sorted
+first-sorted keep records marks sorted rules whole fit up same each =
+    let kept = subst (AllByRecursion (λ (mark : Mark). keep mark.item.0 ≡ true)) (sym whole) (taken-kept keep (first_from 0 records)) in
+    record {
+      sorted = up;
+      each = each-permutation (IsGrowth keep AfterLast []) marks sorted same (each-growth keep AfterLast [] marks kept
+          (each-all (λ (mark : Mark). MayTake AfterLast [] mark.item.0) (λ mark. tt) marks) fit);
+      places = λ item k m. each item ∙ ap (marks_with item) whole ∙ taken-with keep item (first_from 0 records) k ∙ first-found item 0 records rules;
+    }
 
 -- they are among the marks
 pub front-within : (row : ℕ) (marks : List Mark) → front_of row marks ≤ length marks
@@ -244,16 +261,23 @@ record_at-any [] k d within = absurd (omega arith)
 record_at-any (r ∷ rs) zero d within = refl
 record_at-any (r ∷ rs) (suc k) d within = record_at-any rs k d (omega arith)
 
+-- the elements of a record where kept items count alone
+pub seen-row : (keep : ℕ → Bool) (records : Records) (row : ℕ) (elements d : List (List (ℕ × ℤ))) → row < length (weighed_of keep records) → elements ≡ d
+    → d ≡ get_or records row d → weighed_in keep elements ≡ record_at (weighed_of keep records) row
+seen-row keep records row elements d within is at =
+    let size = length-map records (weighed_in keep) in
+    ap (weighed_in keep) (is ∙ at ∙ record_at-any records row d (omega (arith, size, within))) ∙ sym (weighed-record keep records row)
+
 pub no-marks : (marks : List Mark) → length marks ≡ 0 → marks ≡ []
 no-marks [] none = refl
 no-marks (m ∷ ms) none = absurd (omega (arith, none))
 
 -- the rows that are left, and what was gathered of the others
-pub record AreRowsLeft (records : Records) (pattern : List (List ℕ)) (left grown : List Mark) : Type 0 where
+pub record AreRowsLeft (records : Records) (keep : ℕ → Bool) (pattern : List (List ℕ)) (left grown : List Mark) : Type 0 where
   pub row : ℕ
   pub left_is : left ≡ marks_from pattern (last_item pattern) row (drop row records)
   pub each : AllByRecursion (IsMark records (last_item pattern)) left
-  pub so_far : grown ++ grown_from AfterLast pattern row (drop row records) ≡ grown_from AfterLast pattern 0 records
+  pub so_far : grown ++ filter (takes keep) (grown_from AfterLast pattern row (drop row records)) ≡ filter (takes keep) (grown_from AfterLast pattern 0 records)
   pub fit : AllByRecursion IsFit (places_of grown)
 
 drop-drop : {A : Type 0} (n k : ℕ) (xs : List A) → drop (suc k) (drop n xs) ≡ drop (suc (n + k)) xs
@@ -266,13 +290,13 @@ record_at-drop zero k rs = let same : k ≡ 0 + k = omega arith in ap (record_at
 record_at-drop (suc n) k [] = refl
 record_at-drop (suc n) k (r ∷ rs) = let same : suc (n + k) ≡ suc n + k = omega arith in record_at-drop n k rs ∙ ap (record_at (r ∷ rs)) same
 
-pub rows-first : (records : Records) (pattern : List (List ℕ)) (marks grown : List Mark) → ArePlaces records pattern (last_item pattern) marks → grown ≡ []
-    → AreRowsLeft records pattern marks grown
-rows-first records pattern marks grown is none = record {
+pub rows-first : (records : Records) (keep : ℕ → Bool) (pattern : List (List ℕ)) (marks grown : List Mark) → ArePlaces records pattern (last_item pattern) marks → grown ≡ []
+    → AreRowsLeft records keep pattern marks grown
+rows-first records keep pattern marks grown is none = record {
   row = 0;
   left_is = is.is;
   each = is.each;
-  so_far = ap (λ ms. ms ++ grown_from AfterLast pattern 0 records) none;
+  so_far = ap (λ ms. ms ++ filter (takes keep) (grown_from AfterLast pattern 0 records)) none;
   fit = subst (λ ms. AllByRecursion IsFit (places_of ms)) (sym none) tt;
 }
 
@@ -280,7 +304,8 @@ fit-each : (records : Records) (item : ℕ) (ms : List Mark) → AllByRecursion 
 fit-each records item [] all = tt
 fit-each records item (m ∷ ms) all = let first = all.0 in (first.fit, fit-each records item ms all.1)
 
-module _ (records : Records) (pattern : List (List ℕ)) (first : Mark) (later grown : List Mark) (is : AreRowsLeft records pattern (first ∷ later) grown) where
+module _ (records : Records) (keep : ℕ → Bool) (pattern : List (List ℕ)) (first : Mark) (later grown : List Mark)
+    (is : AreRowsLeft records keep pattern (first ∷ later) grown) where
   abbrev pub n : ℕ
   n = front_of first.row later
 
@@ -302,9 +327,9 @@ module _ (records : Records) (pattern : List (List ℕ)) (first : Mark) (later g
   pub rows-fit : AllByRecursion IsFit (places_of (first ∷ take n later))
   rows-fit = fit-each records (last_item pattern) (first ∷ take n later) (is.each.0, each-take (IsMark records (last_item pattern)) n later is.each.1)
 
-  pub rows-next : (more : List Mark) → more ≡ grown ++ later_marks (record_at records first.row) first.row (places_of (first ∷ take n later))
+  pub rows-next : (more : List Mark) → more ≡ grown ++ filter (takes keep) (later_marks (record_at records first.row) first.row (places_of (first ∷ take n later)))
       → AllByRecursion IsFit (places_of more)
-      → AreRowsLeft records pattern (drop n later) more
+      → AreRowsLeft records keep pattern (drop n later) more
   rows-next more more_is fit =
       let k = here.skipped in
       let next = suc (is.row + k) in
@@ -317,16 +342,19 @@ module _ (records : Records) (pattern : List (List ℕ)) (first : Mark) (later g
         row = next;
         left_is = here.left ∙ ap (marks_from pattern (last_item pattern) next) (drop-drop is.row k records);
         each = each-drop (IsMark records (last_item pattern)) n later is.each.1;
-        so_far = ap (λ ms. ms ++ ahead) more_is ∙ append_assoc grown row ahead ∙ ap (λ ms. grown ++ ms) (sym (here.grown ∙ (λ j. row_is j ++ left j)))
+        so_far = ap (λ ms. ms ++ filter (takes keep) ahead) more_is
+            ∙ append_assoc grown (filter (takes keep) row) (filter (takes keep) ahead)
+            ∙ ap (λ ms. grown ++ ms) (sym (filter-append (takes keep) row ahead))
+            ∙ ap (λ ms. grown ++ filter (takes keep) ms) (sym (here.grown ∙ (λ j. row_is j ++ left j)))
             ∙ is.so_far;
         fit = fit;
       }
 
-pub rows-end : (records : Records) (pattern : List (List ℕ)) (grown : List Mark) → AreRowsLeft records pattern [] grown
-    → grown ≡ grown_from AfterLast pattern 0 records
-rows-end records pattern grown is =
+pub rows-end : (records : Records) (keep : ℕ → Bool) (pattern : List (List ℕ)) (grown : List Mark) → AreRowsLeft records keep pattern [] grown
+    → grown ≡ filter (takes keep) (grown_from AfterLast pattern 0 records)
+rows-end records keep pattern grown is =
     let none = grown-none pattern (last_item pattern) is.row (drop is.row records) is.left_is in
-    sym (append-nil grown) ∙ ap (λ ms. grown ++ ms) (sym none) ∙ is.so_far
+    sym (append-nil grown) ∙ ap (λ ms. grown ++ filter (takes keep) ms) (sym none) ∙ is.so_far
 
 -- ---- the first marks
 

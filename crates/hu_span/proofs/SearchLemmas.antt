@@ -1,5 +1,5 @@
 -- What a search makes that offers all children of a pattern and then enters them best bound first.
-use Rattle.std.proofs.Common.{◌≡◌, ℕ, zero, suc, ◌<◌, ◌≤◌, ◌+◌, ℤ, ◌<ℤ◌, ◌≤ℤ◌, List, [], ◌∷◌, length, get_or, take, drop, sym, ap, ◌∙◌, subst}
+use Rattle.std.proofs.Common.{◌≡◌, Bool, true, ℕ, zero, suc, ◌<◌, ◌≤◌, ◌+◌, ℤ, ◌<ℤ◌, ◌≤ℤ◌, List, [], ◌∷◌, length, get_or, take, drop, refl, sym, ap, ◌∙◌, subst}
 use Rattle.std.proofs.Common.{inl, inr, ◌⊎◌, arith, Contains, Result, Ok, Err, IsErr, IfOk}
 use Rattle.std.specs.List.{AllByRecursion}
 use Rattle.std.proofs.lemmas.Bool.{false≢true}
@@ -7,26 +7,38 @@ use Rattle.std.proofs.lemmas.Int.{ints}
 use Rattle.std.proofs.lemmas.List.{take_more}
 use Rattle.std.proofs.lemmas.List.Elements.{Contains-append_left, Contains-push, Contains-push_cases}
 use Rattle.hu_kind.specs.declared.entry.Entry.{Entry}
-use Rattle.hu_kind.specs.Sequence.{sequence_entry, sequence_support}
+use Rattle.hu_kind.specs.Sequence.{sequence_entry, sequence_key, sequence_support, sequence_utility}
 use Rattle.hu_kind.proofs.lemmas.Members.{Member, Member-from_contains, Contains-from_member}
 use Rattle.hu_kind.proofs.lemmas.Occurring.{at_member}
-use Rattle.hu_collect.specs.State.{State, offered, floor_in, IsInOrder, Reached, ReachedSome}
+use Rattle.hu_collect.specs.State.{State, offered, floor_in, IsInOrder, Reached, ReachedSome, Searches}
 use Rattle.hu_collect.proofs.lemmas.Searching.{empty-contains, reached-in_order, reached-floor, reached-none, reached-one, reached-then}
 use Rattle.hu_collect.proofs.lemmas.Searching.{reached-as, some-reached, some-as, some-then}
 use Rattle.hu_chain.specs.declared.chain.Growth.{Growth}
-use Rattle.hu_chain.specs.Grown.{grown, CanGrow, Leads}
+use Rattle.hu_chain.specs.Grown.{grown, IsGrownFrom, Leads}
 use Rattle.hu_chain.proofs.lemmas.Bounds.{grown-first}
 use Rattle.hu_chain.proofs.lemmas.Patterns.{Ends-grown}
 use Rattle.hu_chain.proofs.lemmas.Reached.{grown_from-itself}
 use Rattle.hu_span.specs.declared.child.Child.{Child}
-use Rattle.hu_span.specs.Child.{child_entry, stepped, AreChildren, IsChild, Fall}
-use Rattle.hu_span.specs.Gather.{MayTake}
-use Rattle.hu_span.specs.Growing.{AreRecords, GrowsOn, IsBegun, Records}
-use Rattle.hu_span.specs.Search.{IsBelow, IsOneOf, IsOpened, IsSoFar, IsUpto, Opens}
+use Rattle.hu_chain.specs.declared.chain.Growth.TheVariants.{IntoLast, AfterLast}
+use Rattle.hu_span.specs.declared.gather.Grown.{Grown}
+use Rattle.hu_span.specs.Child.{child_entry, stepped, AreChildren, AreGathered, ArePlaces, IsChild, Fall}
+use Rattle.hu_span.specs.Gather.{AreGrown}
+use Rattle.hu_span.specs.Growing.{AreRecords, GrowsOn, GrowsOver, IsBegun, IsReached, Records}
+use Rattle.hu_span.specs.Kept.{weighed_in, weighed_of, AreKept}
+use Rattle.hu_span.specs.Search.{AreKeptBest, IsBelow, IsNarrowed, IsOneOf, IsSoFar, Narrows, OffersAll}
+use Rattle.hu_span.specs.Cut.{AreBelow, AreOpen}
+use Rattle.hu_span.specs.Mark.{places_of, IsMark}
+use Rattle.hu_span.specs.declared.mark.Mark.{Mark}
+use Rattle.hu_kind.specs.declared.item.Item.{Item}
+use Rattle.hu_chain.specs.Bound.{IsFit}
+use Rattle.hu_chain.specs.Pattern.{last_item}
+use Rattle.std.proofs.lemmas.List.{length-map}
 use Rattle.hu_span.specs.declared.step.Step.{Step}
 use Rattle.hu_span.specs.Step.{pattern_of}
 use Rattle.std.specs.declared.vec.Vec.{Vec}
 use Rattle.std.specs.declared.alloc.Global.{Global}
+use Rattle.hu_span.proofs.CutLemmas.{grown-back, grown-kept, leads-back, narrow-enough, narrow-fewer, narrow-own}
+use Rattle.hu_span.proofs.WeighedLemmas.{weighed-support, weighed-utility}
 use Rattle.hu_span.proofs.ReachLemmas.{can-reached, grown-reached, may-reached, support-before}
 
 -- ---- the first of some children
@@ -83,9 +95,6 @@ module _ (records : Records) (pattern : List (List ℕ)) where
   one-as : {cs ds : List Child} {e : Entry} (one : IsOneOf records pattern cs e) → Contains ds one.child → IsOneOf records pattern ds e
   one-as one among = record { child = one.child; among = among; is = one.is }
 
-  below-as : {cs ds : List Child} {e : Entry} (below : IsBelow records pattern cs e) → Contains ds below.child → IsBelow records pattern ds e
-  below-as below among = record { child = below.child; among = among; grows = below.grows }
-
   pub offered-next : {old s t : State} (children : List Child) (i : ℕ) (d : Child) → i < length children → IsInOrder old
       → Reached old (IsOneOf records pattern (take i children)) s → t ≡ offered s (child_entry records pattern (get_or children i d) ∷ [])
       → Reached old (IsOneOf records pattern (take (i + 1) children)) t
@@ -108,206 +117,373 @@ module _ (records : Records) (pattern : List (List ℕ)) where
       (some-reached {P = IsOneOf records pattern (take i children)} {R = IsOneOf records pattern children}
       (λ e one. one-as one (contains-front children i one.child one.among)) first)
 
+module _ (records : Records) (keep : ℕ → Bool) (pattern : List (List ℕ)) where
   -- ---- what grows from a pattern
 
-  one-grows : (children : List Child) (e : Entry) → AllByRecursion (IsChild records pattern) children → IsOneOf records pattern children e
-      → GrowsOn records pattern e
-  one-grows children e each one =
+  below-as : {cs ds : List Child} {e : Entry} (below : IsBelow records keep pattern cs e) → Contains ds below.child → IsBelow records keep pattern ds e
+  below-as below among = record { child = below.child; among = among; grows = below.grows }
+
+  one-grows : AreKept keep pattern → (children : List Child) (e : Entry) → AllByRecursion (IsChild records keep pattern) children
+      → IsOneOf records pattern children e → GrowsOn records keep pattern e
+  one-grows own children e each one =
       let child = one.child in
-      let is = at_member (IsChild records pattern) child children each (Member-from_contains child children one.among) in
+      let is = at_member (IsChild records keep pattern) child children each (Member-from_contains child children one.among) in
       record {
         growth = child.step.growth;
         item = child.step.item.0;
         may = is.may;
-        grows = record { other = stepped pattern child.step; from = grown_from-itself (stepped pattern child.step); occurs = is.occurs; is = one.is };
+        grows = record {
+          other = stepped pattern child.step;
+          from = grown_from-itself (stepped pattern child.step);
+          kept = grown-kept keep child.step.growth pattern child.step.item.0 own is.kept;
+          occurs = is.occurs;
+          is = one.is;
+        };
       }
 
-  pub offered-some : {old new : State} (children : List Child) → AllByRecursion (IsChild records pattern) children
-      → ReachedSome old (IsOneOf records pattern children) new
-      → ReachedSome old (GrowsOn records pattern) new
-  offered-some children each some = some-as {P = IsOneOf records pattern children} {R = GrowsOn records pattern} (λ e. one-grows children e each) some
+  pub offered-some : AreKept keep pattern → {old new : State} (children : List Child) → AllByRecursion (IsChild records keep pattern) children
+      → ReachedSome old (IsOneOf records pattern children) new → ReachedSome old (GrowsOn records keep pattern) new
+  offered-some own children each some =
+      some-as {P = IsOneOf records pattern children} {R = GrowsOn records keep pattern} (λ e. one-grows own children e each) some
 
   module _ (rules : AreRecords records) (begun : IsBegun pattern) where
-    below-grows : (child : Child) (e : Entry) → IsChild records pattern child → GrowsOn records (stepped pattern child.step) e → GrowsOn records pattern e
-    below-grows child e is on =
+    over-grows : (e : Entry) → GrowsOver records keep pattern e → GrowsOn records keep pattern e
+    over-grows e over =
+        let on = over.on in
         let g = on.grows in
-        let reached = grown-reached child.step.growth pattern child.step.item.0 begun is.may in
-        let can = can-reached on.growth (stepped pattern child.step) on.item reached on.may in
+        let reached = grown-reached over.growth pattern over.item begun over.may in
+        let can = can-reached on.growth (grown over.growth pattern over.item) on.item reached on.may in
         record {
-          growth = child.step.growth;
-          item = child.step.item.0;
-          may = is.may;
+          growth = over.growth;
+          item = over.item;
+          may = over.may;
           grows = record {
             other = g.other;
-            from = grown-first on.growth (stepped pattern child.step) g.other on.item can g.from;
+            from = grown-first on.growth (grown over.growth pattern over.item) g.other on.item can g.from;
+            kept = g.kept;
             occurs = g.occurs;
-            is =
-                g.is;
+            is = g.is;
           };
         }
 
-    -- a pattern that grows from one is that of a child or grows from it
-    grows-cases : (children : List Child) (e : Entry) → AreChildren records pattern children → GrowsOn records pattern e
-        → IsOneOf records pattern children e ⊎ IsBelow records pattern children e
-    grows-cases children e are on =
-        let g = on.grows in
-        by on.growth on.item on.may g.other g.from.steps g.from.leads g.occurs g.is
-      where
-        at : (growth : Growth) (item : ℕ) (child : Child) → Contains children child → child.step.growth ≡ growth → child.step.item.0 ≡ item
-            → (other : List (List ℕ)) (steps : List (Growth × ℕ)) → Leads steps (stepped pattern child.step) other → 0 < sequence_support records other
-            → e ≡ sequence_entry records other
-            → IsOneOf records pattern children e ⊎ IsBelow records pattern children e
-        at growth item child among a b other [] leads occurs is = inl (record {
-          child = child;
-          among = among;
-          is = is ∙ ap (sequence_entry records)
-              (sym leads);
-        })
-        at growth item child among a b other (step ∷ steps) leads occurs is = inr (record {
-          child = child;
-          among = among;
-          grows = record {
-            growth = step.0;
-            item = step.1;
-            may = may child (at_member (IsChild records pattern) child children are.each (Member-from_contains child children among)) step leads.0;
-            grows = record { other = other; from = record { steps = steps; leads = leads.1 }; occurs = occurs; is = is };
-          };
-        })
-          where
-            may : (child : Child) → IsChild records pattern child → (step : Growth × ℕ) → CanGrow step.0 (stepped pattern child.step) step.1
-                → MayTake step.0 (stepped pattern child.step) step.1
-            may child is step can = may-reached step.0 (stepped pattern child.step) step.1
-                (grown-reached child.step.growth pattern child.step.item.0 begun is.may) can
+    below-over : (child : Child) (e : Entry) → IsChild records keep pattern child → GrowsOn records keep (stepped pattern child.step) e
+        → GrowsOver records keep pattern e
+    below-over child e is on = record { growth = child.step.growth; item = child.step.item.0; may = is.may; on = on }
 
-        by : (growth : Growth) (item : ℕ) → MayTake growth pattern item → (other : List (List ℕ)) (steps : List (Growth × ℕ))
-            → Leads steps (grown growth pattern item) other
-            → 0 < sequence_support records other → e ≡ sequence_entry records other → IsOneOf records pattern children e ⊎ IsBelow records pattern children e
-        by growth item may other steps leads occurs is =
-            let held = support-before records rules (grown growth pattern item) other (Ends-grown growth pattern item)
-            (record { steps = steps; leads = leads }) occurs in
-            let has = are.all growth item may held in
-            at growth item has.0 has.1 has.2 has.3 other steps
-            (subst (λ i. Leads steps (grown has.0.step.growth pattern i) other) (sym has.3)
-            (subst (λ k. Leads steps (grown k pattern item) other) (sym has.2) leads)) occurs is
+    -- a pattern that grows from one in at least two steps grows from a child
+    over-below : (children : List Child) (e : Entry) → AreChildren records keep pattern children → GrowsOver records keep pattern e
+        → IsBelow records keep pattern children e
+    over-below children e are over =
+        let on = over.on in
+        let g = on.grows in
+        let first = grown over.growth pattern over.item in
+        let reached = grown-reached over.growth pattern over.item begun over.may in
+        let can = can-reached on.growth first on.item reached on.may in
+        let from = grown-first on.growth first g.other on.item can g.from in
+        let back = leads-back keep from.steps first g.other from.leads g.kept in
+        let kept = grown-back keep over.growth pattern over.item back.0 in
+        let held = support-before records rules first g.other (Ends-grown over.growth pattern over.item) from g.occurs in
+        let has = are.all over.growth over.item kept.1 over.may held in
+        record {
+          child = has.0;
+          among = has.1;
+          grows = subst (λ q. GrowsOn records keep q e) (sym (λ j. grown (has.2 j) pattern (has.3 j))) on;
+        }
+
+    -- and one that grows in at least one step is a child or grows in two
+    on-cases : (children : List Child) (e : Entry) → AreChildren records keep pattern children → GrowsOn records keep pattern e
+        → IsOneOf records pattern children e ⊎ GrowsOver records keep pattern e
+    on-cases children e are on =
+        let g = on.grows in
+        by g.other g.from.steps g.from.leads g.kept g.occurs g.is
+      where
+        by : (other : List (List ℕ)) (steps : List (Growth × ℕ)) → Leads steps (grown on.growth pattern on.item) other → AreKept keep other
+            → 0 < sequence_support records other → e ≡ sequence_entry records other → IsOneOf records pattern children e ⊎ GrowsOver records keep pattern e
+        by other [] leads kept occurs is =
+            let back = grown-back keep on.growth pattern on.item (subst (AreKept keep) (sym leads) kept) in
+            let has = are.all on.growth on.item back.1 on.may (subst (λ q. 0 < sequence_support records q) (sym leads) occurs) in
+            inl (record {
+              child = has.0;
+              among = has.1;
+              is = is ∙ ap (sequence_entry records) (sym leads) ∙ sym (λ j. sequence_entry records (grown (has.2 j) pattern (has.3 j)));
+            })
+        by other (step ∷ steps) leads kept occurs is =
+            let reached = grown-reached on.growth pattern on.item begun on.may in
+            inr (record {
+              growth = on.growth;
+              item = on.item;
+              may = on.may;
+              on = record {
+                growth = step.0;
+                item = step.1;
+                may = may-reached step.0 (grown on.growth pattern on.item) step.1 reached leads.0;
+                grows = record { other = other; from = record { steps = steps; leads = leads.1 }; kept = kept; occurs = occurs; is = is };
+              };
+            })
+
+    -- all children are offered, and then what grows from them
+    pub opened-all : {old mid new : State} (all : List Child) → AreKept keep pattern → IsInOrder old → AreChildren records keep pattern all
+        → Reached old (IsOneOf records pattern all) mid → Reached mid (GrowsOver records keep pattern) new → Reached old (GrowsOn records keep pattern) new
+    opened-all all own ordered are first second =
+        reached-then {P = IsOneOf records pattern all} {Q = GrowsOver records keep pattern} {R = GrowsOn records keep pattern} ordered
+        (λ e one. one-grows own all e are.each one) over-grows (λ e on pass high. on-cases all e are on) first second
+
+    pub opened-some : {old mid new : State} (all : List Child) → AreKept keep pattern → AreChildren records keep pattern all
+        → Reached old (IsOneOf records pattern all) mid → ReachedSome mid (GrowsOver records keep pattern) new → ReachedSome old (GrowsOn records keep pattern) new
+    opened-some all own are first second =
+        some-then {P = IsOneOf records pattern all} {Q = GrowsOver records keep pattern} {R = GrowsOn records keep pattern}
+        (λ e one. one-grows own all e are.each one) over-grows first second
+
+    pub opened-searches : {T E : Type 0} (old mid new : State) (all : List Child) → AreKept keep pattern → IsInOrder old → AreChildren records keep pattern all
+        → Reached old (IsOneOf records pattern all) mid → (result : Result T E) → Searches mid (GrowsOver records keep pattern) new result
+        → Searches old (GrowsOn records keep pattern) new result
+    opened-searches old mid new all own ordered are first (Ok x) second = opened-all all own ordered are first second
+    opened-searches old mid new all own ordered are first (Err e) second = opened-some all own are first second
 
     -- ---- children that are entered
 
-    pub so_far-none : {old mid : State} {kept : List Child} → IsOpened old mid records pattern kept → IsSoFar old mid records pattern kept 0
-    so_far-none {old} {mid} {kept} opened = record {
-      mid = mid;
-      opened = opened;
-      rises = omega (arith, ints);
-      made = reached-as {P = IsOneOf records pattern opened.all} {R = IsUpto records pattern opened.all kept 0} (λ e one. inl one)
-          (λ e upto pass high. elim upto [ inl one ↦ one | inr below ↦ absurd (empty-contains below.child below.among) ]) opened.offers;
+    pub so_far-none : {old : State} {kept : List Child} → IsInOrder old → AreKeptBest records keep pattern (floor_in old) kept
+        → IsSoFar old old records keep pattern kept 0
+    so_far-none {old} {kept} ordered best = record {
+      best = best;
+      made = reached-none {P = IsBelow records keep pattern (take 0 kept)} old ordered (λ e below pass high. empty-contains below.child below.among);
     }
 
     module _ {old now : State} {kept : List Child} (ordered : IsInOrder old) where
-      module _ {at : ℕ} (so_far : IsSoFar old now records pattern kept at) where
+      module _ {at : ℕ} (so_far : IsSoFar old now records keep pattern kept at) where
         pub so_far-ordered : IsInOrder now
         so_far-ordered = reached-in_order so_far.made
 
-        child-kept : (i : ℕ) (child : Child) → Contains (take i kept) child → IsChild records pattern child
+        child-kept : (i : ℕ) (child : Child) → Contains (take i kept) child → IsChild records keep pattern child
         child-kept i child c =
-            let opened = so_far.opened in
-            let are = opened.are in
-            let among = at_member (Contains opened.all) child kept opened.among (Member-from_contains child kept (contains-front kept i child c)) in
-            at_member (IsChild records pattern) child opened.all are.each (Member-from_contains child opened.all among)
+            let best = so_far.best in
+            let are = best.are in
+            let among = at_member (Contains best.all) child kept best.among (Member-from_contains child kept (contains-front kept i child c)) in
+            at_member (IsChild records keep pattern) child best.all are.each (Member-from_contains child best.all among)
 
-        upto-grows : (i : ℕ) (e : Entry) → IsUpto records pattern so_far.opened.all kept i e → GrowsOn records pattern e
-        upto-grows i e (inl one) = let opened = so_far.opened in let are = opened.are in one-grows opened.all e are.each one
-        upto-grows i e (inr below) = below-grows below.child e (child-kept i below.child below.among) below.grows
+        upto-grows : (i : ℕ) (e : Entry) → IsBelow records keep pattern (take i kept) e → GrowsOver records keep pattern e
+        upto-grows i e below = below-over below.child e (child-kept i below.child below.among) below.grows
 
         -- want of memory
-        pub so_far-stopped : ReachedSome old (GrowsOn records pattern) now
-        so_far-stopped = some-reached {P = IsUpto records pattern so_far.opened.all kept at} {R = GrowsOn records pattern} (upto-grows at) so_far.made
+        pub so_far-stopped : ReachedSome old (GrowsOver records keep pattern) now
+        so_far-stopped = some-reached {P = IsBelow records keep pattern (take at kept)} {R = GrowsOver records keep pattern} (upto-grows at) so_far.made
 
         module _ (d : Child) (within : at < length kept) where
-          pub turn-child : IsChild records pattern (get_or kept at d)
+          pub turn-child : IsChild records keep pattern (get_or kept at d)
           turn-child = child-kept (at + 1) (get_or kept at d) (contains-here kept at d within)
 
           -- one more was entered
-          pub so_far-next : {next : State} → Reached now (GrowsOn records (stepped pattern (get_or kept at d).step)) next
-              → IsSoFar old next records pattern kept (at + 1)
+          pub so_far-next : {next : State} → Reached now (GrowsOn records keep (stepped pattern (get_or kept at d).step)) next
+              → IsSoFar old next records keep pattern kept (at + 1)
           so_far-next made = record {
-            mid = so_far.mid;
-            opened = so_far.opened;
-            rises = let a = so_far.rises in let b = reached-floor (reached-in_order so_far.made) made in omega (arith, ints, a, b);
-            made = reached-then {P = IsUpto records pattern so_far.opened.all kept at} {Q = GrowsOn records (stepped pattern (get_or kept at d).step)}
-                {R = IsUpto records pattern so_far.opened.all kept (at + 1)} ordered
-                (λ e upto. elim upto [ inl one ↦ inl one | inr below ↦ inr (below-as below (contains-before kept at d below.child within below.among)) ])
-                (λ e grows. inr (record { child = get_or kept at d; among = contains-here kept at d within; grows = grows }))
-                (λ e upto pass high. elim upto [
-                  | inl one ↦ inl (inl one)
-                  | inr below ↦ elim (contains-cases kept at d below.child within below.among) [
-                    | inl before ↦ inl (inr (below-as below before))
-                    | inr same ↦ inr (subst (λ (c : Child). GrowsOn records (stepped pattern c.step) e) (sym same) below.grows)
-                  ]
+            best = so_far.best;
+            made = reached-then {P = IsBelow records keep pattern (take at kept)} {Q = GrowsOn records keep (stepped pattern (get_or kept at d).step)}
+                {R = IsBelow records keep pattern (take (at + 1) kept)} ordered
+                (λ e below. below-as below (contains-before kept at d below.child within below.among))
+                (λ e grows. record { child = get_or kept at d; among = contains-here kept at d within; grows = grows })
+                (λ e below pass high. elim (contains-cases kept at d below.child within below.among) [
+                  | inl before ↦ inl (below-as below before)
+                  | inr same ↦ inr (subst (λ (c : Child). GrowsOn records keep (stepped pattern c.step) e) (sym same) below.grows)
                 ])
                 so_far.made made;
           }
 
           -- want of memory below one
-          pub so_far-some : {next : State} → ReachedSome now (GrowsOn records (stepped pattern (get_or kept at d).step)) next
-              → ReachedSome old (GrowsOn records pattern) next
+          pub so_far-some : {next : State} → ReachedSome now (GrowsOn records keep (stepped pattern (get_or kept at d).step)) next
+              → ReachedSome old (GrowsOver records keep pattern) next
           so_far-some some =
-              some-then {P = IsUpto records pattern so_far.opened.all kept at} {Q = GrowsOn records (stepped pattern (get_or kept at d).step)} {R =
-              GrowsOn records pattern}
-              (upto-grows at) (λ e grows. below-grows (get_or kept at d) e turn-child grows) so_far.made some
+              some-then {P = IsBelow records keep pattern (take at kept)} {Q = GrowsOn records keep (stepped pattern (get_or kept at d).step)}
+              {R = GrowsOver records keep pattern}
+              (upto-grows at) (λ e grows. below-over (get_or kept at d) e turn-child grows) so_far.made some
 
         -- all are entered, or the next bound is below the floor
-        pub so_far-all : (d : Child) → (length kept ≤ at) ⊎ ((get_or kept at d).bound <ℤ floor_in now) → Reached old (GrowsOn records pattern) now
+        pub so_far-all : (d : Child) → (length kept ≤ at) ⊎ ((get_or kept at d).bound <ℤ floor_in now) → Reached old (GrowsOver records keep pattern) now
         so_far-all d ends =
-            reached-as {P = IsUpto records pattern so_far.opened.all kept at} {R = GrowsOn records pattern} (upto-grows at)
-            (λ e on pass high. let opened = so_far.opened in
-            elim (grows-cases opened.all e opened.are on) [
-              | inl one ↦ inl one
-              | inr below ↦ inr
-                  (below-as below (among e below.child below.among below.grows high))
-            ])
+            reached-as {P = IsBelow records keep pattern (take at kept)} {R = GrowsOver records keep pattern} (upto-grows at)
+            (λ e over pass high.
+            let best = so_far.best in
+            let below = over-below best.all e best.are over in
+            below-as below (among e below.child below.among below.grows high))
             so_far.made
           where
-            among : (e : Entry) (child : Child) → Contains so_far.opened.all child → GrowsOn records (stepped pattern child.step) e → floor_in now ≤ℤ e.utility
-                → Contains (take at kept) child
-            among e child c grows high =
-                let opened = so_far.opened in
-                let are = opened.are in
-                let is = at_member (IsChild records pattern) child opened.all are.each (Member-from_contains child opened.all c) in
-                let under = is.bound e grows in
-                let rises = so_far.rises in
-                elim (opened.others child c) [
+            among : (e : Entry) (child : Child) → Contains so_far.best.all child → GrowsOn records keep (stepped pattern child.step) e
+                → floor_in now ≤ℤ e.utility → Contains (take at kept) child
+            among e child c on high =
+                let best = so_far.best in
+                let are = best.are in
+                let g = on.grows in
+                let is = at_member (IsChild records keep pattern) child best.all are.each (Member-from_contains child best.all c) in
+                let reached = grown-reached child.step.growth pattern child.step.item.0 begun is.may in
+                let can = can-reached on.growth (stepped pattern child.step) on.item reached on.may in
+                let most = is.bound g.other (grown-first on.growth (stepped pattern child.step) g.other on.item can g.from) in
+                let same = ap (λ (x : Entry). x.utility) g.is in
+                let under : e.utility ≤ℤ child.bound = omega (arith, ints, most, same) in
+                let rises = reached-floor ordered so_far.made in
+                elim (best.others child c) [
                   | inr low ↦ absurd (omega (arith, ints, under, high, rises, low))
                   | inl here ↦ elim (Member-parts child kept at (Member-from_contains child kept here)) [
                     | inl front ↦ Contains-from_member child (take at kept) front
                     | inr later ↦ elim ends [
                       | inl past ↦ absurd (fall-past kept at child past later)
-                      | inr low ↦ let falls = fall-later kept at d child opened.fall later in absurd (omega (arith, ints, under, high, falls, low))
+                      | inr low ↦ let falls = fall-later kept at d child best.fall later in absurd (omega (arith, ints, under, high, falls, low))
                     ]
                   ]
                 ]
 
+-- ---- where fewer items count
+
+module _ (records : Records) (keep fewer : ℕ → Bool) (pattern : List (List ℕ)) where
+  same-entry : (other : List (List ℕ)) → AreKept keep other → AreKept fewer other
+      → sequence_entry (weighed_of fewer records) other ≡ sequence_entry (weighed_of keep records) other
+  same-entry other kept still =
+      let u = weighed-utility fewer records other still ∙ sym (weighed-utility keep records other kept) in
+      let n = weighed-support fewer records other still ∙ sym (weighed-support keep records other kept) in
+      (λ j. record { key = sequence_key other; utility = u j; support = n j })
+
+  same-support : (other : List (List ℕ)) → AreKept keep other → AreKept fewer other
+      → sequence_support (weighed_of fewer records) other ≡ sequence_support (weighed_of keep records) other
+  same-support other kept still = weighed-support fewer records other still ∙ sym (weighed-support keep records other kept)
+
+  all-less : ((item : ℕ) → fewer item ≡ true → keep item ≡ true) → (other : List (List ℕ)) → AreKept fewer other → AreKept keep other
+  all-less less [] all = tt
+  all-less less (items ∷ other) all = (each-less items all.0, all-less less other all.1)
+    where
+      each-less : (xs : List ℕ) → AllByRecursion (λ i. fewer i ≡ true) xs → AllByRecursion (λ i. keep i ≡ true) xs
+      each-less [] a = tt
+      each-less (x ∷ xs) a = (less x a.0, each-less xs a.1)
+
+  wider : ((item : ℕ) → fewer item ≡ true → keep item ≡ true) → (e : Entry) → GrowsOver (weighed_of fewer records) fewer pattern e
+      → GrowsOver (weighed_of keep records) keep pattern e
+  wider less e over =
+      let on = over.on in
+      let g = on.grows in
+      let kept = all-less less g.other g.kept in
+      record {
+        growth = over.growth;
+        item = over.item;
+        may = over.may;
+        on = record {
+          growth = on.growth;
+          item = on.item;
+          may = on.may;
+          grows = record {
+            other = g.other;
+            from = g.from;
+            kept = kept;
+            occurs = subst (λ n. 0 < n) (same-support g.other kept g.kept) g.occurs;
+            is = g.is ∙ same-entry g.other kept g.kept;
+          };
+        };
+      }
+
+  module _ (begun : IsBegun pattern) (less : (item : ℕ) → fewer item ≡ true → keep item ≡ true) where
+    pub wider-some : {mid new : State} → ReachedSome mid (GrowsOver (weighed_of fewer records) fewer pattern) new
+        → ReachedSome mid (GrowsOver (weighed_of keep records) keep pattern) new
+    wider-some some = some-as {P = GrowsOver (weighed_of fewer records) fewer pattern} {R = GrowsOver (weighed_of keep records) keep pattern} (wider less) some
+
+    -- what is left out earns less than the floor
+    pub wider-all : {mid new : State} → IsInOrder mid
+        → ((other : List (List ℕ)) → IsGrownFrom pattern other → AreKept keep other → 0 < sequence_support (weighed_of keep records) other
+        → floor_in mid ≤ℤ sequence_utility (weighed_of keep records) other → AreKept fewer other)
+        → IsReached pattern
+        → Reached mid (GrowsOver (weighed_of fewer records) fewer pattern) new → Reached mid (GrowsOver (weighed_of keep records) keep pattern) new
+    wider-all {mid} {new} ordered enough is made =
+        reached-as {P = GrowsOver (weighed_of fewer records) fewer pattern} {R = GrowsOver (weighed_of keep records) keep pattern} (wider less)
+        (λ e over pass high.
+        let on = over.on in
+        let g = on.grows in
+        let first = grown over.growth pattern over.item in
+        let reached = grown-reached over.growth pattern over.item begun over.may in
+        let can = can-reached on.growth first on.item reached on.may in
+        let from = grown-first over.growth pattern g.other over.item (can-reached over.growth pattern over.item is over.may)
+        (grown-first on.growth first g.other on.item can g.from) in
+        let rises = reached-floor ordered made in
+        let same = ap (λ (x : Entry). x.utility) g.is in
+        let still = enough g.other from g.kept g.occurs (omega (arith, ints, rises, high, same)) in
+        record {
+          growth = over.growth;
+          item = over.item;
+          may = over.may;
+          on = record {
+            growth = on.growth;
+            item = on.item;
+            may = on.may;
+            grows = record {
+              other = g.other;
+              from = g.from;
+              kept = still;
+              occurs = subst (λ n. 0 < n) (sym (same-support g.other g.kept still)) g.occurs;
+              is = g.is ∙ sym (same-entry g.other g.kept still);
+            };
+          };
+        })
+        made
+
 -- ---- what is opened
 
-pub opens-stopped : {E : Type 0} {old new : State} {records : Records} {pattern : List (List ℕ)} (result : Result (Vec Child Global) E) → IsErr result
-    → ReachedSome old (GrowsOn records pattern) new → Opens old new records pattern result
-opens-stopped (Ok x) none some = absurd (false≢true none)
-opens-stopped (Err e) none some = some
+pub offers-all : {T E : Type 0} (old new : State) (records : Records) (keep : ℕ → Bool) (pattern : List (List ℕ)) (all : List Child) (result : Result T E)
+    → AreKept keep pattern → AreChildren records keep pattern all → Searches old (IsOneOf records pattern all) new result
+    → OffersAll old new records keep pattern result
+offers-all old new records keep pattern all (Ok x) own are made = (all, are, made)
+offers-all old new records keep pattern all (Err e) own are made = offered-some records keep pattern own all are.each made
 
-pub opens-best : {E : Type 0} {old new : State} (records : Records) (pattern : List (List ℕ)) (all : List Child) (floor : ℤ)
-    (result : Result (Vec Child Global) E) → floor ≡ floor_in new
-    → AreChildren records pattern all → Reached old (IsOneOf records pattern all) new
+pub best-kept : {E : Type 0} (records : Records) (keep : ℕ → Bool) (pattern : List (List ℕ)) (all : List Child) (floor : ℤ)
+    (result : Result (Vec Child Global) E) → AreChildren records keep pattern all
     → IfOk result (λ kept. AllByRecursion (Contains all) kept.items)
     → IfOk result (λ kept. (child : Child) → Contains all child → Contains kept.items child ⊎ (child.bound <ℤ floor))
-    → IfOk result (λ kept. Fall kept.items) → Opens old new records pattern result
-opens-best {new = new} records pattern all floor (Ok kept) same are offers among others fall = record {
-  all = all;
-  are = are;
-  offers = offers;
-  among = among;
-  others = λ child c. subst (λ f. Contains kept.items child ⊎ (child.bound <ℤ f)) same (others child c);
-  fall = fall;
+    → IfOk result (λ kept. Fall kept.items) → IfOk result (λ kept. AreKeptBest records keep pattern floor kept.items)
+best-kept records keep pattern all floor (Ok kept) are among others fall = record { all = all; are = are; among = among; others = others; fall = fall }
+best-kept records keep pattern all floor (Err e) are among others fall = tt
+
+-- the rows and the places of marks
+pub marks-within : (records : Records) (keep : ℕ → Bool) (item n : ℕ) (marks : List Mark) → n ≡ length records
+    → AllByRecursion (IsMark (weighed_of keep records) item) marks → AllByRecursion (λ mark. mark.row < n) marks
+marks-within records keep item n [] same all = tt
+marks-within records keep item n (mark ∷ marks) same all =
+    let is = all.0 in
+    let size = length-map records (weighed_in keep) in
+    (omega (arith, same, size, is.within), marks-within records keep item n marks same all.1)
+
+pub marks-fit : (records : Records) (item : ℕ) (marks : List Mark) → AllByRecursion (IsMark records item) marks → AllByRecursion IsFit (places_of marks)
+marks-fit records item [] all = tt
+marks-fit records item (mark ∷ marks) all = let is = all.0 in (is.fit, marks-fit records item marks all.1)
+
+pub children-within : (records : Records) (keep : ℕ → Bool) (pattern : List (List ℕ)) (n : ℕ) (children : List Child) → n ≡ length records
+    → AllByRecursion (IsChild (weighed_of keep records) keep pattern) children
+    → AllByRecursion (λ child. AllByRecursion (λ mark. mark.row < n) child.marks.now) children
+children-within records keep pattern n [] same all = tt
+children-within records keep pattern n (child ∷ children) same all =
+    let is = all.0 in
+    (marks-within records keep child.step.item.0 n child.marks.now same is.places.each, children-within records keep pattern n children same all.1)
+
+pub narrows-stopped : {E : Type 0} {old new : State} {records : Records} {keep : ℕ → Bool} {pattern : List (List ℕ)} (result : Result (Bool × List Item) E)
+    → IsErr result → ReachedSome old (GrowsOn records keep pattern) new → Narrows old new records keep pattern result
+narrows-stopped (Ok x) none some = absurd (false≢true none)
+narrows-stopped (Err e) none some = some
+
+pub narrowed-ordered : {old new : State} {records : Records} {keep : ℕ → Bool} {pattern : List (List ℕ)} {kept : Bool × List Item}
+    → IsNarrowed old new records keep pattern kept → IsInOrder new
+narrowed-ordered is = reached-in_order is.offers
+
+-- what a node keeps, where its children were offered
+pub narrows-all : {E : Type 0} {old new : State} (records : Records) (keep : ℕ → Bool) (steps : List Step) (marks : List Mark) (children : List Child)
+    (reaches : List ℤ) (floor : ℤ) (result : Result (Bool × List Item) E) → AreRecords records → IsReached (pattern_of steps) → AreKept keep (pattern_of steps)
+    → ArePlaces records (pattern_of steps) (last_item (pattern_of steps)) marks → AreChildren records keep (pattern_of steps) children
+    → AreBelow reaches marks → floor ≡ floor_in new → IfOk result (AreOpen steps children reaches floor)
+    → Reached old (IsOneOf records (pattern_of steps) children) new → Narrows old new records keep (pattern_of steps) result
+narrows-all {new = new} records keep steps marks children reaches floor (Ok kept) are reached own places all below same opened made = record {
+  all = children;
+  are = all;
+  offers = made;
+  fewer = narrow-fewer records keep steps marks children reaches floor kept are reached places all below opened own;
+  own = narrow-own records keep steps marks children reaches floor kept are reached places all below opened;
+  enough = λ other from whole occurs high.
+      narrow-enough records keep steps marks children reaches floor kept are reached places all below opened other from whole occurs
+      (subst (λ f. f ≤ℤ sequence_utility records other) (sym same) high);
 }
-opens-best {old = old} records pattern all floor (Err e) same are offers among others fall =
-    offered-some records pattern all are.each (some-reached {P = IsOneOf records pattern all} {R = IsOneOf records pattern all} (λ x one. one) offers)
+narrows-all records keep steps marks children reaches floor (Err e) are reached own places all below same opened made =
+    offered-some records keep (pattern_of steps) own children all.each
+    (some-reached {P = IsOneOf records (pattern_of steps) children} {R = IsOneOf records (pattern_of steps) children} (λ x one. one) made)
 
 -- one more offer, the steps seen again
 pub offered-turn : {old s t : State} (records : Records) (steps seen : List Step) (children : List Child) (i : ℕ) (d : Child) → i < length children
@@ -317,3 +493,20 @@ pub offered-turn : {old s t : State} (records : Records) (steps seen : List Step
 offered-turn {s = s} records steps seen children i d within ordered same first is =
     offered-next records (pattern_of steps) children i d within ordered first (is ∙ ap (λ ss. offered s
     (child_entry records (pattern_of ss) (get_or children i d) ∷ [])) same)
+
+-- ---- the first patterns
+
+pub first-gathered : (records : Records) (keep : ℕ → Bool) (grown : Grown) → AreRecords records → grown.into.items ≡ []
+    → AreGrown records keep [] AfterLast grown.after.items → AreGathered records keep [] grown
+first-gathered records keep grown are none after = record {
+  into = record {
+    are = are;
+    begun = inl refl;
+    grown = subst (AreGrown records keep [] IntoLast) (sym none) (record {
+      sorted = λ i j d le within. absurd (omega (arith, within));
+      each = tt;
+      places = λ item kept may. absurd may;
+    });
+  };
+  after = record { are = are; begun = inl refl; grown = after };
+}

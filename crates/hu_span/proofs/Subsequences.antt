@@ -16,17 +16,17 @@ use Rattle.hu_kind.proofs.lemmas.Occurring.{Member-sublists, at_member, counted,
 
 -- ---- where one of two utilities is some
 
-some_left : (a b : Option ℤ) → is_some a ≡ true → is_some (better a b) ≡ true
+pub some_left : (a b : Option ℤ) → is_some a ≡ true → is_some (better a b) ≡ true
 some_left None b h = cc
 some_left (Some x) None h = refl
 some_left (Some x) (Some y) h = refl
 
-some_right : (a b : Option ℤ) → is_some b ≡ true → is_some (better a b) ≡ true
+pub some_right : (a b : Option ℤ) → is_some b ≡ true → is_some (better a b) ≡ true
 some_right None b h = h
 some_right (Some x) None h = refl
 some_right (Some x) (Some y) h = refl
 
-some_cases : (a b : Option ℤ) → is_some (better a b) ≡ true → (is_some a ≡ true) ⊎ (is_some b ≡ true)
+pub some_cases : (a b : Option ℤ) → is_some (better a b) ≡ true → (is_some a ≡ true) ⊎ (is_some b ≡ true)
 some_cases None b h = inr h
 some_cases (Some x) b h = inl refl
 
@@ -111,7 +111,7 @@ sub-ascending (e ∷ es) pattern up m =
     (led-ascending by_set.0 rest.0 (Ascend-sublist (items_in e) by_set.0 up.0 by_set.1) (sub-ascending es rest.0 up.1 rest.1))
 
 -- each subsequence occurs
-some-here : (b : Bool) (v : ℤ) (u : Option ℤ) → b ≡ true → is_some u ≡ true → is_some (cond b (option_map (λ x. v +ℤ x) u) None) ≡ true
+pub some-here : (b : Bool) (v : ℤ) (u : Option ℤ) → b ≡ true → is_some u ≡ true → is_some (cond b (option_map (λ x. v +ℤ x) u) None) ≡ true
 some-here true v u e h = some_map (λ x. v +ℤ x) u ∙ h
 some-here false v u e h = cc
 
@@ -138,7 +138,7 @@ sub-occurs (e ∷ es) pattern m =
 Member-sublists-none : (xs : List ℕ) → Ascend xs → Member [] (sublists xs)
 Member-sublists-none xs up = Member-sublists xs [] up tt tt
 
-held_and_later : (b : Bool) (v : ℤ) (u : Option ℤ) → is_some (cond b (option_map (λ x. v +ℤ x) u) None) ≡ true → (b ≡ true) × (is_some u ≡ true)
+pub held_and_later : (b : Bool) (v : ℤ) (u : Option ℤ) → is_some (cond b (option_map (λ x. v +ℤ x) u) None) ≡ true → (b ≡ true) × (is_some u ≡ true)
 held_and_later true v u h = (refl, sym (some_map (λ x. v +ℤ x) u) ∙ h)
 held_and_later false v u h = cc
 

@@ -1,11 +1,11 @@
 -- The rules of tails and walks, and of the marks that they give.
 use Rattle.std.proofs.Common.{◌≡◌, ℕ, zero, suc, ◌+◌, ◌<◌, ◌≤◌, ◌^◌, Bool, true, false, cond, eqb, ℤ, pos, ◌+ℤ◌, ◌-ℤ◌, ◌≤ℤ◌, ◌<ℤ◌, List, [], ◌∷◌, ◌++◌}
-use Rattle.std.proofs.Common.{length, length-drop, append_assoc, append-nil, get_or, take, ◌-◌, drop, refl, sym, ap, ◌∙◌, subst, arith, sum_by}
-use Rattle.std.specs.Int.{int_max}
+use Rattle.std.proofs.Common.{filter, to_z, of_z, length, length-drop, append_assoc, append-nil, get_or, take, ◌-◌, drop, refl, sym, ap, ◌∙◌, subst, arith, sum_by}
+use Rattle.std.specs.Int.{int_max, w128}
 use Rattle.std.specs.List.{AllByRecursion}
 use Rattle.std.proofs.lemmas.Bool.{eqb-true}
 use Rattle.std.proofs.lemmas.Int.{ints, clamps}
-use Rattle.std.proofs.lemmas.List.{drop_more, length-map, map-append, take_all}
+use Rattle.std.proofs.lemmas.List.{drop_more, drop-map, length-map, map-append, take_all}
 use Rattle.std.proofs.lemmas.List.Sums.{sum_by-cons}
 use Rattle.hu_kind.specs.declared.item.Cell.{Cell}
 use Rattle.hu_kind.specs.Cell.{pairs_of, pair_of}
@@ -18,12 +18,15 @@ use Rattle.hu_chain.specs.Place.{element_at, totals}
 use Rattle.hu_chain.specs.Search.{best_past, left_past, IsLeft, IsPlain, IsPlaceOf}
 use Rattle.hu_chain.proofs.lemmas.Bounds.{plain-rules}
 use Rattle.hu_chain.proofs.lemmas.Cells.{each-drop, each-take, pairs-drop, total-above, total-parts, IsAbove}
-use Rattle.hu_chain.proofs.lemmas.Gathered.{place-at}
+use Rattle.hu_chain.proofs.lemmas.Gathered.{place-at, totals-all}
 use Rattle.hu_span.specs.declared.gather.Tail.{Tail}
 use Rattle.hu_span.specs.declared.gather.Walk.{Walk}
 use Rattle.hu_span.specs.declared.mark.Mark.{Mark}
-use Rattle.hu_span.specs.Gather.{cells_after, marks_in, marks_past, tail_marks, walk_marks, IsTail, IsWalk, StaysFit}
+use Rattle.hu_span.specs.Gather.{cells_after, marks_in, marks_past, tail_marks, walk_marks, IsInside, IsTail, IsWalk, StaysFit}
+use Rattle.hu_span.specs.Kept.{counted, takes, weighed, weighed_in}
 use Rattle.hu_span.specs.Mark.{mark_at, places_of}
+use Rattle.hu_span.proofs.NumberLemmas.{kept-z}
+use Rattle.hu_span.proofs.WeighedLemmas.{weigh, weighed-after, weighed-element, weighed-inside}
 
 -- ---- the marks of a tail
 
@@ -43,8 +46,17 @@ stays-fit old new more is fit before =
     subst (λ ms. AllByRecursion IsFit (places_of ms)) (sym is)
     (subst (AllByRecursion IsFit) (sym (map-append (λ (mark : Mark). mark.place) old more)) (each-append IsFit (places_of old) (places_of more) before fit))
 
-pub fit-in : (tail : Tail) → IsTail tail → AllByRecursion IsFit (places_of (marks_in tail))
-fit-in tail is = fit-tail tail.row tail.element tail.first tail.best tail.ahead (pairs_of tail.cells.now) is.none_below is.best is.holds is.fits
+pub fit-taken : (p : Mark → Bool) (marks : List Mark) → AllByRecursion IsFit (places_of marks) → AllByRecursion IsFit (places_of (filter p marks))
+fit-taken p [] fit = tt
+fit-taken p (mark ∷ marks) fit = by (p mark) (fit-taken p marks fit.1)
+  where
+    by : (b : Bool) → AllByRecursion IsFit (places_of (filter p marks)) → AllByRecursion IsFit (places_of (cond b (mark ∷ filter p marks) (filter p marks)))
+    by true rest = (fit.0, rest)
+    by false rest = rest
+
+pub fit-in : (keep : ℕ → Bool) (tail : Tail) → IsTail keep tail → AllByRecursion IsFit (places_of (filter (takes keep) (marks_in keep tail)))
+fit-in keep tail is = fit-taken (takes keep) (marks_in keep tail)
+    (fit-tail tail.row tail.element tail.first tail.best tail.ahead (weighed keep (pairs_of tail.cells.now)) is.none_below is.best is.holds is.fits)
 
 -- ---- the elements of a sequence
 
@@ -69,18 +81,17 @@ pub record AreAfter (elements : List (List (ℕ × ℤ))) (place : Place) (cells
   pub within : place.cell + 1 ≤ length cells
   pub are : pairs_of (take (length cells - (place.cell + 1)) (drop (place.cell + 1) cells)) ≡ cells_after elements place
 
-pub are-after : (elements : List (List (ℕ × ℤ))) (place : Place) (element : List (ℕ × ℤ)) (cells : List Cell) → (last : ℕ) × IsPlaceOf elements last place
+pub are-after : (elements : List (List (ℕ × ℤ))) (place : Place) (element : List (ℕ × ℤ)) (cells : List Cell) → IsInside elements place
     → element ≡ get_or elements place.element element → pairs_of cells ≡ element → AreAfter elements place cells
 are-after elements place element cells is at same =
-    let inside = place-at elements is.0 place is.1 in
-    let here : pairs_of cells ≡ element_at elements place.element = same ∙ at ∙ element_at-any elements place.element element inside.0 in
+    let here : pairs_of cells ≡ element_at elements place.element = same ∙ at ∙ element_at-any elements place.element element is.element in
     let size = length-map cells pair_of in
     let short = ap length here in
     let n : place.cell + 1 ≡ suc place.cell = omega arith in
     let rest = drop (place.cell + 1) cells in
     let long = length-drop (place.cell + 1) cells in
     record {
-      within = omega (arith, inside.1, size, short);
+      within = omega (arith, is.cell, size, short);
       are = ap pairs_of (take_all (length cells - (place.cell + 1)) rest (omega (arith, long))) ∙ pairs-drop (place.cell + 1) cells ∙
           (λ j. drop (n j) (here j));
     }
@@ -103,6 +114,16 @@ low-totals (cells ∷ elements) plain =
     let rest = low-totals elements plain.1 in
     omega (arith, ints)
 
+later-all : (elements : List (List (ℕ × ℤ))) → AllByRecursion IsPlain elements → (e : ℕ) → totals (drop e elements) ≤ℤ totals elements
+later-all [] plain zero = omega (arith, ints)
+later-all [] plain (suc e) = omega (arith, ints)
+later-all (cells ∷ elements) plain zero = omega (arith, ints)
+later-all (cells ∷ elements) plain (suc e) =
+    let first = plain.0 in
+    let here = total-above cells first.none_below in
+    let rest = later-all elements plain.1 e in
+    omega (arith, ints)
+
 -- ---- the marks beside a place
 
 module _ (elements : List (List (ℕ × ℤ))) (rules : IsSequence elements) where
@@ -121,13 +142,33 @@ module _ (elements : List (List (ℕ × ℤ))) (rules : IsSequence elements) whe
   pub low-at : (e : ℕ) → pos 0 ≤ℤ total (element_at elements e)
   low-at e = total-above (element_at elements e) (above-at elements e plain)
 
+  pub element_above : (e : ℕ) → AllByRecursion IsAbove (element_at elements e)
+  element_above e = above-at elements e plain
+
+  pub later-within : (e : ℕ) → totals (drop e elements) ≤ℤ totals elements
+  later-within e = later-all elements plain e
+
+  pub totals-fit : totals elements <ℤ pos (2 ^ 127)
+  totals-fit = let all = totals-all elements rules in let fits = rules.sum_fits in omega (arith, ints, all, fits)
+
   pub low-later : (e : ℕ) → pos 0 ≤ℤ totals (drop e elements)
   low-later e = low-totals (drop e elements) (each-drop IsPlain e elements plain)
 
-  pub tail-beside : (last : ℕ) (place : Place) (tail : Tail) → IsPlaceOf elements last place → IsFit place → tail.first ≡ suc place.cell
-      → pairs_of tail.cells.now ≡ cells_after elements place
-      → tail.best ≡ place.best → tail.ahead ≡ place.rest → IsTail tail
-  tail-beside last place tail is fit first cells best ahead =
+  -- what is left after a place fits
+  pub rest-fits : (place : Place) → IsInside elements place → (total (cells_after elements place) +ℤ totals (drop (suc place.element) elements)) <ℤ pos (2 ^ 127)
+  rest-fits place is =
+      let cells = element_at elements place.element in
+      let parts = total-parts (suc place.cell) cells in
+      let front = total-above (take (suc place.cell) cells) (each-take IsAbove (suc place.cell) cells (element_above place.element)) in
+      let split = ap totals (drop-at elements place.element is.element) in
+      let most = later-within place.element in
+      let fits = totals-fit in
+      omega (arith, ints, parts, front, split, most, fits)
+
+  pub tail-beside : (keep : ℕ → Bool) (last : ℕ) (place : Place) (tail : Tail) → IsPlaceOf elements last place → IsFit place → tail.first ≡ suc place.cell
+      → weighed keep (pairs_of tail.cells.now) ≡ cells_after elements place
+      → tail.best ≡ place.best → tail.ahead ≡ place.rest → IsTail keep tail
+  tail-beside keep last place tail is fit first cells best ahead =
       let at = place-at elements last place is in
       let low = fit.best in
       let high = fit.reach in
@@ -135,12 +176,13 @@ module _ (elements : List (List (ℕ × ℤ))) (rules : IsSequence elements) whe
       let rest = is.rest in
       let later = low-later (suc place.element) in
       let size = length-map tail.cells.now pair_of in
+      let size' = length-map (pairs_of tail.cells.now) (weigh keep) in
       let short = ap length cells in
       let dropped = length-drop (suc place.cell) (element_at elements place.element) in
       let same = ap total cells in
       record {
         none_below = subst (AllByRecursion IsAbove) (sym cells) (after-above place);
-        few = omega (arith, at.1, most, size, short, dropped, first);
+        few = omega (arith, at.1, most, size, size', short, dropped, first);
         best = omega (arith, ints, best, low);
         holds = omega (arith, ints, same, rest, later, ahead);
         fits = omega (arith, ints, best, ahead, high);
@@ -148,21 +190,22 @@ module _ (elements : List (List (ℕ × ℤ))) (rules : IsSequence elements) whe
 
   -- ---- one more element of a walk
 
-  pub tail-walk : (e : ℕ) (walk : Walk) (tail : Tail) → IsWalk elements e walk → e < length elements → tail.first ≡ 0
-      → pairs_of tail.cells.now ≡ element_at elements e
-      → tail.best ≡ walk.best → tail.ahead ≡ walk.ahead → IsTail tail
-  tail-walk e walk tail is within first cells best ahead =
+  pub tail-walk : (keep : ℕ → Bool) (e : ℕ) (walk : Walk) (tail : Tail) → IsWalk elements e walk → e < length elements → tail.first ≡ 0
+      → weighed keep (pairs_of tail.cells.now) ≡ element_at elements e
+      → tail.best ≡ walk.best → tail.ahead ≡ walk.ahead → IsTail keep tail
+  tail-walk keep e walk tail is within first cells best ahead =
       let low = is.best in
       let high = is.fits in
       let most = few e in
       let left = is.ahead ∙ ap totals (drop-at elements e within) in
       let later = low-later (suc e) in
       let size = length-map tail.cells.now pair_of in
+      let size' = length-map (pairs_of tail.cells.now) (weigh keep) in
       let short = ap length cells in
       let same = ap total cells in
       record {
         none_below = subst (AllByRecursion IsAbove) (sym cells) (above-at elements e plain);
-        few = omega (arith, most, size, short, first);
+        few = omega (arith, most, size, size', short, first);
         best = omega (arith, ints, best, low);
         holds = omega (arith, ints, same, left, later, ahead);
         fits = omega (arith, ints, best, ahead, high);
@@ -231,47 +274,62 @@ module _ (elements : List (List (ℕ × ℤ))) (rules : IsSequence elements) whe
 -- ---- the cells that are left of a tail
 
 -- a cell, and those after it
-pub record IsCellLeft (cells : List Cell) (i : ℕ) (cell : Cell) : Type 0 where
-  pub next : pairs_of (drop i cells) ≡ pair_of cell ∷ pairs_of (drop (i + 1) cells)
-  pub low : pos 0 ≤ℤ cell.value
-  pub later : pos 0 ≤ℤ total (pairs_of (drop (i + 1) cells))
-  pub front : total (pairs_of (drop i cells)) ≤ℤ total (pairs_of cells)
+pub record IsCellLeft (keep : ℕ → Bool) (cells : List Cell) (i : ℕ) (cell : Cell) : Type 0 where
+  pub next : weighed keep (pairs_of (drop i cells)) ≡ (cell.item.0, counted (keep cell.item.0) cell.value) ∷ weighed keep (pairs_of (drop (i + 1) cells))
+  pub low : pos 0 ≤ℤ counted (keep cell.item.0) cell.value
+  pub later : pos 0 ≤ℤ total (weighed keep (pairs_of (drop (i + 1) cells)))
+  pub front : total (weighed keep (pairs_of (drop i cells))) ≤ℤ total (weighed keep (pairs_of cells))
 
-pub cell-left : (cells : List Cell) (i : ℕ) (d : Cell) → AllByRecursion IsAbove (pairs_of cells) → i < length cells → IsCellLeft cells i (get_or cells i d)
-cell-left cells i d above within =
-    let split = ap pairs_of (drop_more cells i d within) in
-    let rest = subst (AllByRecursion IsAbove) (sym (pairs-drop i cells)) (each-drop IsAbove i (pairs_of cells) above) in
+pub cell-left : (keep : ℕ → Bool) (cells : List Cell) (i : ℕ) (d : Cell) → AllByRecursion IsAbove (weighed keep (pairs_of cells)) → i < length cells
+    → IsCellLeft keep cells i (get_or cells i d)
+cell-left keep cells i d above within =
+    let whole = weighed keep (pairs_of cells) in
+    let split = ap (λ cs. weighed keep (pairs_of cs)) (drop_more cells i d within) in
+    let dropped : weighed keep (pairs_of (drop i cells)) ≡ drop i whole = ap (weighed keep) (pairs-drop i cells) ∙ sym (drop-map (weigh keep) i (pairs_of cells)) in
+    let rest = subst (AllByRecursion IsAbove) (sym dropped) (each-drop IsAbove i whole above) in
     let both = subst (AllByRecursion IsAbove) split rest in
-    let before = total-above (take i (pairs_of cells)) (each-take IsAbove i (pairs_of cells) above) in
-    let parts = total-parts i (pairs_of cells) in
-    let same = ap total (pairs-drop i cells) in
+    let before = total-above (take i whole) (each-take IsAbove i whole above) in
+    let parts = total-parts i whole in
+    let same = ap total dropped in
     record {
       next = split;
       low = both.0;
-      later = total-above (pairs_of (drop (i + 1) cells)) both.1;
+      later = total-above (weighed keep (pairs_of (drop (i + 1) cells))) both.1;
       front = omega (arith, ints, before, parts, same);
     }
 
--- one more mark
-pub tail-next : (row e c : ℕ) (best rest : ℤ) (cells : List Cell) (i : ℕ) (cell : Cell) (marks new whole : List Mark) (mark : Mark) (c' : ℕ) (rest' : ℤ)
-    → IsCellLeft cells i cell
-    → new ≡ marks ++ mark ∷ [] → mark ≡ mark_at row cell.item.0 (record { element = e; cell = c; best = best +ℤ cell.value; rest = rest -ℤ cell.value })
-    → c' ≡ suc c → rest' ≡ rest -ℤ cell.value
-    → marks ++ tail_marks row e c best rest (pairs_of (drop i cells)) ≡ whole → new ++ tail_marks row e c' best rest' (pairs_of (drop (i + 1) cells)) ≡ whole
-tail-next row e c best rest cells i cell marks new whole mark c' rest' left pushed is next less so_far =
-    let after = tail_marks row e (suc c) best (rest -ℤ cell.value) (pairs_of (drop (i + 1) cells)) in
-    let here = mark_at row cell.item.0 (record { element = e; cell = c; best = best +ℤ cell.value; rest = rest -ℤ cell.value }) in
-    (λ j. pushed j ++ tail_marks row e (next j) best (less j) (pairs_of (drop (i + 1) cells)))
-    ∙ append_assoc marks (mark ∷ []) after
-    ∙ (λ j. marks ++ is j ∷ after)
-    ∙ ap (λ ps. marks ++ tail_marks row e c best rest ps) (sym left.next)
+-- a value that counts is kept as a number
+pub counted-z : (b : Bool) (v : ℤ) → pos 0 ≤ℤ counted b v → counted b v <ℤ pos (2 ^ 127) → counted b (to_z w128 (of_z w128 v)) ≡ counted b v
+counted-z true v low high = kept-z v low high
+counted-z false v low high = refl
+
+taken-next : (marks : List Mark) (b : Bool) (mark : Mark) (rest : List Mark) → (marks ++ filter (λ _. b) (mark ∷ [])) ++ rest ≡ marks ++ cond b (mark ∷ rest) rest
+taken-next marks true mark rest = append_assoc marks (mark ∷ []) rest
+taken-next marks false mark rest = ap (λ ms. ms ++ rest) (append-nil marks)
+
+-- one more cell
+pub tail-next : (keep : ℕ → Bool) (row e c : ℕ) (best rest : ℤ) (cells : List Cell) (i : ℕ) (cell : Cell) (marks new whole : List Mark) (mark : Mark) (c' : ℕ) (rest' : ℤ)
+    (is_kept : Bool) → IsCellLeft keep cells i cell → is_kept ≡ keep cell.item.0
+    → new ≡ marks ++ filter (λ _. is_kept) (mark ∷ [])
+    → mark ≡ mark_at row cell.item.0 (record { element = e; cell = c; best = best +ℤ counted (keep cell.item.0) cell.value; rest = rest -ℤ counted (keep cell.item.0) cell.value })
+    → c' ≡ suc c → rest' ≡ rest -ℤ counted (keep cell.item.0) cell.value
+    → marks ++ filter (takes keep) (tail_marks row e c best rest (weighed keep (pairs_of (drop i cells)))) ≡ whole
+    → new ++ filter (takes keep) (tail_marks row e c' best rest' (weighed keep (pairs_of (drop (i + 1) cells)))) ≡ whole
+tail-next keep row e c best rest cells i cell marks new whole mark c' rest' is_kept left kept pushed is next less so_far =
+    let v = counted (keep cell.item.0) cell.value in
+    let more = weighed keep (pairs_of (drop (i + 1) cells)) in
+    let after = filter (takes keep) (tail_marks row e (suc c) best (rest -ℤ v) more) in
+    (λ j. (pushed j) ++ filter (takes keep) (tail_marks row e (next j) best (less j) more))
+    ∙ (λ j. (marks ++ filter (λ _. kept j) (is j ∷ [])) ++ after)
+    ∙ taken-next marks (keep cell.item.0) (mark_at row cell.item.0 (record { element = e; cell = c; best = best +ℤ v; rest = rest -ℤ v })) after
+    ∙ ap (λ ps. marks ++ filter (takes keep) (tail_marks row e c best rest ps)) (sym left.next)
     ∙ so_far
 
-pub tail-end : (row e c : ℕ) (best rest : ℤ) (cells : List Cell) (i : ℕ) (marks whole : List Mark) → length cells ≤ i
-    → marks ++ tail_marks row e c best rest (pairs_of (drop i cells)) ≡ whole
+pub tail-end : (keep : ℕ → Bool) (row e c : ℕ) (best rest : ℤ) (cells : List Cell) (i : ℕ) (marks whole : List Mark) → length cells ≤ i
+    → marks ++ filter (takes keep) (tail_marks row e c best rest (weighed keep (pairs_of (drop i cells)))) ≡ whole
     → marks ≡ whole
-tail-end row e c best rest cells i marks whole past so_far =
-    sym (append-nil marks) ∙ ap (λ cs. marks ++ tail_marks row e c best rest (pairs_of cs)) (sym (drop-past cells i past)) ∙ so_far
+tail-end keep row e c best rest cells i marks whole past so_far =
+    sym (append-nil marks) ∙ ap (λ cs. marks ++ filter (takes keep) (tail_marks row e c best rest (weighed keep (pairs_of cs)))) (sym (drop-past cells i past)) ∙ so_far
 
 -- the walk after the first place of a row
 pub walk-later : (elements : List (List (ℕ × ℤ))) (last : ℕ) (place : Place) (places : List Place) (walk : Walk) → IsSequence elements
@@ -298,3 +356,21 @@ walk-later elements last place places walk rules is are fit fits best ahead left
         let rest = first.rest in
         let here = total-above (cells_after elements p) (after-above elements rules p) in
         (record { fit = f.0; rest = omega (arith, ints, rest, here) }, each-left-of ps a.1 f.1)
+
+-- ---- where fewer items count
+
+pub inside-of : (keep : ℕ → Bool) (elements : List (List (ℕ × ℤ))) (last : ℕ) (place : Place) → IsPlaceOf (weighed_in keep elements) last place → IsInside elements place
+inside-of keep elements last place is =
+    let at = place-at (weighed_in keep elements) last place is in
+    weighed-inside keep elements place (record { element = at.0; cell = at.1 })
+
+pub after-of : (keep : ℕ → Bool) (elements : List (List (ℕ × ℤ))) (place : Place) (cells : List (ℕ × ℤ)) → cells ≡ cells_after elements place
+    → weighed keep cells ≡ cells_after (weighed_in keep elements) place
+after-of keep elements place cells is = ap (weighed keep) is ∙ sym (weighed-after keep elements place)
+
+pub inside-weighed : (keep : ℕ → Bool) (elements : List (List (ℕ × ℤ))) (place : Place) → IsInside elements place → IsInside (weighed_in keep elements) place
+inside-weighed keep elements place is =
+    let size = length-map elements (weighed keep) in
+    let here = ap length (weighed-element keep elements place.element) in
+    let cells = length-map (element_at elements place.element) (weigh keep) in
+    record { element = omega (arith, size, is.element); cell = omega (arith, here, cells, is.cell) }

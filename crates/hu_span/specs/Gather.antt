@@ -1,5 +1,5 @@
 -- The marks of all items by which a pattern can grow, by its places in a record.
-use Rattle.std.specs.Prelude.{◌≡◌, ◌==◌, if◌then◌else◌, ◌+◌, ◌≤◌, ◌^◌, ⊤, ℕ, suc, ℤ, pos, ◌+ℤ◌, ◌-ℤ◌, ◌≤ℤ◌, ◌<ℤ◌, List, [], ◌∷◌, ◌++◌, drop, length}
+use Rattle.std.specs.Prelude.{◌≡◌, ◌==◌, Bool, true, if◌then◌else◌, ◌+◌, ◌<◌, ◌≤◌, ◌^◌, ⊤, ℕ, suc, ℤ, pos, ◌+ℤ◌, ◌-ℤ◌, ◌≤ℤ◌, ◌<ℤ◌, List, [], ◌∷◌, ◌++◌, drop, length}
 use Rattle.std.specs.List.{flat_map, AllByRecursion}
 use Rattle.std.specs.List.Sorted.{IsNonDecreasingBy}
 use Rattle.hu_kind.specs.Cell.{pairs_of}
@@ -14,6 +14,7 @@ use Rattle.hu_chain.specs.Search.{best_past, left_past, IsLeft}
 use Rattle.hu_span.specs.declared.mark.Mark.{Mark}
 use Rattle.hu_span.specs.declared.gather.Tail.{Tail}
 use Rattle.hu_span.specs.declared.gather.Walk.{Walk}
+use Rattle.hu_span.specs.Kept.{weighed}
 use Rattle.hu_span.specs.Mark.{mark_at, marks_of, marks_with, places_of}
 
 -- the marks of the cells of an element, of which the first has a number: occurrences that end before them earn a sum, and
@@ -33,6 +34,11 @@ walk_marks row e best ahead places (cells ∷ later) =
 abbrev pub cells_after : List (List (ℕ × ℤ)) → Place → List (ℕ × ℤ)
 cells_after elements place = drop (suc place.cell) (element_at elements place.element)
 
+-- a place stands at a cell
+pub record IsInside (elements : List (List (ℕ × ℤ))) (place : Place) : Type 0 where
+  pub element : place.element < length elements
+  pub cell : place.cell < length (element_at elements place.element)
+
 -- the marks beside a place
 abbrev pub beside_marks : List (List (ℕ × ℤ)) → ℕ → Place → List Mark
 beside_marks elements row place = tail_marks row place.element (suc place.cell) place.best place.rest (cells_after elements place)
@@ -49,8 +55,8 @@ row_marks IntoLast elements row places = flat_map (beside_marks elements row) pl
 row_marks AfterLast elements row places = later_marks elements row places
 
 -- those of a record's tail and of a walk
-abbrev pub marks_in : Tail → List Mark
-marks_in tail = tail_marks tail.row tail.element tail.first tail.best tail.ahead (pairs_of tail.cells.now)
+abbrev pub marks_in : (ℕ → Bool) → Tail → List Mark
+marks_in keep tail = tail_marks tail.row tail.element tail.first tail.best tail.ahead (weighed keep (pairs_of tail.cells.now))
 
 abbrev pub marks_past : List (List (ℕ × ℤ)) → ℕ → Walk → List Mark
 marks_past elements first walk = walk_marks walk.row first walk.best walk.ahead (places_of walk.left.now) (drop first elements)
@@ -64,16 +70,17 @@ abbrev pub MayTake : Growth → List (List ℕ) → ℕ → Type 0
 MayTake growth [] item = Begins growth
 MayTake growth (items ∷ pattern) item = CanGrow growth (items ∷ pattern) item
 
--- a mark by which a pattern may grow
-pub record IsGrowth (growth : Growth) (pattern : List (List ℕ)) (mark : Mark) : Type 0 where
+-- a mark by which a pattern may grow with kept items
+pub record IsGrowth (keep : ℕ → Bool) (growth : Growth) (pattern : List (List ℕ)) (mark : Mark) : Type 0 where
+  pub kept : keep mark.item.0 ≡ true
   pub may : MayTake growth pattern mark.item.0
   pub fit : IsFit mark.place
 
--- marks of all items by which a pattern can grow, in the order of the items: those of each are the places of the grown pattern
-pub record AreGrown (records : List (List (List (ℕ × ℤ)))) (pattern : List (List ℕ)) (growth : Growth) (marks : List Mark) : Type 0 where
+-- marks of all kept items by which a pattern can grow, in the order of the items: those of each are the places of the grown pattern
+pub record AreGrown (records : List (List (List (ℕ × ℤ)))) (keep : ℕ → Bool) (pattern : List (List ℕ)) (growth : Growth) (marks : List Mark) : Type 0 where
   pub sorted : IsNonDecreasingBy (λ mark. mark.item.0) marks
-  pub each : AllByRecursion (IsGrowth growth pattern) marks
-  pub places : (item : ℕ) → MayTake growth pattern item → marks_with item marks ≡ marks_of records (grown growth pattern item) item
+  pub each : AllByRecursion (IsGrowth keep growth pattern) marks
+  pub places : (item : ℕ) → keep item ≡ true → MayTake growth pattern item → marks_with item marks ≡ marks_of records (grown growth pattern item) item
 
 -- marks of which no sum is too large stay so
 abbrev pub StaysFit : List Mark → List Mark → Type 0
@@ -84,12 +91,12 @@ abbrev pub front_of : ℕ → List Mark → ℕ
 front_of row [] = 0
 front_of row (mark ∷ marks) = if mark.row == row then suc (front_of row marks) else 0
 
--- the rules of a tail: no value is below 0, and no sum is too large
-pub record IsTail (tail : Tail) : Type 0 where
-  pub none_below : AllByRecursion (λ cell. pos 0 ≤ℤ cell.1) (pairs_of tail.cells.now)
+-- the rules of a tail in which kept items count: no value is below 0, and no sum is too large
+pub record IsTail (keep : ℕ → Bool) (tail : Tail) : Type 0 where
+  pub none_below : AllByRecursion (λ cell. pos 0 ≤ℤ cell.1) (weighed keep (pairs_of tail.cells.now))
   pub few : tail.first + length tail.cells.now ≤ 4096
   pub best : pos 0 ≤ℤ tail.best
-  pub holds : total (pairs_of tail.cells.now) ≤ℤ tail.ahead
+  pub holds : total (weighed keep (pairs_of tail.cells.now)) ≤ℤ tail.ahead
   pub fits : (tail.best +ℤ tail.ahead) <ℤ pos (2 ^ 127)
 
 -- the rules of a walk before an element

@@ -1,3 +1,4 @@
+pub mod Kept
 pub mod Step
 pub mod Mark
 pub mod Gather
@@ -5,4 +6,5 @@ pub mod Tally
 pub mod Growing
 pub mod Child
 pub mod Search
+pub mod Cut
 pub mod Worked

@@ -1,12 +1,14 @@
 -- Worked rows: steps, and the marks by which a pattern can grow, by computation.
-use Rattle.std.specs.Prelude.{◌≡◌, ℕ, pos, negsuc, List, [], ◌∷◌, refl}
+use Rattle.std.specs.Prelude.{◌≡◌, ℕ, false, pos, negsuc, List, [], ◌∷◌, refl}
 use Rattle.hu_kind.specs.Sequence.{sequence_key}
 use Rattle.hu_chain.specs.declared.chain.Growth.{Growth}
 use Rattle.hu_chain.specs.declared.chain.Growth.TheVariants.{IntoLast, AfterLast}
 use Rattle.hu_chain.specs.Place.{chain_of}
 use Rattle.hu_chain.specs.Worked.{one, place_of, several_places, whole_record}
 use Rattle.hu_span.specs.declared.step.Step.{Step}
+use Rattle.hu_span.specs.Cut.{spread}
 use Rattle.hu_span.specs.Gather.{row_marks}
+use Rattle.hu_span.specs.Kept.{keeps, weighed_in}
 use Rattle.hu_span.specs.Mark.{mark_at, marks_of}
 use Rattle.hu_span.specs.Step.{closed, open_key, pattern_of}
 use Rattle.hu_span.specs.Tally.{bests_of, reaches_of, told}
@@ -48,3 +50,12 @@ told_of_one = refl
 
 pub bound_of_one : reaches_of (told (marks_of (several_places ∷ whole_record ∷ []) one 1)) ≡ pos 60
 bound_of_one = refl
+
+-- where 1 and 3 count alone, `1[9] -1 2[1] -1 1[2] -1 3[8] -1` is `1[9] -1 2[0] -1 1[2] -1 3[8] -1`
+pub weighed_places : weighed_in (keeps (false, record { 0 = 1 } ∷ record { 0 = 3 } ∷ [])) several_places
+    ≡ ((1, pos 9) ∷ []) ∷ ((2, pos 0) ∷ []) ∷ ((1, pos 2) ∷ []) ∷ ((3, pos 8) ∷ []) ∷ []
+weighed_places = refl
+
+-- rows that reach 20 and 40: two marks of the second row count once
+pub spread_of_rows : spread (pos 20 ∷ pos 40 ∷ []) (mark_at 1 4 (place_of 0 1 13 27) ∷ mark_at 1 4 (place_of 2 0 5 3) ∷ []) ≡ pos 40
+spread_of_rows = refl

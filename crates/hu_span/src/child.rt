@@ -1,6 +1,6 @@
 //! The patterns with one step more than a pattern.
 
-ghost use Rattle.std.specs.Prelude.{◌≡◌, ◌++◌, ◌⊎◌, ◌<ℤ◌, IfOk, OnOk};
+ghost use Rattle.std.specs.Prelude.{◌≡◌, ◌++◌, ◌⊎◌, ◌<ℤ◌, ℕ, Bool, IfOk, OnOk};
 ghost use Rattle.std.specs.List.{AllByRecursion, Contains};
 ghost use Rattle.hu_span.specs.Child.{AreChildren, AreChildrenBy, Fall, IsChild, IsGathered, IsStep, kept_by, kept_if};
 ghost use Rattle.hu_span.specs.Growing.{Pattern, Records};
@@ -32,11 +32,11 @@ pub(crate) fn children_of<'a>(
     into: &'a [Mark],
     after: &'a [Mark],
 ) -> Result<Vec<Child<'a>>, NoMemory>
-    requires into { (rs : Records) × (p : Pattern) × IsGathered rs p Growth.IntoLast into.now }
-    requires after { (rs : Records) × (p : Pattern) × IsGathered rs p Growth.AfterLast after.now }
-    ensures { (rs : Records) → (p : Pattern) → IsGathered rs p Growth.IntoLast into.now
-        → IsGathered rs p Growth.AfterLast after.now
-        → IfOk result (λ children. AreChildren rs p children.items) }
+    requires into { (rs : Records) × (keep : ℕ → Bool) × (p : Pattern) × IsGathered rs keep p Growth.IntoLast into.now }
+    requires after { (rs : Records) × (keep : ℕ → Bool) × (p : Pattern) × IsGathered rs keep p Growth.AfterLast after.now }
+    ensures { (rs : Records) → (keep : ℕ → Bool) → (p : Pattern) → IsGathered rs keep p Growth.IntoLast into.now
+        → IsGathered rs keep p Growth.AfterLast after.now
+        → IfOk result (λ children. AreChildren rs keep p children.items) }
 {
     let mut children = children_by(alloc, into, Growth::IntoLast)?;
     let mut later = children_by(alloc, after, Growth::AfterLast)?;
@@ -50,9 +50,9 @@ fn children_by<'a>(
     marks: &'a [Mark],
     growth: Growth,
 ) -> Result<Vec<Child<'a>>, NoMemory>
-    requires { (rs : Records) × (p : Pattern) × IsGathered rs p growth marks.now }
-    ensures { (rs : Records) → (p : Pattern) → IsGathered rs p growth marks.now
-        → IfOk result (λ children. AreChildrenBy rs p growth children.items) }
+    requires { (rs : Records) × (keep : ℕ → Bool) × (p : Pattern) × IsGathered rs keep p growth marks.now }
+    ensures { (rs : Records) → (keep : ℕ → Bool) → (p : Pattern) → IsGathered rs keep p growth marks.now
+        → IfOk result (λ children. AreChildrenBy rs keep p growth children.items) }
 {
     let mut children = Vec::new(alloc);
     'items: for item in &items_of(alloc, marks)? {
@@ -67,10 +67,10 @@ fn children_by<'a>(
 
 /// The child of a step, by its marks.
 fn child_of<'a>(step: Step, marks: &'a [Mark]) -> Child<'a>
-    requires { (rs : Records) × (p : Pattern) × IsStep rs p step marks.now }
+    requires { (rs : Records) × (keep : ℕ → Bool) × (p : Pattern) × IsStep rs keep p step marks.now }
     ensures step { result.step ≡ step }
-    ensures child { (rs : Records) → (p : Pattern)
-        → IsStep rs p step marks.now → IsChild rs p result }
+    ensures child { (rs : Records) → (keep : ℕ → Bool) → (p : Pattern)
+        → IsStep rs keep p step marks.now → IsChild rs keep p result }
 {
     let tally = tally_of(marks);
     Child {

@@ -1,79 +1,135 @@
 //! The marks of all items by which a pattern can grow, gathered in one pass over its places.
 
-ghost use Rattle.std.specs.Prelude.{◌≡◌, ◌++◌, ◌^◌, ◌-ℤ◌, ◌≤ℤ◌, ◌<ℤ◌, ℕ, pos, [], ◌∷◌, IfOk, OnOk};
-ghost use Rattle.std.specs.List.{AllByRecursion};
+ghost use Rattle.std.specs.Prelude.{◌≡◌, ◌++◌, ◌^◌, ◌-ℤ◌, ◌≤ℤ◌, ◌<ℤ◌, ℕ, pos, drop, [], ◌∷◌, IfOk, OnOk};
+ghost use Rattle.std.specs.List.{AllByRecursion, filter};
 ghost use Rattle.hu_kind.specs.Cell.{pairs_of};
 ghost use Rattle.hu_kind.specs.Record.{total};
 ghost use Rattle.hu_kind.specs.Sequence.{IsSequence};
 ghost use Rattle.hu_chain.specs.Bound.{IsFit};
 ghost use Rattle.hu_chain.specs.Pattern.{last_item};
+ghost use Rattle.hu_chain.specs.Place.{totals};
 ghost use Rattle.hu_chain.specs.Search.{best_past, left_past, IsPlaceOf};
 ghost use Rattle.hu_span.specs.Child.{ArePlaces};
-ghost use Rattle.hu_span.specs.Gather.{AreGrown, IsTail, IsWalk, StaysFit, beside_marks, cells_after, front_of, later_marks, marks_in, marks_past};
+ghost use Rattle.hu_span.specs.Gather.{AreGrown, IsInside, IsTail, IsWalk, StaysFit, beside_marks, cells_after, front_of, later_marks, marks_in, marks_past};
 ghost use Rattle.hu_span.specs.Growing.{IsReached, Pattern};
+ghost use Rattle.hu_span.specs.Kept.{keeps, takes, weighed, weighed_in, weighed_of};
 ghost use Rattle.hu_span.specs.Mark.{places_of};
 
+use crate::kept::{Kept, counted};
 use crate::mark::{Mark, by_item};
 use hu_chain::{Growth, Place};
-use hu_kind::{Absolute, Cell, Element, NoMemory, SeqRecord};
+use hu_kind::{Cell, Element, NoMemory, SeqRecord};
 use std::alloc::Global;
 
-/// The marks of all items of records, in the order of the items.
-pub(crate) fn first_marks(alloc: Global, records: &[SeqRecord]) -> Result<Vec<Mark>, NoMemory>
-    ensures marks { IfOk result (λ marks. AreGrown records.now [] Growth.AfterLast marks.items) }
+/// The marks by which a pattern can grow, of both kinds of growth.
+#[derive(Drop)]
+pub(crate) struct Grown {
+    pub into: Vec<Mark>,
+    pub after: Vec<Mark>,
+}
+
+/// The marks of a pattern with a kept item more.
+pub(crate) fn gathered(
+    alloc: Global,
+    records: &[SeqRecord],
+    kept: &Kept,
+    marks: &[Mark],
+) -> Result<Grown, NoMemory>
+    requires rules { AllByRecursion IsSequence records.now }
+    requires places { (p : Pattern) × IsReached p
+        × ArePlaces (weighed_of (keeps kept.now) records.now) p (last_item p) marks.now }
+    ensures into { (p : Pattern) → IsReached p
+        → ArePlaces (weighed_of (keeps kept.now) records.now) p (last_item p) marks.now
+        → IfOk result (λ grown. AreGrown (weighed_of (keeps kept.now) records.now) (keeps kept.now) p Growth.IntoLast grown.into.items) }
+    ensures after { (p : Pattern) → IsReached p
+        → ArePlaces (weighed_of (keeps kept.now) records.now) p (last_item p) marks.now
+        → IfOk result (λ grown. AreGrown (weighed_of (keeps kept.now) records.now) (keeps kept.now) p Growth.AfterLast grown.after.items) }
+{
+    let into = marks_into(alloc, records, kept, marks)?;
+    let after = marks_after(alloc, records, kept, marks)?;
+    Ok(Grown { into, after })
+}
+
+/// The marks by which the empty pattern grows with a kept item.
+pub(crate) fn first_grown(
+    alloc: Global,
+    records: &[SeqRecord],
+    kept: &Kept,
+) -> Result<Grown, NoMemory>
+    ensures into { IfOk result (λ grown. grown.into.items ≡ []) }
+    ensures after { IfOk result (λ grown.
+        AreGrown (weighed_of (keeps kept.now) records.now) (keeps kept.now) [] Growth.AfterLast grown.after.items) }
+    ensures rules { IfOk result (λ _. AllByRecursion IsSequence records.now) }
+{
+    let after = first_marks(alloc, records, kept)?;
+    Ok(Grown {
+        into: Vec::new(alloc),
+        after,
+    })
+}
+
+/// The marks of the kept items of records, in the order of the items.
+fn first_marks(alloc: Global, records: &[SeqRecord], kept: &Kept) -> Result<Vec<Mark>, NoMemory>
+    ensures marks { IfOk result (λ marks.
+        AreGrown (weighed_of (keeps kept.now) records.now) (keeps kept.now) [] Growth.AfterLast marks.items) }
     ensures rules { IfOk result (λ _. AllByRecursion IsSequence records.now) }
 {
     let mut marks = Vec::new(alloc);
     'records: for (row, record) in records.iter().enumerate() {
+        let elements = record.elements();
         let walk = Walk {
             row,
             best: 0,
-            ahead: record.absolute(),
+            ahead: totals(kept, elements, 0),
             left: &[],
         };
-        push_walk(&mut marks, record.elements(), 0, walk)?;
+        push_walk(&mut marks, kept, elements, 0, walk)?;
     }
     by_item(&mut marks)?;
     Ok(marks)
 }
 
 /// The marks of a pattern with an item more in its last itemset, in the order of the items.
-pub(crate) fn marks_into(
+fn marks_into(
     alloc: Global,
     records: &[SeqRecord],
+    kept: &Kept,
     marks: &[Mark],
 ) -> Result<Vec<Mark>, NoMemory>
     requires rules { AllByRecursion IsSequence records.now }
     requires places { (p : Pattern) × IsReached p
-        × ArePlaces records.now p (last_item p) marks.now }
-    ensures { (p : Pattern) → IsReached p → ArePlaces records.now p (last_item p) marks.now
-        → IfOk result (λ grown. AreGrown records.now p Growth.IntoLast grown.items) }
+        × ArePlaces (weighed_of (keeps kept.now) records.now) p (last_item p) marks.now }
+    ensures { (p : Pattern) → IsReached p
+        → ArePlaces (weighed_of (keeps kept.now) records.now) p (last_item p) marks.now
+        → IfOk result (λ grown. AreGrown (weighed_of (keeps kept.now) records.now) (keeps kept.now) p Growth.IntoLast grown.items) }
 {
     let mut grown = Vec::new(alloc);
     'marks: for mark in marks {
-        push_beside(&mut grown, records[mark.row].elements(), mark)?;
+        push_beside(&mut grown, kept, records[mark.row].elements(), mark)?;
     }
     by_item(&mut grown)?;
     Ok(grown)
 }
 
 /// The marks of a pattern with an item in a new last itemset, in the order of the items.
-pub(crate) fn marks_after(
+fn marks_after(
     alloc: Global,
     records: &[SeqRecord],
+    kept: &Kept,
     marks: &[Mark],
 ) -> Result<Vec<Mark>, NoMemory>
     requires rules { AllByRecursion IsSequence records.now }
     requires places { (p : Pattern) × IsReached p
-        × ArePlaces records.now p (last_item p) marks.now }
-    ensures { (p : Pattern) → IsReached p → ArePlaces records.now p (last_item p) marks.now
-        → IfOk result (λ grown. AreGrown records.now p Growth.AfterLast grown.items) }
+        × ArePlaces (weighed_of (keeps kept.now) records.now) p (last_item p) marks.now }
+    ensures { (p : Pattern) → IsReached p
+        → ArePlaces (weighed_of (keeps kept.now) records.now) p (last_item p) marks.now
+        → IfOk result (λ grown. AreGrown (weighed_of (keeps kept.now) records.now) (keeps kept.now) p Growth.AfterLast grown.items) }
 {
     let mut grown = Vec::new(alloc);
     let mut left = marks;
     'rows: while let Some((first, later)) = left.split_first() {
         let (row, next) = later.split_at(row_len(later, first.row));
-        push_later(&mut grown, records[first.row].elements(), first, row)?;
+        push_later(&mut grown, kept, records[first.row].elements(), first, row)?;
         left = next;
     }
     by_item(&mut grown)?;
@@ -93,12 +149,19 @@ fn row_len(marks: &[Mark], row: usize) -> usize
 }
 
 /// Appends the marks of the cells after a mark in its element.
-fn push_beside(marks: &mut Vec<Mark>, elements: &[Element], mark: &Mark) -> Result<(), NoMemory>
+fn push_beside(
+    marks: &mut Vec<Mark>,
+    kept: &Kept,
+    elements: &[Element],
+    mark: &Mark,
+) -> Result<(), NoMemory>
     requires rules { IsSequence elements.now }
-    requires place { (last : ℕ) × IsPlaceOf elements.now last mark.now.place }
+    requires place { (last : ℕ)
+        × IsPlaceOf (weighed_in (keeps kept.now) elements.now) last mark.now.place }
     requires fit { IsFit mark.now.place }
     ensures marks { OnOk result (marks.new.items
-        ≡ marks.old.items ++ beside_marks elements.now mark.now.row mark.now.place) }
+        ≡ marks.old.items
+        ++ filter (takes (keeps kept.now)) (beside_marks (weighed_in (keeps kept.now) elements.now) mark.now.row mark.now.place)) }
     ensures fit { OnOk result (StaysFit marks.old.items marks.new.items) }
 {
     let place = mark.place;
@@ -110,54 +173,69 @@ fn push_beside(marks: &mut Vec<Mark>, elements: &[Element], mark: &Mark) -> Resu
         best: place.best,
         ahead: place.rest,
     };
-    push_tail(marks, tail)?;
+    push_tail(marks, kept, tail)?;
     Ok(())
 }
 
 /// Appends the marks of the cells after the element of the first mark of a row, of which others are left.
 fn push_later(
     marks: &mut Vec<Mark>,
+    kept: &Kept,
     elements: &[Element],
     first: &Mark,
     left: &[Mark],
 ) -> Result<(), NoMemory>
     requires rules { IsSequence elements.now }
     requires places { (last : ℕ)
-        × AllByRecursion (IsPlaceOf elements.now last) (places_of (first.now ∷ left.now)) }
+        × AllByRecursion (IsPlaceOf (weighed_in (keeps kept.now) elements.now) last) (places_of (first.now ∷ left.now)) }
     requires fit { AllByRecursion IsFit (places_of (first.now ∷ left.now)) }
     ensures marks { OnOk result (marks.new.items
         ≡ marks.old.items
-        ++ later_marks elements.now first.now.row (places_of (first.now ∷ left.now))) }
+        ++ filter (takes (keeps kept.now)) (later_marks (weighed_in (keeps kept.now) elements.now)
+        first.now.row (places_of (first.now ∷ left.now)))) }
     ensures fit { OnOk result (StaysFit marks.old.items marks.new.items) }
 {
     let place = first.place;
     let walk = Walk {
         row: first.row,
         best: place.best,
-        ahead: place.rest - total(cells_after(elements, place)),
+        ahead: place.rest - total(kept, cells_after(elements, place)),
         left,
     };
-    push_walk(marks, elements, place.element as usize + 1, walk)
+    push_walk(marks, kept, elements, place.element as usize + 1, walk)
 }
 
 /// The cells after a place in its element.
-fn cells_after(elements: &[Element], place: Place) -> &[Cell]
-    requires { (last : ℕ) × IsPlaceOf elements.now last place }
+pub(crate) fn cells_after(elements: &[Element], place: Place) -> &[Cell]
+    requires { IsInside elements.now place }
     ensures { pairs_of result.now ≡ cells_after elements.now place }
 {
     let cells = elements[place.element as usize].cells();
     &cells[place.cell as usize + 1..]
 }
 
-/// The sum of the values of cells.
-fn total(cells: &[Cell]) -> i128
-    requires none_below { AllByRecursion (λ cell. pos 0 ≤ℤ cell.1) (pairs_of cells.now) }
-    requires fits { total (pairs_of cells.now) <ℤ pos (2 ^ 127) }
-    ensures { result ≡ total (pairs_of cells.now) }
+/// The sum of the values of kept items of cells.
+pub(crate) fn total(kept: &Kept, cells: &[Cell]) -> i128
+    requires none_below { AllByRecursion (λ cell. pos 0 ≤ℤ cell.1)
+        (weighed (keeps kept.now) (pairs_of cells.now)) }
+    requires fits { total (weighed (keeps kept.now) (pairs_of cells.now)) <ℤ pos (2 ^ 127) }
+    ensures { result ≡ total (weighed (keeps kept.now) (pairs_of cells.now)) }
 {
     let mut sum = 0;
     for cell in cells {
-        sum += cell.value;
+        sum += counted(kept.has(cell.item), cell.value);
+    }
+    sum
+}
+
+/// The sum of the values of kept items of the elements from one on.
+pub(crate) fn totals(kept: &Kept, elements: &[Element], first: usize) -> i128
+    requires { IsSequence elements.now }
+    ensures { result ≡ totals (drop first (weighed_in (keeps kept.now) elements.now)) }
+{
+    let mut sum = 0;
+    'elements: for number in first..elements.len() {
+        sum += total(kept, elements[number].cells());
     }
     sum
 }
@@ -203,14 +281,16 @@ impl<'a> Walk<'a> {
 /// Appends the marks of all cells of the elements from one on, each after the best occurrence before its element.
 fn push_walk(
     marks: &mut Vec<Mark>,
+    kept: &Kept,
     elements: &[Element],
     first: usize,
     walk: Walk<'_>,
 ) -> Result<(), NoMemory>
     requires rules { IsSequence elements.now }
-    requires walk { IsWalk elements.now first walk }
+    requires walk { IsWalk (weighed_in (keeps kept.now) elements.now) first walk }
     ensures marks { OnOk result (marks.new.items
-        ≡ marks.old.items ++ marks_past elements.now first walk.entry) }
+        ≡ marks.old.items
+        ++ filter (takes (keeps kept.now)) (marks_past (weighed_in (keeps kept.now) elements.now) first walk.entry)) }
     ensures fit { OnOk result (StaysFit marks.old.items marks.new.items) }
 {
     let mut walk = walk;
@@ -224,7 +304,7 @@ fn push_walk(
             best: walk.best,
             ahead: walk.ahead,
         };
-        let ahead = push_tail(marks, tail)?;
+        let ahead = push_tail(marks, kept, tail)?;
         walk = walk.past(element, ahead);
     }
     Ok(())
@@ -246,27 +326,41 @@ struct Tail<'a> {
     ahead: i128,
 }
 
-/// Appends a mark for each cell of a tail. Answers the sum that is left after them.
-fn push_tail(marks: &mut Vec<Mark>, tail: Tail<'_>) -> Result<i128, NoMemory>
-    requires { IsTail tail }
-    ensures marks { IfOk result (λ _. marks.new.items ≡ marks.old.items ++ marks_in tail.entry) }
+/// Appends a mark for each cell of a tail whose item is kept. Answers the sum that is left after them.
+fn push_tail(marks: &mut Vec<Mark>, kept: &Kept, tail: Tail<'_>) -> Result<i128, NoMemory>
+    requires { IsTail (keeps kept.now) tail }
+    ensures marks { IfOk result (λ _. marks.new.items
+        ≡ marks.old.items ++ filter (takes (keeps kept.now)) (marks_in (keeps kept.now) tail.entry)) }
     ensures fit { IfOk result (λ _. StaysFit marks.old.items marks.new.items) }
-    ensures rest { IfOk result
-        (λ rest. rest ≡ tail.entry.ahead -ℤ total (pairs_of tail.entry.cells.now)) }
+    ensures rest { IfOk result (λ rest. rest
+        ≡ tail.entry.ahead -ℤ total (weighed (keeps kept.now) (pairs_of tail.entry.cells.now))) }
 {
     let mut rest = tail.ahead;
     'cells: for (number, cell) in tail.cells.iter().enumerate() {
-        rest -= cell.value;
-        marks.push(Mark {
+        let is_kept = kept.has(cell.item);
+        let value = counted(is_kept, cell.value);
+        rest -= value;
+        let mark = Mark {
             item: cell.item,
             row: tail.row,
             place: Place {
                 element: tail.element,
                 cell: tail.first + number as u32,
-                best: tail.best + cell.value,
+                best: tail.best + value,
                 rest,
             },
-        })?;
+        };
+        push_if(marks, mark, is_kept)?;
     }
     Ok(rest)
+}
+
+/// Appends a mark that is taken.
+fn push_if(marks: &mut Vec<Mark>, mark: Mark, is_taken: bool) -> Result<(), NoMemory>
+    ensures { OnOk result (marks.new.items ≡ marks.old.items ++ filter (λ _. is_taken) (mark ∷ [])) }
+{
+    if is_taken {
+        marks.push(mark)?;
+    }
+    Ok(())
 }

@@ -1,21 +1,25 @@
 //! The search for sequences.
 
-ghost use Rattle.std.specs.Prelude.{◌≡◌, [], ◌∷◌, OnOk};
+ghost use Rattle.std.specs.Prelude.{◌≡◌, ℕ, Bool, [], ◌∷◌, length, IfOk, OnOk};
 ghost use Rattle.std.specs.List.{AllByRecursion};
 ghost use Rattle.hu_kind.specs.Sequence.{sequence_patterns};
 ghost use Rattle.hu_base.specs.Base.{records_of};
 ghost use Rattle.hu_collect.specs.State.{IsInOrder, Mines, Searches, Takes};
-ghost use Rattle.hu_span.specs.Child.{child_entry, stepped, IsChild, IsGathered};
-ghost use Rattle.hu_span.specs.Growing.{AreRecords, GrowsOn, IsBegun, Records};
-ghost use Rattle.hu_span.specs.Search.{IsOneOf, Opens};
+ghost use Rattle.hu_chain.specs.Pattern.{last_item};
+ghost use Rattle.hu_span.specs.Child.{child_entry, stepped, AreGathered, ArePlaces, IsChild};
+ghost use Rattle.hu_span.specs.Growing.{AreRecords, GrowsOn, GrowsOver, IsBegun, IsReached, Pattern, Records};
+ghost use Rattle.hu_span.specs.Kept.{keeps, weighed_of, AreKept};
+ghost use Rattle.hu_span.specs.Search.{AreKeptBest, IsOneOf, Narrows, OffersAll};
 ghost use Rattle.hu_span.specs.Step.{pattern_of};
 
 use crate::child::{Child, best_of, children_of};
-use crate::gather::{first_marks, marks_after, marks_into};
+use crate::cut::{open_items, set_reaches};
+use crate::gather::{Grown, first_grown, gathered};
+use crate::kept::Kept;
 use crate::mark::Mark;
+use crate::rests::rested;
 use crate::step::{Step, key_of};
 use hu_base::Base;
-use hu_chain::Growth;
 use hu_collect::Collect;
 use hu_kind::{Entry, NoMemory, SeqRecord};
 use std::alloc::Global;
@@ -23,10 +27,12 @@ use std::alloc::Global;
 /// Offers the sequences that can change what the collector holds, with their utility and their support, so that it holds
 /// what all sequences that occur would make. The places of all patterns with one item more than a pattern are gathered in
 /// one pass over its places and put in the order of their items by one sort. All these patterns are offered before any is
-/// entered; then they are entered best bound first, up to the first whose bound is below the floor of the moment. The bound
-/// is the sum over the records of the greatest utility with all that is left after it. The memory of a level is its places.
-/// After want of memory some of the sequences have been offered. After USpan (Yin, Zheng and Cao, 2012) and HUS-Span (Wang,
-/// Huang and Chen, 2016).
+/// entered. Then those items are dropped that reach the floor in no pattern below: the sum over the records in which an item
+/// makes a child, each with the greatest utility and all that is left after it. What is left of a record is summed anew
+/// without the dropped items, and the patterns are entered best bound first, up to the first whose bound is below the floor
+/// of the moment. The bound is the sum over the records of the greatest utility with all that is left after it. The memory
+/// of a level is its places. After want of memory some of the sequences have been offered. After USpan (Yin, Zheng and Cao,
+/// 2012) and HUS-Span (Wang, Huang and Chen, 2016).
 pub fn mine<C: Collect>(
     alloc: Global,
     base: &Base<SeqRecord>,
@@ -37,42 +43,61 @@ pub fn mine<C: Collect>(
     // These tell the proof that what is held is in order, and that no sum overflows.
     let _floor = collect.floor();
     let _sum = base.sum();
-    let marks = first_marks(alloc, base.records())?;
-    search(
+    let records = base.records();
+    let kept = Kept::every(alloc);
+    let mut reaches = zeros(alloc, records.len())?;
+    let mut steps = Vec::new(alloc);
+    let grown = first_grown(alloc, records, &kept)?;
+    offer_grown(alloc, &grown, &mut steps, collect)?;
+    deepen(
         alloc,
-        base.records(),
-        &[],
-        &marks,
-        &mut Vec::new(alloc),
+        records,
+        &kept,
+        &grown,
+        &mut steps,
+        &mut reaches,
         collect,
     )
 }
 
-/// Offers the patterns that grow from that of the steps, by the marks of the two kinds of growth.
+/// So many zeros.
+fn zeros(alloc: Global, count: usize) -> Result<Vec<i128>, NoMemory>
+    ensures { IfOk result (λ zeros. length zeros.items ≡ count) }
+{
+    let mut zeros = Vec::new(alloc);
+    'zeros: for _number in 0..count {
+        zeros.push(0)?;
+    }
+    Ok(zeros)
+}
+
+/// Enters the children of a pattern, by the marks of the two kinds of growth, best bound first.
 #[cycle(search)]
-fn search<C: Collect>(
+fn deepen<C: Collect>(
     alloc: Global,
     records: &[SeqRecord],
-    into: &[Mark],
-    after: &[Mark],
+    kept: &Kept,
+    grown: &Grown,
     steps: &mut Vec<Step>,
+    reaches: &mut [i128],
     collect: &mut C,
 ) -> Result<(), NoMemory>
     requires ordered { IsInOrder (C.state collect.old) }
-    requires into { IsGathered records.now (pattern_of steps.old.items) Growth.IntoLast into.now }
-    requires after { IsGathered records.now (pattern_of steps.old.items)
-        Growth.AfterLast after.now }
+    requires records { AreRecords records.now }
+    requires rows { length reaches.old ≡ length records.now }
+    requires pattern { AreKept (keeps kept.now) (pattern_of steps.old.items) }
+    requires grown { AreGathered (weighed_of (keeps kept.now) records.now) (keeps kept.now) (pattern_of steps.old.items) grown.now }
     ensures steps { OnOk result (steps.new.items ≡ steps.old.items) }
     ensures made { Searches (C.state collect.old)
-        (GrowsOn records.now (pattern_of steps.old.items))
+        (GrowsOver (weighed_of (keeps kept.now) records.now) (keeps kept.now) (pattern_of steps.old.items))
         (C.state collect.new) result }
 {
-    let children = open_children(alloc, into, after, steps, collect)?;
+    let children = best_children(alloc, grown, collect.floor())?;
     'children: for child in &children {
         if child.bound < collect.floor() {
             return Ok(());
         }
-        enter(alloc, records, child, steps, collect)?;
+        enter(alloc, records, kept, child, steps, reaches, collect)?;
     }
     Ok(())
 }
@@ -82,48 +107,89 @@ fn search<C: Collect>(
 fn enter<C: Collect>(
     alloc: Global,
     records: &[SeqRecord],
+    kept: &Kept,
     child: &Child<'_>,
     steps: &mut Vec<Step>,
+    reaches: &mut [i128],
     collect: &mut C,
 ) -> Result<(), NoMemory>
-    requires records { AreRecords records.now }
-    requires begun { IsBegun (pattern_of steps.old.items) }
     requires ordered { IsInOrder (C.state collect.old) }
-    requires child { IsChild records.now (pattern_of steps.old.items) child.now }
+    requires records { AreRecords records.now }
+    requires rows { length reaches.old ≡ length records.now }
+    requires begun { IsBegun (pattern_of steps.old.items) }
+    requires pattern { AreKept (keeps kept.now) (pattern_of steps.old.items) }
+    requires child { IsChild (weighed_of (keeps kept.now) records.now) (keeps kept.now) (pattern_of steps.old.items) child.now }
     ensures steps { OnOk result (steps.new.items ≡ steps.old.items) }
     ensures made { Searches (C.state collect.old)
-        (GrowsOn records.now (stepped (pattern_of steps.old.items) child.now.step))
+        (GrowsOn (weighed_of (keeps kept.now) records.now) (keeps kept.now) (stepped (pattern_of steps.old.items) child.now.step))
         (C.state collect.new) result }
 {
-    let into = marks_into(alloc, records, child.marks)?;
-    let after = marks_after(alloc, records, child.marks)?;
     steps.push(child.step)?;
-    search(alloc, records, &into, &after, steps, collect)?;
+    let fewer = narrowed(alloc, records, kept, child.marks, steps, reaches, collect)?;
+    let marks = rested(alloc, records, &fewer, child.marks)?;
+    let grown = gathered(alloc, records, &fewer, &marks)?;
+    deepen(alloc, records, &fewer, &grown, steps, reaches, collect)?;
     steps.pop();
     Ok(())
 }
 
-/// Offers the children of a pattern, and answers those to be entered, best bound first.
-fn open_children<'a, C: Collect>(
+/// Offers the children of a pattern, and answers the items by which patterns may reach the floor that grow from it.
+fn narrowed<C: Collect>(
     alloc: Global,
-    into: &'a [Mark],
-    after: &'a [Mark],
+    records: &[SeqRecord],
+    kept: &Kept,
+    marks: &[Mark],
+    steps: &mut Vec<Step>,
+    reaches: &mut [i128],
+    collect: &mut C,
+) -> Result<Kept, NoMemory>
+    requires ordered { IsInOrder (C.state collect.old) }
+    requires records { AreRecords records.now }
+    requires rows { length reaches.old ≡ length records.now }
+    requires pattern { AreKept (keeps kept.now) (pattern_of steps.old.items) }
+    requires reached { IsReached (pattern_of steps.old.items) }
+    requires places { ArePlaces (weighed_of (keeps kept.now) records.now) (pattern_of steps.old.items) (last_item (pattern_of steps.old.items)) marks.now }
+    ensures steps { OnOk result (steps.new.items ≡ steps.old.items) }
+    ensures made { Narrows (C.state collect.old) (C.state collect.new)
+        (weighed_of (keeps kept.now) records.now) (keeps kept.now) (pattern_of steps.old.items) result }
+{
+    let grown = gathered(alloc, records, kept, marks)?;
+    let children = children_of(alloc, &grown.into, &grown.after)?;
+    offer_children(alloc, steps, &children, collect)?;
+    set_reaches(marks, reaches);
+    open_items(alloc, steps, &children, reaches, collect.floor())
+}
+
+/// The children of a pattern whose bound reaches a floor, best bound first.
+fn best_children<'a>(
+    alloc: Global,
+    grown: &'a Grown,
+    floor: i128,
+) -> Result<Vec<Child<'a>>, NoMemory>
+    requires { (rs : Records) × (keep : ℕ → Bool) × (p : Pattern) × AreGathered rs keep p grown.now }
+    ensures { (rs : Records) → (keep : ℕ → Bool) → (p : Pattern) → AreGathered rs keep p grown.now
+        → IfOk result (λ kept. AreKeptBest rs keep p floor kept.items) }
+{
+    let children = children_of(alloc, &grown.into, &grown.after)?;
+    best_of(alloc, &children, floor)
+}
+
+/// Offers the children of a pattern, by its marks of the two kinds of growth.
+fn offer_grown<C: Collect>(
+    alloc: Global,
+    grown: &Grown,
     steps: &mut Vec<Step>,
     collect: &mut C,
-) -> Result<Vec<Child<'a>>, NoMemory>
+) -> Result<(), NoMemory>
     requires ordered { IsInOrder (C.state collect.old) }
-    requires into { (rs : Records)
-        × IsGathered rs (pattern_of steps.old.items) Growth.IntoLast into.now
-        × IsGathered rs (pattern_of steps.old.items) Growth.AfterLast after.now }
+    requires grown { (rs : Records) × (keep : ℕ → Bool) × AreGathered rs keep (pattern_of steps.old.items) grown.now }
     ensures steps { OnOk result (steps.new.items ≡ steps.old.items) }
-    ensures made { (rs : Records)
-        → IsGathered rs (pattern_of steps.old.items) Growth.IntoLast into.now
-        → IsGathered rs (pattern_of steps.old.items) Growth.AfterLast after.now
-        → Opens (C.state collect.old) (C.state collect.new) rs (pattern_of steps.old.items) result }
+    ensures made { (rs : Records) → (keep : ℕ → Bool) → AreKept keep (pattern_of steps.old.items)
+        → AreGathered rs keep (pattern_of steps.old.items) grown.now
+        → OffersAll (C.state collect.old) (C.state collect.new) rs keep (pattern_of steps.old.items) result }
 {
-    let children = children_of(alloc, into, after)?;
-    offer_children(alloc, steps, &children, collect)?;
-    best_of(alloc, &children, collect.floor())
+    let children = children_of(alloc, &grown.into, &grown.after)?;
+    offer_children(alloc, steps, &children, collect)
 }
 
 /// Offers the children of a pattern.
@@ -134,11 +200,11 @@ fn offer_children<C: Collect>(
     collect: &mut C,
 ) -> Result<(), NoMemory>
     requires ordered { IsInOrder (C.state collect.old) }
-    requires children { (rs : Records)
-        × AllByRecursion (IsChild rs (pattern_of steps.old.items)) children.now }
+    requires children { (rs : Records) × (keep : ℕ → Bool)
+        × AllByRecursion (IsChild rs keep (pattern_of steps.old.items)) children.now }
     ensures steps { OnOk result (steps.new.items ≡ steps.old.items) }
-    ensures made { (rs : Records)
-        → AllByRecursion (IsChild rs (pattern_of steps.old.items)) children.now
+    ensures made { (rs : Records) → (keep : ℕ → Bool)
+        → AllByRecursion (IsChild rs keep (pattern_of steps.old.items)) children.now
         → Searches (C.state collect.old) (IsOneOf rs (pattern_of steps.old.items) children.now)
         (C.state collect.new) result }
 {
@@ -155,9 +221,9 @@ fn offer_child<C: Collect>(
     child: &Child<'_>,
     collect: &mut C,
 ) -> Result<(), NoMemory>
-    requires { (rs : Records) × IsChild rs (pattern_of steps.old.items) child.now }
+    requires { (rs : Records) × (keep : ℕ → Bool) × IsChild rs keep (pattern_of steps.old.items) child.now }
     ensures steps { OnOk result (steps.new.items ≡ steps.old.items) }
-    ensures made { (rs : Records) → IsChild rs (pattern_of steps.old.items) child.now
+    ensures made { (rs : Records) → (keep : ℕ → Bool) → IsChild rs keep (pattern_of steps.old.items) child.now
         → Takes (C.state collect.old) (child_entry rs (pattern_of steps.old.items) child.now ∷ [])
         (C.state collect.new) result }
 {

@@ -9,17 +9,17 @@ use Rattle.hu_span.proofs.TallyLemmas.{IsKept-fits}
 use Rattle.hu_span.proofs.child.child_of.Goals as goal
 
 pub tally_of-tally-requires-clause-fit : goal.tally_of-tally-requires-clause-fit
-tally_of-tally-requires-clause-fit c = step-fits c.requires.0 c.requires.1 c.args.step c.args.marks.now c.requires.2
+tally_of-tally-requires-clause-fit c = step-fits c.requires.0 c.requires.1 c.requires.2 c.args.step c.args.marks.now c.requires.3
 
 pub tally_of-tally-requires-clause-fits : goal.tally_of-tally-requires-clause-fits
-tally_of-tally-requires-clause-fits c = step-reaches c.requires.0 c.requires.1 c.args.step c.args.marks.now c.requires.2
+tally_of-tally-requires-clause-fits c = step-reaches c.requires.0 c.requires.1 c.requires.2 c.args.step c.args.marks.now c.requires.3
 
 pub overflow_add-result : goal.overflow_add-result
 overflow_add-result c =
     let t = c.tally_of-tally.result in
     let is = c.tally_of-tally.ensures.rules in
     let most : reaches_of t <ℤ pos (2 ^ 127) = subst (λ (s : Tally). reaches_of s <ℤ pos (2 ^ 127)) (sym c.tally_of-tally.ensures.value)
-    (step-reaches c.requires.0 c.requires.1 c.args.step c.args.marks.now c.requires.2) in
+    (step-reaches c.requires.0 c.requires.1 c.requires.2 c.args.step c.args.marks.now c.requires.3) in
     let kept = IsKept-fits t is most in
     omega (arith, ints, is.best, is.bests, is.reach, is.reaches, most, kept.best, kept.bests)
 
@@ -28,17 +28,17 @@ overflow_add-result-2 c =
     let t = c.tally_of-tally.result in
     let is = c.tally_of-tally.ensures.rules in
     let most : reaches_of t <ℤ pos (2 ^ 127) = subst (λ (s : Tally). reaches_of s <ℤ pos (2 ^ 127)) (sym c.tally_of-tally.ensures.value)
-    (step-reaches c.requires.0 c.requires.1 c.args.step c.args.marks.now c.requires.2) in
+    (step-reaches c.requires.0 c.requires.1 c.requires.2 c.args.step c.args.marks.now c.requires.3) in
     let kept = IsKept-fits t is most in
     omega (arith, ints, is.best, is.bests, is.reach, is.reaches, most, kept.reach, kept.reaches)
 
 pub returns-clause-child : goal.returns-clause-child
-returns-clause-child c rs p from =
+returns-clause-child c rs keep p from =
     let t = c.tally_of-tally.result in
     let value = c.tally_of-tally.ensures.value in
     let is = c.tally_of-tally.ensures.rules in
     let most : reaches_of t <ℤ pos (2 ^ 127) = subst (λ (s : Tally). reaches_of s <ℤ pos (2 ^ 127)) (sym value)
-    (step-reaches rs p c.args.step c.args.marks.now from) in
+    (step-reaches rs keep p c.args.step c.args.marks.now from) in
     let kept = IsKept-fits t is most in
     let own = is.best in
     let owns = is.bests in
@@ -50,7 +50,7 @@ returns-clause-child c rs p from =
     let zrs = kept.reaches in
     let bs = kept-z (to_z w128 (of_z w128 t.bests) +ℤ to_z w128 (of_z w128 t.best)) (omega (arith, ints, zb, zbs)) (omega (arith, ints, zb, zbs)) in
     let rs' = kept-z (to_z w128 (of_z w128 t.reaches) +ℤ to_z w128 (of_z w128 t.reach)) (omega (arith, ints, zr, zrs)) (omega (arith, ints, zr, zrs)) in
-    step-child rs p c.args.step c.args.marks.now from _ refl refl
+    step-child rs keep p c.args.step c.args.marks.now from _ refl refl
     (bs ∙ (λ j. zbs j +ℤ zb j) ∙ ap bests_of value)
     (ap (λ (s : Tally). s.rows) value)
     (rs' ∙ (λ j. zrs j +ℤ zr j) ∙ ap reaches_of value)

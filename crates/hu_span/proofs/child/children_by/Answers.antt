@@ -19,7 +19,8 @@ child_of-requires c =
     let among = item-marked marks items same c.items.item-index none c.items-test.true in (
       c.requires.0,
       c.requires.1,
-      step-gathered c.requires.0 c.requires.1 c.args.growth marks c.requires.2
+      c.requires.2,
+      step-gathered c.requires.0 c.requires.1 c.requires.2 c.args.growth marks c.requires.3
           (get_or items c.items.item-index none) among c.run_of.result.now c.run_of.ensures,
     )
 
@@ -35,19 +36,19 @@ items-preserved c =
     record {
       steps = steps-next c.args.growth items c.items.children.items c.push.new.self.items c.child_of.result i none c.items-test.true
           c.in_ok-push.ensures.items c.items.invariant.steps c.child_of.ensures.step;
-      each = λ rs p from. subst (AllByRecursion (IsChild rs p)) (sym c.in_ok-push.ensures.items)
-          (each-push (IsChild rs p) c.items.children.items c.child_of.result (c.items.invariant.each rs p from)
-          (c.child_of.ensures.child rs p (step-gathered rs p c.args.growth marks from (get_or items i none) among c.run_of.result.now c.run_of.ensures)));
+      each = λ rs keep p from. subst (AllByRecursion (IsChild rs keep p)) (sym c.in_ok-push.ensures.items)
+          (each-push (IsChild rs keep p) c.items.children.items c.child_of.result (c.items.invariant.each rs keep p from)
+          (c.child_of.ensures.child rs keep p (step-gathered rs keep p c.args.growth marks from (get_or items i none) among c.run_of.result.now c.run_of.ensures)));
     }
 
 pub returns : goal.returns
-returns c rs p from =
+returns c rs keep p from =
     let marks = c.args.marks.now in
     let items = c.deref-item-items.result.now in
     let same : SameMembers (map (λ (mark : Mark). mark.item) marks) items = subst (SameMembers (map (λ (mark : Mark). mark.item) marks))
     (sym c.deref-item-items.ensures.value) c.in_ok-items_of.ensures in
     let all = take_all c.items.item-index items (omega (arith, c.items-test.false)) in
     record {
-      each = c.items.invariant.each rs p from;
-      all = all-gathered rs p c.args.growth marks from items c.items.children.items same (c.items.invariant.steps ∙ ap (steps_by c.args.growth) all);
+      each = c.items.invariant.each rs keep p from;
+      all = all-gathered rs keep p c.args.growth marks from items c.items.children.items same (c.items.invariant.steps ∙ ap (steps_by c.args.growth) all);
     }

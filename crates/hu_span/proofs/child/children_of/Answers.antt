@@ -4,6 +4,6 @@ use Rattle.hu_span.proofs.ChildLemmas.{children-both}
 use Rattle.hu_span.proofs.child.children_of.Goals as goal
 
 pub returns : goal.returns
-returns c rs p into after =
-    subst (AreChildren rs p) (sym c.in_ok-append.ensures.items)
-    (children-both rs p c.in_ok-children.children.items c.in_ok-later.later.items (c.in_ok-children.ensures rs p into) (c.in_ok-later.ensures rs p after))
+returns c rs keep p into after =
+    subst (AreChildren rs keep p) (sym c.in_ok-append.ensures.items)
+    (children-both rs keep p c.in_ok-children.children.items c.in_ok-later.later.items (c.in_ok-children.ensures rs keep p into) (c.in_ok-later.ensures rs keep p after))

@@ -1,64 +1,86 @@
-use Rattle.std.proofs.Common.{◌∙◌, ◌++◌, suc, pos, take, drop, get_or, [], sym, ap, subst, arith, add-one, append_assoc, append-nil}
+use Rattle.std.proofs.Common.{◌≡◌, ◌<◌, filter, length, ◌∙◌, ◌++◌, suc, pos, take, drop, get_or, [], sym, ap, subst, arith, add-one, append_assoc, append-nil}
 use Rattle.std.specs.List.{AllByRecursion}
 use Rattle.std.proofs.lemmas.Int.{ints}
-use Rattle.std.proofs.lemmas.List.{take_all, take_more}
+use Rattle.std.proofs.lemmas.List.{get_or-map, length-map, take_all, take_more}
 use Rattle.hu_kind.proofs.lemmas.Each.{each-push}
 use Rattle.hu_kind.specs.Sequence.{IsSequence}
 use Rattle.hu_chain.specs.Place.{totals}
-use Rattle.hu_chain.proofs.lemmas.Gathered.{totals-all}
 use Rattle.hu_span.specs.Gather.{walk_marks}
+use Rattle.hu_span.specs.Kept.{keeps, takes, weighed_in, weighed_of}
+use Rattle.hu_span.proofs.MarkLemmas.{filter-append}
+use Rattle.hu_span.proofs.WeighedLemmas.{weighed-rules, weighed-sequence}
 use Rattle.hu_span.proofs.GatherLemmas.{first_from}
 use Rattle.hu_span.proofs.NumberLemmas.{kept-z}
 use Rattle.hu_span.proofs.RowsLemmas.{first-next, first-sorted}
-use Rattle.hu_span.proofs.WalkLemmas.{drop-past}
+use Rattle.hu_span.proofs.WalkLemmas.{drop-past, low-later, totals-fit}
 use Rattle.hu_span.proofs.gather.first_marks.Goals as goal
 
 pub push_walk-requires-clause-walk : goal.push_walk-requires-clause-walk
 push_walk-requires-clause-walk c =
+    let keep = keeps c.args.kept.now in
+    let records = c.args.records.now in
+    let row = c.records.row in
     let r = c.index-records-row.result in
-    let value = c.absolute.ensures.value in
-    let fits = c.absolute.ensures.fits in
-    let kept = kept-z c.absolute.result (omega (arith, ints, value)) (omega (arith, ints, value, fits)) in
-    let all = totals-all r c.elements.ensures.rules in
+    let w = weighed_in keep r in
+    let rules = weighed-sequence keep r c.elements-elements.ensures.rules in
+    let seen = ap (weighed_in keep) c.elements-elements.ensures.value in
+    let all = c.totals.ensures ∙ ap totals seen in
+    let low = low-later w rules 0 in
+    let fits = totals-fit w rules in
+    let kept = kept-z c.totals.result (omega (arith, ints, all, low)) (omega (arith, ints, all, fits)) in
     record {
-      ahead = kept ∙ value ∙ sym all ∙ ap totals (sym c.elements.ensures.value);
+      ahead = kept ∙ c.totals.ensures;
       best = omega (arith, ints);
-      fits = omega (arith, ints, kept, value, fits);
+      fits = omega (arith, ints, kept, all, fits);
       left = tt;
     }
 
 pub records-preserved : goal.records-preserved
 records-preserved c =
+    let keep = keeps c.args.kept.now in
     let records = c.args.records.now in
     let row = c.records.row in
     let r = c.index-records-row.result in
-    let value = c.absolute.ensures.value in
-    let fits = c.absolute.ensures.fits in
-    let kept = kept-z c.absolute.result (omega (arith, ints, value)) (omega (arith, ints, value, fits)) in
-    let ahead = kept ∙ value ∙ sym (totals-all r c.elements.ensures.rules) in
+    let w = weighed_in keep r in
+    let rules = weighed-sequence keep r c.elements-elements.ensures.rules in
+    let seen = ap (weighed_in keep) c.elements-elements.ensures.value in
+    let all = c.totals.ensures ∙ ap totals seen in
+    let low = low-later w rules 0 in
+    let fits = totals-fit w rules in
+    let kept = kept-z c.totals.result (omega (arith, ints, all, low)) (omega (arith, ints, all, fits)) in
+    let rs = weighed_of keep records in
+    let size = length-map records (weighed_in keep) in
+    let within : row < length rs = omega (arith, size, c.records-test.true) in
+    let at : w ≡ get_or rs row w = ap (weighed_in keep) c.index-records-row.is ∙ sym (get_or-map (weighed_in keep) records row r w c.records-test.true) in
+    let ahead = kept ∙ all in
     let old = c.records.marks.items in
-    let seen = c.elements.ensures.value in
-    let here = walk_marks row 0 (pos 0) (totals r) [] r in
-    let after = first_from (suc row) (drop (suc row) records) in
-    let split = first-next records row r c.records-test.true c.index-records-row.is in
+    let here = walk_marks row 0 (pos 0) (totals w) [] w in
+    let after = first_from (suc row) (drop (suc row) rs) in
+    let split = first-next rs row w within at in
     let so_far = c.records.invariant.so_far in
-    let rules = each-push IsSequence (take row records) (get_or records row r) c.records.invariant.rules (subst IsSequence c.index-records-row.is c.elements.ensures.rules) in
-    let front = subst (AllByRecursion IsSequence) (sym (take_more records row r c.records-test.true)) rules in
+    let front = each-push IsSequence (take row records) (get_or records row r) c.records.invariant.rules (subst IsSequence c.index-records-row.is c.elements-elements.ensures.rules) in
+    let fronts = subst (AllByRecursion IsSequence) (sym (take_more records row r c.records-test.true)) front in
     record {
-      so_far = rw add-one (ap (λ ms. ms ++ after) c.in_ok-push_walk.ensures.marks
-          ∙ (λ j. (old ++ walk_marks row 0 (pos 0) (ahead j) [] (seen j)) ++ after)
-          ∙ append_assoc old here after ∙ ap (λ ms. old ++ ms) (sym split) ∙ so_far);
+      so_far = rw add-one (ap (λ ms. ms ++ filter (takes keep) after) c.in_ok-push_walk.ensures.marks
+          ∙ (λ j. (old ++ filter (takes keep) (walk_marks row 0 (pos 0) (ahead j) [] (seen j))) ++ filter (takes keep) after)
+          ∙ append_assoc old (filter (takes keep) here) (filter (takes keep) after)
+          ∙ ap (λ ms. old ++ ms) (sym (filter-append (takes keep) here after))
+          ∙ ap (λ ms. old ++ filter (takes keep) ms) (sym split) ∙ so_far);
       fit = c.in_ok-push_walk.ensures.fit c.records.invariant.fit;
-      rules = front;
+      rules = fronts;
     }
 
 pub returns-clause-marks : goal.returns-clause-marks
 returns-clause-marks c =
+    let keep = keeps c.args.kept.now in
     let records = c.args.records.now in
+    let rs = weighed_of keep records in
     let row = c.records.row in
     let past = c.records-test.false in
+    let size = length-map records (weighed_in keep) in
     let rules = subst (AllByRecursion IsSequence) (take_all row records (omega (arith, past))) c.records.invariant.rules in
-    let whole = sym (append-nil c.records.marks.items) ∙ ap (λ rs. c.records.marks.items ++ first_from row rs) (sym (drop-past records row past))
+    let whole = sym (append-nil c.records.marks.items)
+    ∙ ap (λ left. c.records.marks.items ++ filter (takes keep) (first_from row left)) (sym (drop-past rs row (omega (arith, past, size))))
     ∙ c.records.invariant.so_far in
-    first-sorted records c.records.marks.items c.by_item.new.marks.items rules whole c.records.invariant.fit
+    first-sorted keep rs c.records.marks.items c.by_item.new.marks.items (weighed-rules keep records rules) whole c.records.invariant.fit
     c.in_ok-by_item.ensures.sorted c.in_ok-by_item.ensures.same c.in_ok-by_item.ensures.each

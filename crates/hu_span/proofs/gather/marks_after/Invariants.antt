@@ -2,6 +2,7 @@ use Rattle.std.proofs.Common.{ℕ, List, length}
 use Rattle.hu_chain.specs.Pattern.{last_item}
 use Rattle.hu_span.specs.Child.{ArePlaces}
 use Rattle.hu_span.specs.Growing.{IsReached}
+use Rattle.hu_span.specs.Kept.{keeps, weighed_of}
 use Rattle.hu_span.proofs.RowsLemmas.{AreRowsLeft}
 use Rattle.hu_span.proofs.gather.marks_after.Given as goal
 
@@ -9,4 +10,5 @@ abbrev pub decreases-rows : goal.decreases-rows
 decreases-rows l = length l.left
 
 abbrev pub invariant-rows : goal.invariant-rows
-invariant-rows l = (p : List (List ℕ)) → IsReached p → ArePlaces l.records p (last_item p) l.marks → AreRowsLeft l.records p l.left l.grown.items
+invariant-rows l = (p : List (List ℕ)) → IsReached p → ArePlaces (weighed_of (keeps l.kept) l.records) p (last_item p) l.marks
+    → AreRowsLeft (weighed_of (keeps l.kept) l.records) (keeps l.kept) p l.left l.grown.items

@@ -1,17 +1,20 @@
 use Rattle.std.proofs.Common.{◌≡◌, ◌+◌, ◌-◌, ◌*◌, length}
+use Rattle.hu_span.specs.Kept.{keeps, weighed_of}
 use Rattle.hu_span.specs.Search.{IsSoFar}
 use Rattle.hu_span.specs.Step.{pattern_of}
 use Rattle.hu_span.proofs.search.+search.Given as goal
 
 -- a search of one more step comes after an entrance to it
-abbrev pub decreases-search : goal.decreases-search
-decreases-search g l = 2 * (4097 - length l.steps.now.items) + 1
+abbrev pub decreases-deepen : goal.decreases-deepen
+decreases-deepen g l = 2 * (4097 - length l.steps.now.items) + 1
 
 abbrev pub decreases-enter : goal.decreases-enter
 decreases-enter g l = 2 * (4097 - length l.steps.now.items)
 
-abbrev pub invariant-search-children : goal.invariant-search-children
-invariant-search-children g l = record {
+abbrev pub invariant-deepen-children : goal.invariant-deepen-children
+invariant-deepen-children g l = record {
   steps : l.steps.items ≡ l.fn.steps.items;
-  made : IsSoFar (g.C.Collect.state l.fn.collect) (g.C.Collect.state l.collect) l.records (pattern_of l.fn.steps.items) l.child-items l.child-index;
+  rows : length l.reaches ≡ length l.records;
+  made : IsSoFar (g.C.Collect.state l.fn.collect) (g.C.Collect.state l.collect) (weighed_of (keeps l.kept) l.records) (keeps l.kept)
+      (pattern_of l.fn.steps.items) l.child-items l.child-index;
 }

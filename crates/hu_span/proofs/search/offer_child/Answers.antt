@@ -11,14 +11,14 @@ use Rattle.hu_span.proofs.StepLemmas.{pattern_of-push}
 use Rattle.hu_span.proofs.search.offer_child.Goals as goal
 
 pub returns-then-child-floor-clause-made : goal.returns-then-child-floor-clause-made
-returns-then-child-floor-clause-made g c rs is =
+returns-then-child-floor-clause-made g c rs keep is =
     let state = g.C.Collect.state c.args.collect.now in
     let entry = child_entry rs (pattern_of c.args.steps.now.items) c.args.child.now in
     let low : entry.utility <ℤ floor_in state = omega (arith, ints, is.utility, c.floor.ensures.value, c.if-child-floor.true) in
     sym (offered-low state entry c.floor.ensures.in_order low)
 
 pub returns-clause-made : goal.returns-clause-made
-returns-clause-made g c rs is =
+returns-clause-made g c rs keep is =
     let steps = c.args.steps.now.items in
     let child = c.args.child.now in
     let key = c.in_ok-key.ensures ∙ ap (λ ss. sequence_key (pattern_of ss)) (c.deref.ensures.value ∙ c.in_ok-push.ensures.items) ∙ ap sequence_key
