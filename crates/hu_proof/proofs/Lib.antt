@@ -1,0 +1,15 @@
+mod Orders
+mod Gains
+mod Sets
+mod Walks
+mod Sound
+mod SplitLemmas
+mod OrderLemmas
+mod Ranks
+mod PlaceLemmas
+mod Lowest
+mod LineLemmas
+mod WalkLemmas
+mod HeldLemmas
+mod TurnLemmas
+mod CheckLemmas

@@ -1,0 +1,149 @@
+use Rattle.std.proofs.Common.{◌≡◌, ◌+◌, ◌<◌, ◌^◌, ◌++◌, ◌∷◌, [], pos, List, None, Some, refl, sym, ap, ◌∙◌, subst, arith, drop, length, map, inr, ◌⊎◌, sum_by, append_assoc}
+use Rattle.std.specs.Int.{w128}
+use mir.Val.{to_z, of_z}
+use Rattle.std.proofs.lemmas.Bool.{eqb-false}
+use Rattle.std.proofs.lemmas.Int.{to_z-of_z}
+use Rattle.hu_base.specs.Base.{records_of}
+use Rattle.hu_collect.specs.Limited.{all_state}
+use Rattle.hu_collect.specs.State.{fresh, offered}
+use Rattle.hu_kind.specs.Record.{absolute_of}
+use Rattle.hu_proof.specs.declared.fault.CheckFault.TheVariants.{NoMemory}
+use Rattle.hu_proof.specs.declared.token.Token.{Token}
+use Rattle.hu_proof.specs.Check.{root, walk}
+use Rattle.hu_proof.specs.Judged.{line_fault_at, token_items, SaysTokens}
+use Rattle.hu_proof.specs.Opened.{prefixes_in}
+use Rattle.hu_proof.specs.Places.{places_of, Follows}
+use Rattle.hu_proof.specs.Text.{pieces, said_of}
+use Rattle.hu_proof.specs.Waiting.{stack_of, node_at, nodes_of, nodes_now, entry_at, Stands, IsNode, Fits, PushesChildren}
+use Rattle.hu_proof.specs.Words.{numbers_of}
+use Rattle.hu_proof.proofs.LineLemmas.{judged-same}
+use Rattle.hu_proof.proofs.TurnLemmas.{root-node, room-node, walk-end, walk-fault, judges-err, some-pieces, length-numbers, passed, turned, entry-held, offered-more}
+use Rattle.hu_proof.proofs.walk.walk.Goals as goal
+
+pub lines-init : goal.lines-init
+lines-init c =
+    let records = records_of c.args.base.now in
+    let order = c.args.order.now in
+    let node = c.in_ok-root.field-0 in
+    let m = to_z w128 (of_z w128 c.args.least) in
+    let places = c.in_ok-root.ensures.places ∙ ap (map (λ r. (r, pos 0))) c.records.ensures in
+    let first : IsNode records order [] node.from (places_of node.places.items) =
+    subst (λ f. IsNode records order [] f (places_of node.places.items)) (sym c.in_ok-root.ensures.from)
+    (root-node records order (places_of node.places.items) c.requires.apart places) in
+    record {
+      line = omega arith;
+      stands = (
+        subst (λ xs. IsNode records order (numbers_of xs) node.from (places_of node.places.items)) (sym c.new-path.ensures.items) first,
+        subst (λ ws. Fits records order (numbers_of c.new-path.result.items) (stack_of ws)) (sym c.new-waiting.ensures.items) tt,
+      );
+      walks = ap (λ ns. walk records m 3 ns (pieces c.args.text.now))
+          (ap (λ ws. node_at order (numbers_of c.new-path.result.items) node.from ∷ nodes_of order (numbers_of c.new-path.result.items) (stack_of ws))
+          c.new-waiting.ensures.items
+          ∙ (ap (λ xs. node_at order (numbers_of xs) node.from ∷ []) c.new-path.ensures.items ∙ ap (λ f. node_at order [] f ∷ []) c.in_ok-root.ensures.from));
+      found = ([], c.new-found.ensures, refl);
+    }
+
+pub visit-requires-clause-room : goal.visit-requires-clause-room
+visit-requires-clause-room c =
+    let records = records_of c.args.base.now in
+    let stands = subst (Stands records c.args.order.now (numbers_of c.lines.path.items) (stack_of c.lines.waiting.items)) c.in-Some.is
+    c.lines.invariant.stands in
+    let fits : sum_by absolute_of records < 2 ^ 127 = omega (arith, c.sum-sum.ensures.fits) in
+    room-node records c.args.order.now (numbers_of c.lines.path.items) c.in-Some.node.from _ stands.0 fits
+
+pub returns-in_err-visit-clause-fault : goal.returns-in_err-visit-clause-fault
+returns-in_err-visit-clause-fault c =
+    let records = records_of c.args.base.now in
+    let order = c.args.order.now in
+    let least = c.args.least in
+    let node = c.in-Some.node in
+    let places = places_of node.places.items in
+    let xs = c.lines.path.items in
+    let stack = stack_of c.lines.waiting.items in
+    let whole = walk records least 3 (root order ∷ []) (pieces c.args.text.now) in
+    let back = to_z-of_z w128 least c.ranges.least in
+    let e = c.in_err-visit.field-0.0 in
+    let stands = subst (Stands records order (numbers_of xs) stack) c.in-Some.is c.lines.invariant.stands in
+    let before = subst (λ m. walk records m c.lines.line (nodes_now order (numbers_of xs) stack c.lines.current) (pieces c.lines.rest.now) ≡ walk records
+    m 3 (root order ∷ []) (pieces c.args.text.now)) back c.lines.invariant.walks in
+    let here = subst (λ current. walk records least c.lines.line (nodes_now order (numbers_of xs) stack current) (pieces c.lines.rest.now) ≡ whole)
+    c.in-Some.is before in
+    let line = subst (λ ps. walk records least c.lines.line (node_at order (numbers_of xs) node.from ∷ nodes_of order (numbers_of xs) stack) ps ≡ whole)
+    c.in-Some-cut.ensures.found here in
+    let fault = subst (λ m. (e ≡ NoMemory) ⊎ (line_fault_at m c.lines.line (node_at order (numbers_of c.deref.result.now) node.from) places
+    (said_of c.in-Some-cut.text.now) ≡ Some e)) back c.in_err-visit.ensures.fault in
+    let same = subst (λ ys. (e ≡ NoMemory) ⊎ (line_fault_at least c.lines.line (node_at order (numbers_of ys) node.from) places
+    (said_of c.in-Some-cut.text.now) ≡ Some e)) c.deref.ensures.value fault in
+    let walked = walk-fault records least c.lines.line order (numbers_of xs) node.from places (nodes_of order (numbers_of xs) stack)
+    c.in-Some-cut.text.now (pieces c.in-Some-cut.more.now) e stands.0
+    (some-pieces c.in-Some-cut.more.now) same in
+    judges-err c.from_residual-in_err-visit.result e whole c.from_residual-in_err-visit.ensures (judged-same e whole _ (sym line) walked)
+
+pub lines-preserved : goal.lines-preserved
+lines-preserved c =
+    let records = records_of c.args.base.now in
+    let order = c.args.order.now in
+    let least = c.args.least in
+    let node = c.in-Some.node in
+    let places = places_of node.places.items in
+    let xs = c.lines.path.items in
+    let path = numbers_of xs in
+    let stack = stack_of c.lines.waiting.items in
+    let stack1 = stack_of c.visit.new.waiting.items in
+    let text = c.in-Some-cut.text.now in
+    let more = c.in-Some-cut.more.now in
+    let whole = walk records least 3 (root order ∷ []) (pieces c.args.text.now) in
+    let back = to_z-of_z w128 least c.ranges.least in
+    let stands = subst (Stands records order path stack) c.in-Some.is c.lines.invariant.stands in
+    let before = subst (λ m. walk records m c.lines.line (nodes_now order path stack c.lines.current) (pieces c.lines.rest.now) ≡ walk records m 3
+    (root order ∷ []) (pieces c.args.text.now)) back c.lines.invariant.walks in
+    let here = subst (λ current. walk records least c.lines.line (nodes_now order path stack current) (pieces c.lines.rest.now) ≡ whole) c.in-Some.is
+    before in
+    let line = subst (λ ps. walk records least c.lines.line (node_at order path node.from ∷ nodes_of order path stack) ps ≡ whole)
+    c.in-Some-cut.ensures.found here in
+    let fault = subst (λ m. line_fault_at m c.lines.line (node_at order (numbers_of c.deref.result.now) node.from) places (said_of text) ≡ None) back
+    c.in_ok-visit.ensures.fault in
+    let none = subst (λ ys. line_fault_at least c.lines.line (node_at order (numbers_of ys) node.from) places (said_of text) ≡ None)
+    c.deref.ensures.value fault in
+    let told = subst (λ ys. (tokens : List Token) × SaysTokens text tokens × Follows (drop node.from order) (token_items tokens) × PushesChildren order
+    (length ys) node.from places tokens stack stack1) c.deref.ensures.value c.in_ok-visit.ensures.pushed in
+    let offer = subst (λ ys. all_state c.visit.new.found ≡ offered (all_state c.lines.found) (entry_at (numbers_of ys) places ∷ []))
+    c.deref.ensures.value c.in_ok-visit.ensures.found in
+    let pass = passed records least c.lines.line order path node.from (length xs) places stack stack1 text (pieces more) (length-numbers xs) stands.0
+    stands.1 (some-pieces more) none told in
+    let turn = turned records order path (numbers_of c.next.new.path.items) stack1 (stack_of c.next.new.waiting.items) c.in_ok-current.current pass.fits
+    c.in_ok-current.ensures.some c.in_ok-current.ensures.none in
+    let done = c.lines.invariant.found.0 in
+    record {
+      line = omega (arith, c.lines.invariant.line, c.in-Some-cut.ensures.shorter);
+      stands = turn.stands;
+      walks = subst (λ m. walk records m (c.lines.line + 1) (nodes_now order (numbers_of c.next.new.path.items) (stack_of c.next.new.waiting.items)
+          c.in_ok-current.current) (pieces more)
+          ≡ walk records m 3 (root order ∷ []) (pieces c.args.text.now)) (sym back)
+          (ap (λ ns. walk records least (c.lines.line + 1) ns (pieces more)) (sym turn.nodes) ∙ (sym pass.walks ∙ line));
+      found = (
+        done ++ path ∷ [],
+        offered-more (fresh (to_z w128 (of_z w128 least)) None) records done path (all_state c.lines.found) (all_state c.visit.new.found)
+            (entry_at path places) c.lines.invariant.found.1 offer (entry-held records order path node.from places stands.0),
+        append_assoc done (path ∷ []) (prefixes_in (pieces more))
+            ∙ (ap (λ ps. done ++ ps) (sym pass.prefixes) ∙ (ap (λ ps. done ++ prefixes_in ps) (sym c.in-Some-cut.ensures.found)
+            ∙ c.lines.invariant.found.2)),
+      );
+    }
+
+pub returns-else-is_empty-clause-fault : goal.returns-else-is_empty-clause-fault
+returns-else-is_empty-clause-fault c =
+    let records = records_of c.args.base.now in
+    let order = c.args.order.now in
+    let least = c.args.least in
+    let path = numbers_of c.lines.path.items in
+    let stack = stack_of c.lines.waiting.items in
+    let whole = walk records least 3 (root order ∷ []) (pieces c.args.text.now) in
+    let back = to_z-of_z w128 least c.ranges.least in
+    let empty : stack ≡ [] = subst (Stands records order path stack) c.in_default.is c.lines.invariant.stands in
+    let before = subst (λ m. walk records m c.lines.line (nodes_now order path stack c.lines.current) (pieces c.lines.rest.now) ≡ walk records m 3
+    (root order ∷ []) (pieces c.args.text.now)) back c.lines.invariant.walks in
+    let here = subst (λ current. walk records least c.lines.line (nodes_now order path stack current) (pieces c.lines.rest.now) ≡ whole) c.in_default.is
+    before in
+    let line = subst (λ s. walk records least c.lines.line (nodes_of order path s) (pieces c.lines.rest.now) ≡ whole) empty here in
+    inr (sym line ∙ walk-end records least c.lines.line c.lines.rest.now (eqb-false (length c.lines.rest.now) 0 (sym c.if-is_empty.ensures)))

@@ -1,0 +1,10 @@
+pub mod Text
+pub mod Bounds
+pub mod Check
+pub mod Opened
+pub mod Laws
+pub mod Worked
+pub mod Words
+pub mod Places
+pub mod Judged
+pub mod Waiting

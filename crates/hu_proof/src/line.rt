@@ -1,0 +1,99 @@
+//! The check of one line.
+
+ghost use Rattle.std.specs.Prelude.{◌≡◌, drop, IfOk};
+ghost use Rattle.hu_proof.specs.Judged.{children_fault_at, line_fault_at, missing_fault, token_items, Judges, SaysTokens};
+ghost use Rattle.hu_proof.specs.Places.{places_of, Apart, Follows, HasRoom};
+ghost use Rattle.hu_proof.specs.Text.{said_of};
+ghost use Rattle.hu_proof.specs.Words.{numbers_of};
+
+use crate::children::{check_bounds, check_cuts, child_tokens, items_of, missing};
+use crate::fault::CheckFault;
+use crate::order::Order;
+use crate::place::{Place, earned};
+use crate::said::{is_prefix, line_of};
+use crate::token::Token;
+use hu_kind::Item;
+use std::alloc::Global;
+
+/// A prefix whose line comes next: how many items of the order stand before those that may follow it, and its places.
+#[derive(Drop)]
+pub(crate) struct Opened<'a> {
+    pub from: usize,
+    pub places: Vec<Place<'a>>,
+}
+
+/// The tokens of the line of a prefix, where the line has no fault.
+pub(crate) fn check_line(
+    alloc: Global,
+    order: &Order,
+    least: i128,
+    line: u64,
+    prefix: &[Item],
+    node: &Opened<'_>,
+    text: &[u8],
+) -> Result<Vec<Token>, CheckFault>
+    requires apart { Apart order.now }
+    requires room { HasRoom (drop node.now.from order.now) (places_of node.now.places.items) }
+    ensures fault { Judges result (line_fault_at least line (record { prefix = numbers_of prefix.now; later = drop node.now.from order.now }) (places_of node.now.places.items) (said_of text.now)) }
+    ensures tokens { IfOk result (λ tokens. SaysTokens text.now tokens.items) }
+    ensures later { IfOk result (λ tokens. Follows (drop node.now.from order.now) (token_items tokens.items)) }
+{
+    let Some(said) = line_of(text) else {
+        return Err(CheckFault::NotOfForm { line });
+    };
+    if !is_prefix(said.prefix, prefix) {
+        return Err(CheckFault::WrongPrefix { line });
+    }
+    let stated = said.utility;
+    let summed = earned(&node.places);
+    if stated != summed {
+        return Err(CheckFault::WrongUtility {
+            line,
+            stated,
+            summed,
+        });
+    }
+    let tokens = child_tokens(alloc, order, node.from, said.tokens, line)?;
+    match check_children(alloc, order, least, line, node, &tokens) {
+        Ok(()) => Ok(tokens),
+        Err(fault) => Err(fault),
+    }
+}
+
+/// Whether the tokens leave no item out, and each bound is the sum and below the minimum.
+fn check_children(
+    alloc: Global,
+    order: &Order,
+    least: i128,
+    line: u64,
+    node: &Opened<'_>,
+    tokens: &[Token],
+) -> Result<(), CheckFault>
+    requires apart { Apart order.now }
+    requires room { HasRoom (drop node.now.from order.now) (places_of node.now.places.items) }
+    requires later { Follows (drop node.now.from order.now) (token_items tokens.now) }
+    ensures { Judges result (children_fault_at least line (drop node.now.from order.now) (places_of node.now.places.items) tokens.now) }
+{
+    check_missing(alloc, order, node, tokens, line)?;
+    check_bounds(order, node.from, &node.places, tokens, line)?;
+    check_cuts(tokens, least, line)
+}
+
+/// Whether each later item that stands with the prefix in some record is the item of a token.
+fn check_missing(
+    alloc: Global,
+    order: &Order,
+    node: &Opened<'_>,
+    tokens: &[Token],
+    line: u64,
+) -> Result<(), CheckFault>
+    requires apart { Apart order.now }
+    requires once { Apart (token_items tokens.now) }
+    ensures { Judges result (missing_fault line (drop node.now.from order.now) (token_items tokens.now) (places_of node.now.places.items)) }
+{
+    let named = Order::of(alloc, &items_of(alloc, tokens)?)?;
+    match missing(order, node.from, &named, &node.places) {
+        Some(item) => Err(CheckFault::LeftOut { line, item }),
+        None => Ok(()),
+    }
+}

@@ -1,0 +1,232 @@
+//! The walk over the lines of prefixes.
+
+ghost use Rattle.std.specs.Prelude.{◌≡◌, ◌≤◌, ◌≤ℤ◌, ◌++◌, None, ◌∷◌, [], drop, take, length, pos, map, ℕ, List, IfOk, OnOk, IfSome, IfNone};
+ghost use Rattle.std.specs.Ordering.{nat_cmp};
+ghost use Rattle.hu_kind.specs.Order.{ranking};
+ghost use Rattle.hu_proof.specs.Bounds.{after};
+ghost use Rattle.hu_base.specs.Base.{records_of};
+ghost use Rattle.hu_kind.specs.Answer.{answer};
+ghost use Rattle.hu_proof.specs.Check.{root, walk};
+ghost use Rattle.hu_proof.specs.Opened.{prefix_entry, prefixes_in};
+ghost use Rattle.hu_collect.specs.State.{offered, Takes};
+ghost use Rattle.hu_proof.specs.Judged.{line_fault_at, token_items, Judges, SaysTokens};
+ghost use Rattle.hu_proof.specs.Text.{pieces, said_of};
+ghost use Rattle.hu_proof.specs.declared.token.Token.{Token};
+ghost use Rattle.hu_proof.specs.Places.{narrowed, places_of, Apart, Follows, HasRoom, IsOneOf};
+ghost use Rattle.hu_proof.specs.Waiting.{entry_at, node_at, stack_of, PushesChildren, Steps};
+ghost use Rattle.hu_proof.specs.Words.{numbers_of};
+
+use crate::fault::CheckFault;
+use crate::line::{Opened, check_line};
+use crate::order::{Order, push_items, rank};
+use crate::place::{earned, first_places, later_rank, narrowed};
+use crate::token::Token;
+use crate::words::cut;
+use hu_base::Base;
+use hu_collect::{All, Collect};
+use hu_kind::{Entry, Item, Key, NoMemory, Record};
+use std::alloc::Global;
+
+/// A prefix that waits for its line: it is so many items of the path, and one more.
+#[derive(Drop)]
+pub(crate) struct Waiting<'a> {
+    pub depth: usize,
+    pub item: Item,
+    pub node: Opened<'a>,
+}
+
+/// Takes the prefix that comes next, and makes it the path.
+pub(crate) fn next<'a>(
+    path: &mut Vec<Item>,
+    waiting: &mut Vec<Waiting<'a>>,
+) -> Result<Option<Opened<'a>>, NoMemory>
+    ensures some { IfOk result (λ next. IfSome next (λ node. Steps (numbers_of path.old.items) (stack_of waiting.old.items) (numbers_of path.new.items) (stack_of waiting.new.items) node.from (places_of node.places.items))) }
+    ensures none { IfOk result (λ next. IfNone next ((stack_of waiting.old.items ≡ []) × (stack_of waiting.new.items ≡ []))) }
+{
+    let Some(Waiting { depth, item, node }) = waiting.pop() else {
+        return Ok(None);
+    };
+    path.truncate(depth);
+    path.push(item)?;
+    Ok(Some(node))
+}
+
+/// Lets the children of a prefix wait that are opened, the first one to come next.
+pub(crate) fn push_children<'a>(
+    alloc: Global,
+    waiting: &mut Vec<Waiting<'a>>,
+    order: &Order,
+    depth: usize,
+    node: &Opened<'a>,
+    tokens: &[Token],
+) -> Result<(), NoMemory>
+    requires apart { Apart order.now }
+    requires room { HasRoom (drop node.now.from order.now) (places_of node.now.places.items) }
+    requires later { Follows (drop node.now.from order.now) (token_items tokens.now) }
+    ensures { OnOk result (PushesChildren order.now depth node.now.from (places_of node.now.places.items) tokens.now (stack_of waiting.old.items) (stack_of waiting.new.items)) }
+{
+    let mut i = tokens.len();
+    'tokens: while i > 0 {
+        i -= 1;
+        push_child(alloc, waiting, order, depth, node, &tokens[i])?;
+    }
+    Ok(())
+}
+
+/// Lets a child wait, where it is opened.
+fn push_child<'a>(
+    alloc: Global,
+    waiting: &mut Vec<Waiting<'a>>,
+    order: &Order,
+    depth: usize,
+    node: &Opened<'a>,
+    token: &Token,
+) -> Result<(), NoMemory>
+    requires apart { Apart order.now }
+    requires room { HasRoom (drop node.now.from order.now) (places_of node.now.places.items) }
+    requires later { IsOneOf token.now.item.0 (drop node.now.from order.now) }
+    ensures { OnOk result (PushesChildren order.now depth node.now.from (places_of node.now.places.items) (token.now ∷ []) (stack_of waiting.old.items) (stack_of waiting.new.items)) }
+{
+    if token.bound.is_none() {
+        waiting.push(Waiting {
+            depth,
+            item: token.item,
+            node: child_node(alloc, order, node, token.item)?,
+        })?;
+    }
+    Ok(())
+}
+
+/// The node of a prefix with an item more.
+fn child_node<'a>(
+    alloc: Global,
+    order: &Order,
+    node: &Opened<'a>,
+    item: Item,
+) -> Result<Opened<'a>, NoMemory>
+    requires apart { Apart order.now }
+    requires room { HasRoom (drop node.now.from order.now) (places_of node.now.places.items) }
+    requires later { IsOneOf item.0 (drop node.now.from order.now) }
+    ensures places { IfOk result (λ child. places_of child.places.items ≡ narrowed item.0 (places_of node.now.places.items)) }
+    ensures after { IfOk result (λ child. drop child.from order.now ≡ after item.0 (drop node.now.from order.now)) }
+{
+    let Some(rank) = later_rank(order, node.from, item) else {
+        unreachable!()
+    };
+    Ok(Opened {
+        from: rank + 1,
+        places: narrowed(alloc, &node.places, item)?,
+    })
+}
+
+/// The key of a prefix: its items ascending.
+pub(crate) fn key_of(alloc: Global, prefix: &[Item]) -> Result<Key, NoMemory>
+    ensures { IfOk result (λ key. key ≡ map pos (ranking nat_cmp (numbers_of prefix.now))) }
+{
+    let mut numbers = Vec::new(alloc);
+    push_items(&mut numbers, prefix)?;
+    rank(&mut numbers);
+    let mut key = Key::new(alloc);
+    for number in &numbers {
+        key.push(i64::from(*number))?;
+    }
+    Ok(key)
+}
+
+/// Checks the line of the path, lets its children wait, and offers its entry.
+fn visit<'a>(
+    alloc: Global,
+    order: &Order,
+    least: i128,
+    line: u64,
+    path: &[Item],
+    node: &Opened<'a>,
+    text: &[u8],
+    waiting: &mut Vec<Waiting<'a>>,
+    found: &mut All,
+) -> Result<(), CheckFault>
+    requires apart { Apart order.now }
+    requires room { HasRoom (drop node.now.from order.now) (places_of node.now.places.items) }
+    ensures fault { Judges result (line_fault_at least line (node_at order.now (numbers_of path.now) node.now.from) (places_of node.now.places.items) (said_of text.now)) }
+    ensures pushed { OnOk result ((tokens : List Token) × SaysTokens text.now tokens × Follows (drop node.now.from order.now) (token_items tokens)
+        × PushesChildren order.now (length path.now) node.now.from (places_of node.now.places.items) tokens (stack_of waiting.old.items) (stack_of waiting.new.items)) }
+    ensures found { OnOk result (⟦<All as Collect>⟧.state found.new ≡ offered (⟦<All as Collect>⟧.state found.old) (entry_at (numbers_of path.now) (places_of node.now.places.items) ∷ [])) }
+{
+    let tokens = check_line(alloc, order, least, line, path, node, text)?;
+    push_children(alloc, waiting, order, path.len(), node, &tokens)?;
+    offer(alloc, path, node, found)?;
+    Ok(())
+}
+
+/// Offers the entry of the path.
+fn offer(alloc: Global, path: &[Item], node: &Opened<'_>, found: &mut All) -> Result<(), NoMemory>
+    requires { (later : List ℕ) × HasRoom later (places_of node.now.places.items) }
+    ensures { Takes (⟦<All as Collect>⟧.state found.old) (entry_at (numbers_of path.now) (places_of node.now.places.items) ∷ []) (⟦<All as Collect>⟧.state found.new) result }
+{
+    found.offer(Entry {
+        key: key_of(alloc, path)?,
+        utility: earned(&node.places),
+        support: node.places.len() as u64,
+    })
+}
+
+/// Checks the lines of prefixes, the first of them line 3, and answers the entries of those that reach the minimum. The
+/// prefixes that wait stand in a vector, each with its records narrowed from those of the one before, so that a deep text
+/// needs no stack.
+pub(crate) fn walk(
+    alloc: Global,
+    base: &Base<Record>,
+    order: &Order,
+    least: i128,
+    text: &[u8],
+) -> Result<Vec<Entry>, CheckFault>
+    requires apart { Apart order.now }
+    requires least { pos 1 ≤ℤ least }
+    requires small { length text.now ≤ 268435456 }
+    ensures fault { Judges result (walk (records_of base.now) least 3 (root order.now ∷ []) (pieces text.now)) }
+    ensures answer { IfOk result (λ entries. entries.items ≡ answer least None (map (prefix_entry (records_of base.now)) (prefixes_in (pieces text.now)))) }
+{
+    // This tells the proof that no sum overflows.
+    let _sum = base.sum();
+    let mut found = All::new(alloc, least);
+    let mut path = Vec::new(alloc);
+    let mut waiting = Vec::new(alloc);
+    let mut current = Some(root(alloc, base.records())?);
+    let mut rest = text;
+    let mut line = 3u64;
+    'lines: while let Some(node) = current {
+        let Some((text, more)) = cut(b'\n', rest) else {
+            return Err(CheckFault::NotOfForm { line });
+        };
+        visit(
+            alloc,
+            order,
+            least,
+            line,
+            &path,
+            &node,
+            text,
+            &mut waiting,
+            &mut found,
+        )?;
+        current = next(&mut path, &mut waiting)?;
+        rest = more;
+        line += 1;
+    }
+    if rest.is_empty() {
+        Ok(found.into_entries()?)
+    } else {
+        Err(CheckFault::NotOfForm { line })
+    }
+}
+
+/// The node of the empty prefix.
+fn root(alloc: Global, records: &[Record]) -> Result<Opened<'_>, NoMemory>
+    ensures from { IfOk result (λ node. node.from ≡ 0) }
+    ensures places { IfOk result (λ node. places_of node.places.items ≡ map (λ r. (r, pos 0)) records.now) }
+{
+    Ok(Opened {
+        from: 0,
+        places: first_places(alloc, records)?,
+    })
+}
