@@ -14,8 +14,8 @@ returns g c =
     let more = c.read_on.new.content.items in
     let most = c.args.most in
     let ended : (c.in_ok-count.count ≡ 0) ⊎ (most ≤ length more) = elim c.then-count-eq0.branch [
-      then-count-eq0-via-then-count-eq0 w ↦ inl (omega (arith, w.if-count-eq0)) |
-      then-count-eq0-via-else-count-eq0+then-len-most w ↦ inr (omega (arith, w.len.ensures, w.if-len-most))
+      | then-count-eq0-via-then-count-eq0 w ↦ inl (omega (arith, w.if-count-eq0))
+      | then-count-eq0-via-else-count-eq0+then-len-most w ↦ inr (omega (arith, w.len.ensures, w.if-len-most))
     ] in
     let inv = c.loop-content.invariant in
     subst (HasContent most files new c.args.name.now) (sym c.truncate.ensures.items)
