@@ -1,0 +1,61 @@
+-- The order by average is exact, and rankings by an exact order.
+use Rattle.std.proofs.Common.{◌≡◌, pos, max, ◌*ℤ◌, List, [], ◌∷◌, ◌++◌, refl, sym, ap, ◌∙◌, length, arith, inl, inr}
+use Rattle.std.specs.declared.cmp.Ordering.{Ordering}
+use Rattle.std.specs.declared.cmp.Ordering.TheVariants.{Less, Equal, Greater}
+use Rattle.std.specs.Ordering.{int_cmp, ordering_then}
+use Rattle.std.specs.Cmp.Lexicographic.{slice_cmp}
+use Rattle.std.specs.BTreeSet.{insert_key}
+use Rattle.std.proofs.lemmas.Map.Lookups.{CmpEqualImpliesEq, exact_unsigned, exact_signed}
+use Rattle.hu_kind.specs.declared.entry.Entry.{Entry}
+use Rattle.hu_kind.specs.Order.{ranking}
+use Rattle.hu_kind.proofs.lemmas.Members.{Member, Member-append_left, Member-append_right, Member-append_cases}
+use Rattle.hu_kind.proofs.lemmas.RankingLemmas.{IsExactOrder}
+use Rattle.hu_answer.proofs.lemmas.EntryOrder.{entry-same}
+use Rattle.hu_answer.proofs.lemmas.Ranked.{Member-ranked, Member-from_ranked, sorted-ranked, sorted-same}
+use Rattle.hu_average.specs.Order.{average_cmp, average_cmp_total, times-eq_cancel}
+
+-- both of two comparisons in turn answer `Equal` where they do together
+then_equal : (a b : Ordering) → ordering_then a b ≡ Equal → (a ≡ Equal) × (b ≡ Equal)
+then_equal Less b h = cc
+then_equal Equal b h = (refl, h)
+then_equal Greater b h = cc
+
+exact_key : CmpEqualImpliesEq (slice_cmp int_cmp)
+exact_key [] [] h = refl
+exact_key [] (y ∷ ys) h = cc
+exact_key (x ∷ xs) [] h = cc
+exact_key (x ∷ xs) (y ∷ ys) h =
+    let both = then_equal (int_cmp x y) (slice_cmp int_cmp xs ys) h in
+    let head = exact_signed x y both.0 in
+    let tail = exact_key xs ys both.1 in
+    cc
+
+average_exact : (a b : Entry) → average_cmp a b ≡ Equal → a ≡ b
+unfolding average_cmp
+average_exact a b h =
+    let first = then_equal _ _ h in
+    let second = then_equal _ _ first.1 in
+    let key = exact_key a.key b.key second.0 in
+    let fraction = exact_signed (b.utility *ℤ pos (max (length a.key) 1)) (a.utility *ℤ pos (max (length b.key) 1)) first.0 in
+    let same : (b.utility *ℤ pos (max (length a.key) 1)) ≡ (a.utility *ℤ pos (max (length a.key) 1)) =
+    fraction ∙ ap (λ key. a.utility *ℤ pos (max (length key) 1)) (sym key) in
+    let utility = times-eq_cancel b.utility a.utility (max (length a.key) 1) (omega arith) same in
+    entry-same a b key (sym utility) (exact_unsigned a.support b.support second.1)
+
+-- entries that are equal by average are the same
+pub average_order : IsExactOrder average_cmp
+average_order = record { total = average_cmp_total; exact = average_exact }
+
+-- lists with the same members have the same ranking
+pub ranking-same : {A : Type 0} (cmp : A → A → Ordering) → IsExactOrder cmp → (xs ys : List A) → ((z : A) → Member z xs → Member z ys)
+    → ((z : A) → Member z ys → Member z xs) → ranking cmp xs ≡ ranking cmp ys
+ranking-same cmp e xs ys there back = sorted-same cmp e (ranking cmp xs) (ranking cmp ys) (sorted-ranked cmp e xs) (sorted-ranked cmp e ys)
+    (λ z m. Member-ranked cmp e z ys (there z (Member-from_ranked cmp z xs m)))
+    (λ z m. Member-ranked cmp e z xs (back z (Member-from_ranked cmp z ys m)))
+
+-- one more element is put in, wherever it stands
+pub ranking-push : {A : Type 0} (cmp : A → A → Ordering) → IsExactOrder cmp → (xs : List A) (x : A)
+    → ranking cmp (xs ++ x ∷ []) ≡ insert_key cmp (ranking cmp xs) x
+ranking-push cmp e xs x = ranking-same cmp e (xs ++ x ∷ []) (x ∷ xs)
+    (λ z m. elim (Member-append_cases z xs (x ∷ []) m) [ inl k ↦ inr k | inr k ↦ elim k [ inl s ↦ inl s | inr none ↦ absurd none ] ])
+    (λ z m. elim m [ inl s ↦ Member-append_right z xs (x ∷ []) (inl s) | inr k ↦ Member-append_left z xs (x ∷ []) k ])

@@ -1,0 +1,9 @@
+pub mod lemmas
+pub mod Quotients
+pub mod AverageOrder
+pub mod BestLemmas
+pub mod PlainLemmas
+pub mod CoverLemmas
+pub mod SearchLemmas
+pub mod BoundLemmas
+pub mod TurnLemmas

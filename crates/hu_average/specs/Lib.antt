@@ -1,0 +1,7 @@
+pub mod Order
+pub mod Answer
+pub mod Best
+pub mod Extension
+pub mod Text
+pub mod Bound
+pub mod Worked
