@@ -9,7 +9,7 @@ use hu_kind::{Absolute, NoMemory};
 use std::alloc::Global;
 
 /// All records of the batches as one base, in their order. They move, in constant amortised time for each.
-pub(crate) fn joined<R: Absolute>(alloc: Global, batches: Vec<Base<R>>) -> Result<Base<R>, NoMemory>
+pub fn joined<R: Absolute>(alloc: Global, batches: Vec<Base<R>>) -> Result<Base<R>, NoMemory>
     requires { sum_by R.absolute (records_in batches.items) < 2 ^ 127 }
     ensures { IfOk result (λ base. records_of base ≡ records_in batches.items) }
 {

@@ -1,0 +1,54 @@
+//! The itemsets of high average utility by a named engine.
+
+ghost use Rattle.std.specs.Prelude.{◌≡◌, ◌<◌, ◌≤◌, ◌^◌, true, pos, ◌≤ℤ◌, IfOk, IfSome};
+ghost use Rattle.std.specs.List.{sum_by};
+ghost use Rattle.hu_kind.specs.Record.{absolute_of};
+ghost use Rattle.hu_base.specs.Base.{records_in, records_of};
+ghost use Rattle.hu_average.specs.Answer.{average_answer};
+ghost use Rattle.hu_mine.specs.Engine.{offers_further};
+
+use crate::batches::joined;
+use crate::engine::Engine;
+use hu_base::Base;
+use hu_kind::{Entry, NoMemory, Record};
+use hu_totals::{RankOrder, Ranked, Totals};
+use std::alloc::Global;
+
+/// The first `top` itemsets, or all of them, that earn at least `least` for each of their items in all records of the
+/// batches, by what they earn for each.
+pub fn average_entries(
+    alloc: Global,
+    batches: Vec<Base<Record>>,
+    engine: Engine,
+    least: i128,
+    top: Option<u32>,
+) -> Result<Vec<Entry>, NoMemory>
+    requires offered { offers_further engine ≡ true }
+    requires fit { sum_by absolute_of (records_in batches.items) < 2 ^ 127 }
+    requires least { pos 1 ≤ℤ least }
+    requires some { IfSome top (λ k. 1 ≤ k) }
+    ensures { IfOk result (λ entries. entries.items ≡ average_answer (records_in batches.items) least top) }
+{
+    let base = joined(alloc, batches)?;
+    match engine {
+        Engine::Plain => hu_average::mine_plain(alloc, &base, least, top),
+        _ => ranked_average(alloc, &base, least, top),
+    }
+}
+
+/// The same over one base by utility lists. A set that earns `least` for each of its items earns `least`, so that its items can
+/// reach that.
+fn ranked_average(
+    alloc: Global,
+    base: &Base<Record>,
+    least: i128,
+    top: Option<u32>,
+) -> Result<Vec<Entry>, NoMemory>
+    requires least { pos 1 ≤ℤ least }
+    requires some { IfSome top (λ k. 1 ≤ k) }
+    ensures { IfOk result (λ entries. entries.items ≡ average_answer (records_of base.now) least top) }
+{
+    let totals = Totals::of(alloc, base)?;
+    let ranked = Ranked::ordered(alloc, base, &totals, least, RankOrder::Value)?;
+    hu_average::mine(alloc, &ranked, least, top)
+}
