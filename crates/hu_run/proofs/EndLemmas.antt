@@ -2,19 +2,24 @@
 use Rattle.std.proofs.Common.{◌≡◌, ℕ, ◌≤◌, List, Result, Ok, Err, Option, Some, None, ap, sym, subst, refl, inl, inr, arith}
 use Rattle.std.specs.Prelude.{◌≢◌, IsErr, IsOkAnd, IfOk, IfErr, IfSome, slice_get, codes, ⊤}
 use Rattle.std.specs.Result.{result_err}
-use Rattle.std.specs.List.{Contains}
+use Rattle.std.specs.List.{Contains, drop-map}
+use Rattle.std.specs.String.{string_bytes}
+use Rattle.std.specs.declared.string.String.{String}
+use Rattle.std.specs.declared.alloc.Global.{Global}
+use Rattle.hu_input.specs.Names.{texts_of}
 use Rattle.std.proofs.lemmas.Result.{IfOk-weaker}
 use Rattle.std.proofs.lemmas.Option.{slice_get_within, get_or_from_slice_get}
 use Rattle.hu_io.specs.State.{SinkState, FilesState, Appended, Broke, Missed}
 use Rattle.hu_input.specs.Input.{Refusal}
+use Rattle.hu_proof.specs.declared.fault.CheckFault.{CheckFault}
 use Rattle.hu_run.specs.declared.words.WordFault.{WordFault}
 use Rattle.hu_run.specs.declared.stop.Stop.{Stop}
-use Rattle.hu_run.specs.declared.stop.Stop.TheVariants.{Words, Refused, ReadFailed, WriteFailed, NoMemory}
-use Rattle.hu_run.specs.Job.{Asked, job, names_of}
+use Rattle.hu_run.specs.declared.stop.Stop.TheVariants.{Words, Refused, ReadFailed, Denied, WriteFailed, NoMemory}
+use Rattle.hu_run.specs.Job.{Asked, mine, size, average, check, drill, job, names_of, reads_of}
 use Rattle.hu_run.specs.Ending.{Ending, ending, status_of}
-use Rattle.hu_run.specs.Stop.{stop_status, stop_line, told_line, word_text, refusal_line, read_failed_line}
+use Rattle.hu_run.specs.Stop.{stop_status, stop_line, told_line, word_text, refusal_line, read_failed_line, denial_line}
 use Rattle.hu_run.specs.Run.{Streams, Runs, Tells, ComesTo, WhereTold, Writing, Lacking, Unharmed}
-use Rattle.hu_run.specs.Attempt.{HasRefusal, HasFailed, Puts, Ends}
+use Rattle.hu_run.specs.Attempt.{HasText, HasRefusal, HasFailed, HasDenial, Puts, Ends}
 
 -- ---- results and options
 
@@ -61,6 +66,21 @@ if_some (Some x) P Q f p = f x p
 any_some : {A : Type 0} (o : Option A) (Q : A → Type 0) → ((x : A) → Q x) → IfSome o Q
 any_some None Q f = tt
 any_some (Some x) Q f = f x
+
+-- the texts of the words that name files are those words among the texts
+pub names-of-texts : (asked : Asked) (words : List (String Global)) → names_of asked (texts_of words) ≡ texts_of (names_of asked words)
+names-of-texts (mine m) words = drop-map string_bytes 4 words
+names-of-texts (size s) words = drop-map string_bytes 6 words
+names-of-texts (average s) words = drop-map string_bytes 4 words
+names-of-texts (check least cert) words = drop-map string_bytes 3 words
+names-of-texts (drill seed) words = refl
+
+-- what words ask for has a text
+pub has-text : (words : List (List ℕ)) (asked : Asked) (old new : FilesState) (names : List (List ℕ)) (text : List ℕ) (fact : List ℕ → Type 0)
+    → job words ≡ Ok asked → names ≡ names_of asked words → HasText asked old new names text → fact text → Puts words old new fact
+has-text words asked old new names text fact is named has so =
+    subst (λ j. IsOkAnd j (λ a. (t : List ℕ) × HasText a old new (names_of a words) t × fact t)) (sym is)
+    (text, subst (λ ns. HasText asked old new ns text) named has, so)
 
 -- a name at a place is one of the names
 pub place_is_among : (names : List (List ℕ)) (i : ℕ) (name : List ℕ) → slice_get names i ≡ Some name → Contains names name
@@ -163,6 +183,7 @@ module _ (s : Streams) where
         broken = λ is. absurd (omega (arith, is));
         broken_rose = λ is. absurd (omega (arith, is));
         broken_told = λ is. absurd (omega (arith, is));
+        denied = λ is. absurd (omega (arith, is));
         memory_told = λ is. absurd (omega (arith, is));
         complete = where_told (λ e is unharmed. inl is) (text-status (Appended s.out s.out_after) ends);
         lacking = text-not-lacking (Appended s.out s.out_after) _ ends;
@@ -194,6 +215,7 @@ module _ (s : Streams) where
         broken = λ _. text-done (Broke s.out s.out_after) ends;
         broken_rose = λ _. put.1.rose;
         broken_told = λ _. told_;
+        denied = λ is. absurd (omega (arith, is));
         memory_told = λ is. absurd (omega (arith, is));
         complete = where_told (λ e is unharmed. absurd (unharmed.out put.1.rose)) (text-status (Broke s.out s.out_after) ends);
         lacking = text-not-lacking (Broke s.out s.out_after) _ ends;
@@ -226,6 +248,40 @@ module _ (s : Streams) where
         broken = λ is. absurd (omega (arith, is));
         broken_rose = λ is. absurd (omega (arith, is));
         broken_told = λ is. absurd (omega (arith, is));
+        denied = λ is. absurd (omega (arith, is));
+        memory_told = λ is. absurd (omega (arith, is));
+        complete = if_ok (job s.words) _ _ (λ asked p. if_some (comes_to asked) _ _ (λ e is unharmed. inl (sym (ap status_of is))) p.ending) ends;
+        lacking = if_ok (job s.words) _ _ (λ asked p. if_some (comes_to asked) _ _ (λ e is lacking. absurd (subst Lacking is lacking)) p.ending) ends;
+        files_same = kept.files_same;
+        files_later = kept.files.later;
+        out_same = kept.out_same;
+        out_later = kept.out.later;
+        err_later = told.later;
+        contents = kept.files.contents;
+        files_plan = kept.files.plan;
+        out_plan = kept.out.plan;
+        err_plan = told.plan;
+      }
+
+  -- the certificate is refused
+  denied : (cert : List ℕ) (fault : CheckFault)
+      → IsOkAnd (job s.words) (λ asked. HasDenial asked s.files s.files_after (names_of asked s.words) cert fault) → s.out_after ≡ s.out
+      → Tells s (denial_line cert fault) → Runs s 6
+  denied cert fault ends unwritten told_ =
+      let told = sink-told s (denial_line cert fault) told_ in
+      let same : s.files_after ≡ s.files = from_ok (job s.words) _ _ (λ asked p. p.same) ends in
+      let kept = kept-stopped 6 same unwritten in
+      record {
+        within = omega arith;
+        done = λ is. absurd (omega (arith, is));
+        refused = λ is. absurd (omega (arith, is));
+        no_job = (λ is. absurd (omega (arith, is)), λ err. absurd (ok_no_err (job s.words) _ ends err));
+        no_job_told = if_err (job s.words) _ _ ends;
+        unread = λ is. absurd (omega (arith, is));
+        broken = λ is. absurd (omega (arith, is));
+        broken_rose = λ is. absurd (omega (arith, is));
+        broken_told = λ is. absurd (omega (arith, is));
+        denied = λ _. and_ok (job s.words) _ _ (λ asked p. (cert, fault, p.named, p.ending, told_)) ends;
         memory_told = λ is. absurd (omega (arith, is));
         complete = if_ok (job s.words) _ _ (λ asked p. if_some (comes_to asked) _ _ (λ e is unharmed. inl (sym (ap status_of is))) p.ending) ends;
         lacking = if_ok (job s.words) _ _ (λ asked p. if_some (comes_to asked) _ _ (λ e is lacking. absurd (subst Lacking is lacking)) p.ending) ends;
@@ -247,7 +303,7 @@ module _ (s : Streams) where
       let told = sink-told s (read_failed_line name) told_ in
       let missed : Missed s.files s.files_after name = from_ok (job s.words) _ _ (λ asked p. p.missed) ends in
       let harmed : Unharmed s → ⊥ = λ unharmed. both_ok (job s.words) _ _ (λ asked p none.
-      none name (place_is_among (names_of asked s.words) p.place name p.named) p.missed.rose) ends unharmed.files in
+      none name (place_is_among (reads_of asked s.words) p.place name p.named) p.missed.rose) ends unharmed.files in
       let kept = kept-unread name missed unwritten in
       record {
         within = omega arith;
@@ -259,6 +315,7 @@ module _ (s : Streams) where
         broken = λ is. absurd (omega (arith, is));
         broken_rose = λ is. absurd (omega (arith, is));
         broken_told = λ is. absurd (omega (arith, is));
+        denied = λ is. absurd (omega (arith, is));
         memory_told = λ is. absurd (omega (arith, is));
         complete = any_ok (job s.words) _ (λ asked. any_some (comes_to asked) _ (λ e unharmed. absurd (harmed unharmed)));
         lacking = any_ok (job s.words) _ (λ asked. any_some (comes_to asked) _ (λ e lacking. inl refl));
@@ -288,6 +345,7 @@ module _ (s : Streams) where
         broken = λ is. absurd (omega (arith, is));
         broken_rose = λ is. absurd (omega (arith, is));
         broken_told = λ is. absurd (omega (arith, is));
+        denied = λ is. absurd (omega (arith, is));
         memory_told = λ _. told_;
         complete = any_ok (job s.words) _ (λ asked. any_some (comes_to asked) _ (λ e unharmed. inr refl));
         lacking = any_ok (job s.words) _ (λ asked. any_some (comes_to asked) _ (λ e lacking. inr refl));
@@ -317,6 +375,7 @@ module _ (s : Streams) where
         broken = λ never. absurd (omega (arith, never));
         broken_rose = λ never. absurd (omega (arith, never));
         broken_told = λ never. absurd (omega (arith, never));
+        denied = λ never. absurd (omega (arith, never));
         memory_told = λ never. absurd (omega (arith, never));
         complete = no_ok (job s.words) fault _ is;
         lacking = no_ok (job s.words) fault _ is;
@@ -336,6 +395,7 @@ module _ (s : Streams) where
   stopped (Words fault) ends told = no_job fault ends.0 ends.1 ends.2 told
   stopped (Refused name number reason) ends told = refused name.now (record { number = number; reason = reason }) ends.0 ends.1 told
   stopped (ReadFailed name) ends told = unread name.now ends.0 ends.1 told
+  stopped (Denied cert fault) ends told = denied cert.now fault ends.0 ends.1 told
   stopped WriteFailed ends told = broken ends told
   stopped NoMemory ends told = out_of_memory (and_ok (job s.words) _ _ (λ asked p. tt) ends.0) (from_ok (job s.words) _ _ (λ asked p. p) ends.0) ends.1 told
 

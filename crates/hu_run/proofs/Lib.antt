@@ -3,3 +3,6 @@ mod EarnedLemmas
 mod EndLemmas
 mod LineLemmas
 mod SureLemmas
+mod CheckLemmas
+mod DenialLemmas
+mod SummaryLemmas

@@ -1,6 +1,6 @@
--- The words of the command line as a job: TASK ENGINE MIN TOP FILE [BATCH ..], sized ENGINE MIN TOP SHORT LONG FILE [BATCH ..],
--- or drill SEED.
-use Rattle.std.specs.Prelude.{◌≡◌, ⊤, ℕ, ◌≤◌, nat_lt, nat_le, Bool, true, false, ◌&&◌, ℤ, pos, ◌≤ℤ◌, int_le, unsigned_abs, IfSome, Option, None, Some, Result, Ok, Err, List, [], length, drop, codes, slice_index_or, if◌then◌else◌}
+-- The words of the command line as a job: TASK ENGINE MIN TOP FILE [BATCH ..], average ENGINE MIN TOP FILE [BATCH ..],
+-- sized ENGINE MIN TOP SHORT LONG FILE [BATCH ..], check MIN CERT FILE [BATCH ..], or drill SEED.
+use Rattle.std.specs.Prelude.{◌≡◌, ⊤, ℕ, ◌≤◌, nat_lt, nat_le, Bool, true, false, ◌&&◌, ℤ, pos, ◌≤ℤ◌, int_le, unsigned_abs, IfSome, Option, None, Some, Result, Ok, Err, List, [], ◌∷◌, ◌++◌, length, drop, codes, slice_index_or, if◌then◌else◌}
 use Rattle.std.specs.Option.{option_and_then, option_map}
 use Rattle.std.specs.Result.{result_ok}
 use Rattle.std.specs.Str.{bytes_eq}
@@ -104,10 +104,19 @@ pub record Sizing : Type 0 where
   pub short : ℕ
   pub long : ℕ
 
--- what is asked for: to mine files, for all itemsets or for those of some lengths, or a drill by a seed
+-- how an engine is to search: what is wanted earns a least utility, all of it or the first k
+pub record Searching : Type 0 where
+  pub engine : Engine
+  pub least : ℤ
+  pub top : Option ℕ
+
+-- what is asked for: to mine files, for itemsets of some lengths, or for those of high average utility, to check a certificate
+-- of this name at a least utility, or a drill by a seed
 pub data Asked : Type 0 where
   mine : Mining → Asked
   size : Sizing → Asked
+  average : Searching → Asked
+  check : ℤ → List ℕ → Asked
   drill : ℕ → Asked
 
 -- mining by these numbers
@@ -119,17 +128,21 @@ abbrev pub sizing : Engine → ℤ → Option ℕ → ℕ → ℕ → Asked
 sizing engine least top short long =
     size (record { engine = engine; least = least; top = top; short = short; long = long })
 
+-- itemsets of high average utility by these numbers
+abbrev pub averaging : Engine → ℤ → Option ℕ → Asked
+averaging engine least top = average (record { engine = engine; least = least; top = top })
+
 -- the word at a place
 abbrev pub word_at : List (List ℕ) → ℕ → List ℕ
 word_at words i = slice_index_or words i []
 
 -- an engine, a least utility and a k, which words say from the second on, or their first fault; the engine is read before
-abbrev pub search_of : Option Engine → List (List ℕ) → Result (Engine × ℤ × Option ℕ) WordFault
+abbrev pub search_of : Option Engine → List (List ℕ) → Result Searching WordFault
 search_of named words = do
   engine ← or_fault named EngineNotOffered
   least ← or_fault (least_of (word_at words 2)) BadMinimum
   top ← or_fault (top_of (word_at words 3)) BadTop
-  Ok (engine, least, top)
+  Ok (record { engine = engine; least = least; top = top })
 
 -- the job of words that name a task, or their first fault. The names of its files are the words after the fourth, at most 64.
 abbrev pub mining_job : List (List ℕ) → Result Asked WordFault
@@ -138,7 +151,7 @@ mining_job words = do
   task ← or_fault (task_of (word_at words 0)) TaskUnknown
   search ← search_of (offered_engine task (word_at words 1)) words
   few ← refuse_if (nat_lt 68 (length words)) TooManyFiles
-  Ok (mining task search.0 search.1 search.2)
+  Ok (mining task search.engine search.least search.top)
 
 -- the job of words that begin with `drill`, or their first fault
 abbrev pub drill_job : List (List ℕ) → Result Asked WordFault
@@ -155,20 +168,51 @@ sized_job words = do
   search ← search_of (further_engine (word_at words 1)) words
   lengths ← or_fault (lengths_of (word_at words 4) (word_at words 5)) BadLengths
   few ← refuse_if (nat_lt 70 (length words)) TooManyFiles
-  Ok (sizing search.0 search.1 search.2 lengths.0 lengths.1)
+  Ok (sizing search.engine search.least search.top lengths.0 lengths.1)
+
+-- the job of words that begin with `average`, or their first fault. The names of its files are the words after the fourth, at
+-- most 64.
+abbrev pub average_job : List (List ℕ) → Result Asked WordFault
+average_job words = do
+  enough ← refuse_if (nat_lt (length words) 5) TooFewWords
+  search ← search_of (further_engine (word_at words 1)) words
+  few ← refuse_if (nat_lt 68 (length words)) TooManyFiles
+  Ok (average search)
+
+-- the job of words that begin with `check`, or their first fault: the second word is a least utility, the third names a
+-- certificate, and those after it the files, at most 64
+abbrev pub check_job : List (List ℕ) → Result Asked WordFault
+check_job words = do
+  enough ← refuse_if (nat_lt (length words) 4) TooFewWords
+  least ← or_fault (least_of (word_at words 1)) BadMinimum
+  few ← refuse_if (nat_lt 67 (length words)) TooManyFiles
+  Ok (check least (word_at words 2))
 
 -- the job of the words, or their first fault
 abbrev pub job : List (List ℕ) → Result Asked WordFault
 job words =
     if bytes_eq (word_at words 0) (codes "drill") then drill_job words
     else if bytes_eq (word_at words 0) (codes "sized") then sized_job words
+    else if bytes_eq (word_at words 0) (codes "average") then average_job words
+    else if bytes_eq (word_at words 0) (codes "check") then check_job words
     else mining_job words
 
 -- the words that name the files of a job
 abbrev pub names_of : {W : Type 0} → Asked → List W → List W
 names_of (mine m) words = drop 4 words
 names_of (size s) words = drop 6 words
+names_of (average s) words = drop 4 words
+names_of (check least cert) words = drop 3 words
 names_of (drill seed) words = []
+
+-- the name of the certificate of a job that has one
+abbrev pub certificate_of : Asked → List (List ℕ)
+certificate_of (check least cert) = cert ∷ []
+certificate_of asked = []
+
+-- the names of all that a job reads, in the order of reading: its files, and then a certificate
+abbrev pub reads_of : Asked → List (List ℕ) → List (List ℕ)
+reads_of asked words = names_of asked words ++ certificate_of asked
 
 -- a seed in its range
 abbrev pub IsSeed : ℕ → Type 0
@@ -178,22 +222,30 @@ IsSeed seed = (1 ≤ seed) × (seed ≤ 2147483646)
 abbrev pub IsLawful : Asked → Type 0
 IsLawful (mine m) = (offers m.task m.engine ≡ true) × (pos 1 ≤ℤ m.least) × IfSome m.top (λ k. 1 ≤ k)
 IsLawful (size s) = (offers_further s.engine ≡ true) × (pos 1 ≤ℤ s.least) × IfSome s.top (λ k. 1 ≤ k) × AreLengths s.short s.long
+IsLawful (average s) = (offers_further s.engine ≡ true) × (pos 1 ≤ℤ s.least) × IfSome s.top (λ k. 1 ≤ k)
+IsLawful (check least cert) = pos 1 ≤ℤ least
 IsLawful (drill seed) = IsSeed seed
 
 -- a job that reads no file
 abbrev pub IsDrill : Asked → Type 0
 IsDrill (mine m) = ⊥
 IsDrill (size s) = ⊥
+IsDrill (average s) = ⊥
+IsDrill (check least cert) = ⊥
 IsDrill (drill seed) = ⊤
 
 -- what a `Job` asks for
 abbrev pub asked_of : Job → Asked
 asked_of (words.Mine task engine least top names) = mining task engine least top
 asked_of (words.Sized engine least top short long names) = sizing engine least top short long
+asked_of (words.Average engine least top names) = averaging engine least top
+asked_of (words.Check least cert names) = check least cert.now
 asked_of (words.Drill seed) = drill seed
 
 -- the names of its files
 abbrev pub files_of : Job → List (String Global)
 files_of (words.Mine task engine least top names) = names.now
 files_of (words.Sized engine least top short long names) = names.now
+files_of (words.Average engine least top names) = names.now
+files_of (words.Check least cert names) = names.now
 files_of (words.Drill seed) = []

@@ -6,8 +6,8 @@ use Rattle.hu_io.specs.State.{SinkState}
 use Rattle.hu_io.specs.Sure.{sure_state, sure_sink}
 use Rattle.hu_io.specs.MemoryFiles.{FilesView, files_state}
 use Rattle.hu_io.specs.MemorySink.{SinkView, sink_state}
-use Rattle.hu_run.specs.Job.{job, names_of}
-use Rattle.hu_run.specs.Ending.{Ending, writes, refuses, lacks, ending, status_of}
+use Rattle.hu_run.specs.Job.{job, names_of, reads_of}
+use Rattle.hu_run.specs.Ending.{Ending, writes, refuses, lacks, denies, ending, status_of}
 use Rattle.hu_run.specs.Run.{Streams, Runs, WhereTold, streams}
 
 -- the status is that of the ending, or want of memory
@@ -34,12 +34,13 @@ abbrev pub HasRoom : SinkView → Ending → Type 0
 HasRoom out (writes text) = length out.bytes + length text ≤ out.room
 HasRoom out (refuses name refusal) = ⊤
 HasRoom out (lacks name) = ⊤
+HasRoom out (denies cert fault) = ⊤
 
--- no call is to fail, every file that the words name is there, and there is room for the text that they come to
+-- no call is to fail, every file and certificate that the words name is there, and there is room for the text that they come to
 pub record IsUntroubled (words : List (List ℕ)) (files : FilesView) (out : SinkView) : Type 0 where
   pub no_failing_get : files.plan.failing ≡ []
   pub no_failing_put : out.plan.failing ≡ []
-  pub there : IfOk (job words) (λ asked. (name : List ℕ) → Contains (names_of asked words) name → IsSome (content_in files.files name))
+  pub there : IfOk (job words) (λ asked. (name : List ℕ) → Contains (reads_of asked words) name → IsSome (content_in files.files name))
   pub room : IfOk (job words) (λ asked. IfSome (ending asked (files_state files).contents (names_of asked words)) (HasRoom out))
 
 -- over such files and such a sink the status is that of the ending, or want of memory

@@ -5,5 +5,6 @@ pub mod Stop
 pub mod Answer
 pub mod Run
 pub mod Laws
+pub mod Summary
 pub mod Attempt
 pub mod Worked

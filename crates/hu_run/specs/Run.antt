@@ -4,9 +4,10 @@ use Rattle.std.specs.List.{Contains}
 use Rattle.hu_io.specs.Count.{Rose}
 use Rattle.hu_io.specs.State.{SinkState, FilesState, Appended, Broke}
 use Rattle.hu_input.specs.Input.{Refusal}
-use Rattle.hu_run.specs.Job.{Asked, job, names_of}
-use Rattle.hu_run.specs.Ending.{Ending, writes, refuses, lacks, ending, status_of}
-use Rattle.hu_run.specs.Stop.{told_line, word_text, refusal_line, read_failed_line}
+use Rattle.hu_proof.specs.declared.fault.CheckFault.{CheckFault}
+use Rattle.hu_run.specs.Job.{Asked, job, names_of, certificate_of, reads_of}
+use Rattle.hu_run.specs.Ending.{Ending, writes, refuses, lacks, denies, ending, status_of, IsAccepted}
+use Rattle.hu_run.specs.Stop.{told_line, word_text, refusal_line, read_failed_line, denial_line}
 
 -- a run's words, and its files and streams before and after it
 pub record Streams : Type 0 where
@@ -47,12 +48,14 @@ abbrev pub Writing : (List ℕ → Type 0) → Ending → Type 0
 Writing fact (writes text) = fact text
 Writing fact (refuses name refusal) = ⊥
 Writing fact (lacks name) = ⊥
+Writing fact (denies cert fault) = ⊥
 
 -- the ending is a file that isn't there
 abbrev pub Lacking : Ending → Type 0
 Lacking (writes text) = ⊥
 Lacking (refuses name refusal) = ⊥
 Lacking (lacks name) = ⊤
+Lacking (denies cert fault) = ⊥
 
 -- a line of a named file was told, and where the contents are told it is the first that is refused
 abbrev pub TellsRefused : Streams → Asked → Type 0
@@ -60,22 +63,29 @@ TellsRefused s asked = (name : List ℕ) × (refusal : Refusal) × Contains (nam
     × IfSome (ending asked s.files.contents (names_of asked s.words)) (λ e. e ≡ refuses name refusal)
     × Tells s (refusal_line name refusal.number refusal.reason)
 
--- a named file was told whose count rose, and where the contents are told every file before its place was accepted
+-- a file was told whose count rose, and where the contents are told every file before its place was accepted; the place of a
+-- certificate is after all files
 abbrev pub TellsUnread : Streams → Asked → Type 0
-TellsUnread s asked = (i : ℕ) × (name : List ℕ) × (slice_get (names_of asked s.words) i ≡ Some name)
+TellsUnread s asked = (i : ℕ) × (name : List ℕ) × (slice_get (reads_of asked s.words) i ≡ Some name)
     × Rose (s.files.faults name) (s.files_after.faults name)
-    × IfSome (ending asked s.files.contents (take i (names_of asked s.words))) (Writing (λ text. ⊤))
+    × IfSome s.files.contents (λ told. IsAccepted asked told (take i (names_of asked s.words)))
     × Tells s (read_failed_line name)
 
--- no count of a named file or of `out` rose
+-- a fault of the job's certificate was told, and where the contents are told it is the first one
+abbrev pub TellsDenied : Streams → Asked → Type 0
+TellsDenied s asked = (cert : List ℕ) × (fault : CheckFault) × Contains (certificate_of asked) cert
+    × IfSome (ending asked s.files.contents (names_of asked s.words)) (λ e. e ≡ denies cert fault)
+    × Tells s (denial_line cert fault)
+
+-- no count of `out` rose, nor that of a file or a certificate
 pub record Unharmed (s : Streams) : Type 0 where
-  pub files : IsOkAnd (job s.words) (λ asked. (name : List ℕ) → Contains (names_of asked s.words) name
+  pub files : IsOkAnd (job s.words) (λ asked. (name : List ℕ) → Contains (reads_of asked s.words) name
       → ¬ Rose (s.files.faults name) (s.files_after.faults name))
   pub out : ¬ Rose s.out.faults s.out_after.faults
 
 -- what a run promises of its status
 pub record Runs (s : Streams) (status : ℕ) : Type 0 where
-  pub within : status ≤ 5
+  pub within : status ≤ 6
   -- done: the whole text was appended
   pub done : status ≡ 0 → ComesTo s (Writing (Appended s.out s.out_after))
   -- a refused line: it is the first one, and the one that is told
@@ -83,12 +93,14 @@ pub record Runs (s : Streams) (status : ℕ) : Type 0 where
   -- refused words: exactly where they are no job
   pub no_job : (status ≡ 2) ↔ IsErr (job s.words)
   pub no_job_told : IfErr (job s.words) (λ fault. Tells s (told_line (word_text fault)))
-  -- a failed read of a named file
+  -- a failed read of a file or a certificate
   pub unread : status ≡ 3 → IsOkAnd (job s.words) (TellsUnread s)
   -- a failed write: a proper front of the text was appended
   pub broken : status ≡ 4 → ComesTo s (Writing (Broke s.out s.out_after))
   pub broken_rose : status ≡ 4 → Rose s.out.faults s.out_after.faults
   pub broken_told : status ≡ 4 → Tells s (told_line (codes "write failed"))
+  -- a refused certificate: its fault is the first one, and the one that is told
+  pub denied : status ≡ 6 → IsOkAnd (job s.words) (TellsDenied s)
   pub memory_told : status ≡ 5 → Tells s (told_line (codes "out of memory"))
   -- where no count rose the status is that of the ending, or want of memory; a missing file raises its own count
   pub complete : WhereTold s (λ e. Unharmed s → (status ≡ status_of e) ⊎ (status ≡ 5))

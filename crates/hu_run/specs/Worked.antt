@@ -7,11 +7,12 @@ use Rattle.hu_kind.specs.Order.{entry_cmp}
 use Rattle.hu_kind.specs.declared.task.Task.TheVariants.{Items, Closed, Sequences}
 use Rattle.hu_lines.specs.Limits.{refusal}
 use Rattle.hu_trans.specs.declared.fault.Fault.TheVariants.{TotalDisagrees}
-use Rattle.hu_mine.specs.declared.engine.Engine.TheVariants.{Plain, Kept, Chain}
+use Rattle.hu_mine.specs.declared.engine.Engine.TheVariants.{Plain, Lists, Kept, Chain}
 use Rattle.hu_input.specs.declared.reason.Reason.TheVariants.{Transaction}
-use Rattle.hu_run.specs.declared.words.WordFault.TheVariants.{TooFewWords, TooManyWords, BadSeed, TaskUnknown, EngineNotOffered, BadMinimum, BadTop, TooManyFiles}
-use Rattle.hu_run.specs.Job.{job, drill, mining}
-use Rattle.hu_run.specs.Ending.{Ending, writes, refuses, lacks, ending}
+use Rattle.hu_run.specs.declared.words.WordFault.TheVariants.{TooFewWords, TooManyWords, BadSeed, TaskUnknown, EngineNotOffered, BadMinimum, BadTop, BadLengths, TooManyFiles}
+use Rattle.hu_run.specs.Job.{job, drill, check, mining, sizing, averaging}
+use Rattle.hu_run.specs.Ending.{Ending, writes, refuses, lacks, denies, ending}
+use Rattle.hu_proof.specs.declared.fault.CheckFault.TheVariants.{NotOfForm}
 use Rattle.hu_run.specs.Stop.{refusal_line}
 
 -- ---- words
@@ -62,6 +63,21 @@ greatest_top = refl
 pub two_files : job (codes "closed" ∷ codes "kept" ∷ codes "030" ∷ codes "all" ∷ codes "f" ∷ codes "f" ∷ []) ≡ Ok (mining Closed Kept (pos 30) None)
 two_files = refl
 
+pub no_lengths : job (codes "sized" ∷ codes "lists" ∷ codes "30" ∷ codes "all" ∷ codes "5" ∷ codes "4" ∷ codes "f" ∷ []) ≡ Err BadLengths
+no_lengths = refl
+
+pub two_or_three : job (codes "sized" ∷ codes "lists" ∷ codes "30" ∷ codes "all" ∷ codes "2" ∷ codes "3" ∷ codes "f" ∷ []) ≡ Ok (sizing Lists (pos 30) None 2 3)
+two_or_three = refl
+
+pub by_average : job (codes "average" ∷ codes "lists" ∷ codes "14" ∷ codes "4" ∷ codes "f" ∷ []) ≡ Ok (averaging Lists (pos 14) (Some 4))
+by_average = refl
+
+pub no_file_to_check : job (codes "check" ∷ codes "5" ∷ codes "c" ∷ []) ≡ Err TooFewWords
+no_file_to_check = refl
+
+pub checked : job (codes "check" ∷ codes "5" ∷ codes "c" ∷ codes "f" ∷ []) ≡ Ok (check (pos 5) (codes "c"))
+checked = refl
+
 -- ---- endings
 
 -- base A in two files, and its second line with another total
@@ -100,6 +116,15 @@ refused_second_line = refl
 pub missing : ending (mining Closed Plain (pos 30) None) files (codes "b.txt" ∷ codes "d.txt" ∷ codes "w.txt" ∷ []) ≡ Some (lacks (codes "d.txt"))
 unfolding refusal
 missing = refl
+
+-- a certificate that isn't there, and one that isn't of its form
+pub no_certificate : ending (check (pos 5) (codes "d.txt")) files (codes "c.txt" ∷ []) ≡ Some (lacks (codes "d.txt"))
+unfolding refusal
+no_certificate = refl
+
+pub no_certificate_of_it : ending (check (pos 5) (codes "b.txt")) files (codes "c.txt" ∷ []) ≡ Some (denies (codes "b.txt") (NotOfForm 1))
+unfolding refusal
+no_certificate_of_it = refl
 
 -- where contents aren't told an ending is none
 pub untold : ending (mining Items Plain (pos 30) None) None (codes "b.txt" ∷ []) ≡ None

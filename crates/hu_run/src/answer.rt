@@ -5,6 +5,7 @@ ghost use Rattle.hu_io.specs.State.{PutsAll};
 ghost use Rattle.hu_drill.specs.Summary.{summary_line};
 ghost use Rattle.hu_run.specs.Answer.{line_text, text_of};
 
+use hu_average::write_averages;
 use hu_drill::{Summary, write_summary};
 use hu_io::{Failed, Sink};
 use hu_kind::{Entry, Task};
@@ -15,6 +16,8 @@ use hu_report::write_entries;
 pub(crate) enum Answer {
     /// The entries of a task.
     Entries { task: Task, entries: Vec<Entry> },
+    /// Entries by average.
+    Averages(Vec<Entry>),
     /// The lines of a drill.
     Lines(Vec<Line>),
 }
@@ -42,6 +45,7 @@ impl Answer {
     {
         match self {
             Answer::Entries { task, entries } => write_entries(entries, *task, sink),
+            Answer::Averages(entries) => write_averages(entries, sink),
             Answer::Lines(lines) => write_lines(lines, sink),
         }
     }

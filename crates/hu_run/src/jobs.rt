@@ -5,6 +5,8 @@ ghost use Rattle.hu_input.specs.Names.{texts_of};
 ghost use Rattle.hu_run.specs.Job.{asked_of, files_of, IsLawful, IsDrill};
 ghost use Rattle.hu_run.specs.Attempt.{Answers};
 
+mod average;
+mod check;
 mod drill;
 mod mine;
 mod sized;
@@ -42,6 +44,13 @@ pub(crate) fn answer<'a, F: Files>(
             long,
             names,
         } => sized::answer(alloc, files, engine, least, top, short, long, names),
+        Job::Average {
+            engine,
+            least,
+            top,
+            names,
+        } => average::answer(alloc, files, engine, least, top, names),
+        Job::Check { least, cert, names } => check::answer(alloc, files, least, cert, names),
         Job::Drill { seed } => Ok(drill::answer(alloc, seed)?),
     }
 }

@@ -1,7 +1,10 @@
-//! When the status of a run is that of what its job comes to. These calls do nothing: their contracts are the laws.
+//! What a run of mining wrote, and when the status of a run is that of what its job comes to. These calls do nothing: their
+//! contracts are the laws.
 
 ghost use Rattle.hu_run.specs.Laws.{IsSurelyDone, IsDoneInMemory};
+ghost use Rattle.hu_run.specs.Summary.{ItemRunsWriteFound, ClosedRunsWriteFound, SequenceRunsWriteFound};
 
+use hu_answer::{law_of_closed_itemsets, law_of_itemsets, law_of_order, law_of_sequences};
 use hu_io::{named_files_never_fail, roomy_sinks_never_fail};
 
 /// Over files and a sink that never fail, a run of a job ends as its contents say, or for want of memory.
@@ -17,4 +20,17 @@ pub fn law_of_memory_streams()
 {
     named_files_never_fail();
     roomy_sinks_never_fail();
+}
+
+/// Where its contents are told, a run of mining that ends with status 0 wrote the list of all patterns of its task that earn its
+/// minimum in the records of its files: each once and in the one order, and the first k of them where a k is asked for.
+pub fn law_of_written_answers()
+    ensures items { ItemRunsWriteFound }
+    ensures closed { ClosedRunsWriteFound }
+    ensures sequences { SequenceRunsWriteFound }
+{
+    law_of_itemsets();
+    law_of_closed_itemsets();
+    law_of_sequences();
+    law_of_order();
 }

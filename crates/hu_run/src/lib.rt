@@ -8,6 +8,7 @@
 #![tactic(auto)]
 
 mod answer;
+mod denial;
 mod jobs;
 pub mod laws;
 mod stop;

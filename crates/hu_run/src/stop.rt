@@ -2,12 +2,14 @@
 
 ghost use Rattle.std.specs.Prelude.{◌≡◌};
 ghost use Rattle.hu_input.specs.Part.{Tells};
-ghost use Rattle.hu_run.specs.Stop.{stop_status, stop_line, told_line, refusal_line, word_text};
+ghost use Rattle.hu_run.specs.Stop.{stop_status, stop_line, told_line, refusal_line, denial_line, word_text};
 
+use crate::denial::denial_line;
 use crate::words::WordFault;
 use hu_input::{InputStop, Part, Reason, tell};
 use hu_io::{Failed, Sink};
 use hu_kind::NoMemory;
+use hu_proof::CheckFault;
 
 /// Why a run stops short of its answer.
 #[derive(Clone, Copy)]
@@ -23,6 +25,11 @@ pub(crate) enum Stop<'a> {
     /// A read of this file failed.
     ReadFailed {
         name: &'a str,
+    },
+    /// This certificate isn't accepted.
+    Denied {
+        cert: &'a str,
+        fault: CheckFault,
     },
     /// A write of the answer failed.
     WriteFailed,
@@ -41,6 +48,7 @@ impl Stop<'_> {
             Stop::ReadFailed { .. } => 3,
             Stop::WriteFailed => 4,
             Stop::NoMemory => 5,
+            Stop::Denied { .. } => 6,
         }
     }
 
@@ -63,6 +71,7 @@ impl Stop<'_> {
                     Part::Text("\n"),
                 ],
             ),
+            Stop::Denied { cert, fault } => tell_denial(err, cert, *fault),
             Stop::WriteFailed => tell_text(err, "write failed"),
             Stop::NoMemory => tell_text(err, "out of memory"),
         }
@@ -99,6 +108,13 @@ fn tell_refusal<E: Sink>(err: &mut E, name: &str, number: u64, reason: Reason)
             Part::Text("\n"),
         ],
     );
+}
+
+/// Tells of a certificate that isn't accepted.
+fn tell_denial<E: Sink>(err: &mut E, cert: &str, fault: CheckFault)
+    ensures { Tells (E.state err.old) (E.state err.new) (denial_line cert.now fault) }
+{
+    tell(err, &denial_line(cert, fault));
 }
 
 /// The reason of refused words.

@@ -1,5 +1,6 @@
 //! Runs over files and sinks in memory.
 
+mod certificates;
 mod failures;
 mod limits;
 mod mining;

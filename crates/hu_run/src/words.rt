@@ -6,6 +6,8 @@ ghost use Rattle.std.specs.Str.{bytes_eq};
 ghost use Rattle.hu_input.specs.Names.{texts_of};
 ghost use Rattle.hu_run.specs.Job.{word_at, job, names_of, asked_of, files_of, IsLawful};
 
+mod average;
+mod check;
 mod drill;
 mod mining;
 mod numbers;
@@ -36,6 +38,21 @@ pub enum Job<'a> {
         long: u32,
         names: &'a [String],
     },
+    /// The first `top` itemsets, or all of them, that earn at least `least` for each of their items in the records of the named
+    /// files.
+    Average {
+        engine: Engine,
+        least: i128,
+        top: Option<u32>,
+        names: &'a [String],
+    },
+    /// Whether the certificate that is named `cert` shows all itemsets that earn at least `least` in the records of the named
+    /// files; and which these are.
+    Check {
+        least: i128,
+        cert: &'a str,
+        names: &'a [String],
+    },
     /// The patterns of generated records, which a seed tells, by one engine after another.
     Drill {
         seed: u32,
@@ -45,7 +62,8 @@ pub enum Job<'a> {
 /// Why words are no job. Where several are, the first of this list is meant.
 #[derive(Clone, Copy, Debug, PartialEq, Eq)]
 pub enum WordFault {
-    /// There are fewer than five words, fewer than two where the first is `drill`, or fewer than seven where it is `sized`.
+    /// There are fewer than five words, or fewer than two where the first is `drill`, seven where it is `sized`, four where it is
+    /// `check`.
     TooFewWords,
     /// The first word is `drill`, and there are more than two.
     TooManyWords,
@@ -55,7 +73,7 @@ pub enum WordFault {
     TaskUnknown,
     /// The second word is no engine that the task offers.
     EngineNotOffered,
-    /// The third word is no number from 1 to 2^127 - 1.
+    /// The third word, or the second after `check`, is no number from 1 to 2^127 - 1.
     BadMinimum,
     /// The fourth word is neither `all` nor a number from 1 to 1,000,000.
     BadTop,
@@ -76,6 +94,10 @@ pub fn read_words(words: &[String]) -> Result<Job<'_>, WordFault>
         drill::read(words)
     } else if begins_with(words, "sized") {
         sized::read(words)
+    } else if begins_with(words, "average") {
+        average::read(words)
+    } else if begins_with(words, "check") {
+        check::read(words)
     } else {
         mining::read(words)
     }

@@ -118,6 +118,25 @@ const SEQUENCE_RUNS: [(&str, &str, &str); 10] = [
     ("1 all empty comments", "", ""),
 ];
 
+const AVERAGE_RUNS: [(&str, &str, &str); 4] = [
+    (
+        "14 all a",
+        "2 #UTIL: 22 #LEN: 1\n1 #UTIL: 20 #LEN: 1\n2 5 #UTIL: 31 #LEN: 2\n2 4 #UTIL: 30 #LEN: 2\n5 #UTIL: 15 #LEN: 1\n1 3 #UTIL: 28 #LEN: 2\n2 3 #UTIL: 28 #LEN: 2\n4 #UTIL: 14 #LEN: 1\n",
+        "",
+    ),
+    (
+        "1 4 a",
+        "2 #UTIL: 22 #LEN: 1\n1 #UTIL: 20 #LEN: 1\n2 5 #UTIL: 31 #LEN: 2\n2 4 #UTIL: 30 #LEN: 2\n",
+        "",
+    ),
+    (
+        "5 all signed",
+        "3 #UTIL: 9 #LEN: 1\n2 #UTIL: 6 #LEN: 1\n2 3 #UTIL: 12 #LEN: 2\n1 3 #UTIL: 10 #LEN: 2\n",
+        "",
+    ),
+    ("1 all empty", "", ""),
+];
+
 const SIZED_RUNS: [(&str, &str, &str); 3] = [
     (
         "30 all 2 3 a",
@@ -169,6 +188,14 @@ fn itemsets(rt: HostRuntime) -> Result<(), Fail> {
 fn itemsets_of_some_lengths(rt: HostRuntime) -> Result<(), Fail> {
     for job in &["sized plain", "sized lists"] {
         each_ends(&rt, rt.alloc(), *job, 0, &SIZED_RUNS)?;
+    }
+    Ok(())
+}
+
+#[test]
+fn itemsets_by_average(rt: HostRuntime) -> Result<(), Fail> {
+    for job in &["average plain", "average lists"] {
+        each_ends(&rt, rt.alloc(), *job, 0, &AVERAGE_RUNS)?;
     }
     Ok(())
 }

@@ -6,7 +6,7 @@ use std::alloc::Global;
 use std::process::Abort;
 use std::test::Fail;
 
-const WORDS: [(&str, &str, &str); 22] = [
+const WORDS: [(&str, &str, &str); 27] = [
     ("", "", "hupm: too few words\n"),
     ("items plain 30 all", "", "hupm: too few words\n"),
     ("drill", "", "hupm: too few words\n"),
@@ -20,6 +20,11 @@ const WORDS: [(&str, &str, &str); 22] = [
     ("sized plain 1 0 0 0 f", "", "hupm: bad top\n"),
     ("sized lists 30 all 5 4 f", "", "hupm: bad lengths\n"),
     ("sized lists 30 all 1 4097 f", "", "hupm: bad lengths\n"),
+    ("average project 0 0 f", "", "hupm: engine not offered\n"),
+    ("average plain 0 0 f", "", "hupm: bad minimum\n"),
+    ("average lists 1 0 f", "", "hupm: bad top\n"),
+    ("check 0 c", "", "hupm: too few words\n"),
+    ("check 0 c f", "", "hupm: bad minimum\n"),
     ("sets lists 0 0 f", "", "hupm: unknown task\n"),
     ("seq kept 1 all f", "", "hupm: engine not offered\n"),
     ("seq lists 1 all f", "", "hupm: engine not offered\n"),

@@ -24,7 +24,7 @@ pub(super) fn read_search(engine: Option<Engine>, words: &[String]) -> Result<Se
     requires enough { 4 ≤ length words.now }
     ensures fault { result_err result ≡ result_err (search_of engine (texts_of words.now)) }
     ensures value { IfOk result (λ search. search_of engine (texts_of words.now)
-        ≡ Ok (search.engine, search.least, search.top)) }
+        ≡ Ok (record { engine = search.engine; least = search.least; top = search.top })) }
     ensures engine { IfOk result (λ search. engine ≡ Some search.engine) }
     ensures least { IfOk result (λ search. pos 1 ≤ℤ search.least) }
     ensures some { IfOk result (λ search. IfSome search.top (λ k. 1 ≤ k)) }

@@ -1,0 +1,9 @@
+use Rattle.hu_run.proofs.SummaryLemmas.{item-runs, closed-runs, sequence-runs}
+use Rattle.hu_run.proofs.laws.law_of_written_answers.Goals as goal
+
+pub returns : goal.returns
+returns c = record {
+  items = item-runs c.law_of_itemsets.ensures c.law_of_order.ensures.ascends;
+  closed = closed-runs c.law_of_closed_itemsets.ensures c.law_of_order.ensures.ascends;
+  sequences = sequence-runs c.law_of_sequences.ensures c.law_of_order.ensures.ascends;
+}

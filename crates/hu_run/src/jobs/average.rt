@@ -1,0 +1,35 @@
+//! Mining the itemsets of high average utility.
+
+ghost use Rattle.std.specs.Prelude.{◌≡◌, ◌≤◌, pos, ◌≤ℤ◌, true, IfSome};
+ghost use Rattle.hu_mine.specs.Engine.{offers_further};
+ghost use Rattle.hu_input.specs.Names.{texts_of};
+ghost use Rattle.hu_run.specs.Job.{averaging};
+ghost use Rattle.hu_run.specs.Attempt.{Answers};
+
+use crate::answer::Answer;
+use crate::stop::Stop;
+use hu_input::{Transactions, read_files};
+use hu_io::Files;
+use hu_mine::{Engine, average_entries};
+use std::alloc::Global;
+
+/// The first `top` itemsets, or all of them, that earn at least `least` for each of their items in all records of the named
+/// files.
+pub(crate) fn answer<'a, F: Files>(
+    alloc: Global,
+    files: &mut F,
+    engine: Engine,
+    least: i128,
+    top: Option<u32>,
+    names: &'a [String],
+) -> Result<Answer, Stop<'a>>
+    requires offered { offers_further engine ≡ true }
+    requires least { pos 1 ≤ℤ least }
+    requires some { IfSome top (λ k. 1 ≤ k) }
+    ensures { Answers (averaging engine least top)
+        (F.state files.old) (F.state files.new) (texts_of names.now) result }
+{
+    let batches = read_files::<Transactions, F>(alloc, files, names, 0)?;
+    let entries = average_entries(alloc, batches, engine, least, top)?;
+    Ok(Answer::Averages(entries))
+}

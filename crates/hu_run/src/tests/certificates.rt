@@ -1,0 +1,112 @@
+//! Runs that check a certificate.
+
+use super::{ends, words_of};
+use hu_io::MemoryFiles;
+use std::alloc::Global;
+use std::process::Abort;
+use std::test::Fail;
+
+const RECORDS: &str = "1 2:5:5 0\n";
+
+const ITS_ANSWER: &str = "1 #UTIL: 5\n1 2 #UTIL: 5\n";
+
+/// The text of a certificate over these records at a minimum of 5, and how the run ends.
+const CERTIFICATES: [(&str, u8, &str, &str); 11] = [
+    (
+        "cert 5\norder 1 2\n:0:1 2=0\n1:5:2\n1 2:5:\n",
+        0,
+        ITS_ANSWER,
+        "",
+    ),
+    (
+        "cert 5\norder 2 1\n:0:2=5 1\n1:5:\n",
+        6,
+        "",
+        "hupm: cert:3: bound 5 of item 2 reaches\n",
+    ),
+    ("", 6, "", "hupm: cert:1: not of the form\n"),
+    (
+        "cert 4\norder 1 2\n:0:1 2=0\n1:5:2\n1 2:5:\n",
+        6,
+        "",
+        "hupm: cert:1: minimum 4 stated\n",
+    ),
+    (
+        "cert 5\norder 1\n:0:1\n1:5:\n",
+        6,
+        "",
+        "hupm: cert:2: wrong order of items\n",
+    ),
+    (
+        "cert 5\norder 1 2\n:0:1 2=0\n2:5:\n1 2:5:\n",
+        6,
+        "",
+        "hupm: cert:4: wrong prefix\n",
+    ),
+    (
+        "cert 5\norder 1 2\n:0:1 2=0\n1:6:2\n1 2:5:\n",
+        6,
+        "",
+        "hupm: cert:4: utility 6 but sum 5\n",
+    ),
+    (
+        "cert 5\norder 1 2\n:0:1 2=0\n1:5:1\n1 2:5:\n",
+        6,
+        "",
+        "hupm: cert:4: item 1 out of order\n",
+    ),
+    (
+        "cert 5\norder 1 2\n:0:1\n1:5:2\n1 2:5:\n",
+        6,
+        "",
+        "hupm: cert:3: item 2 left out\n",
+    ),
+    (
+        "cert 5\norder 1 2\n:0:1 2=1\n1:5:2\n1 2:5:\n",
+        6,
+        "",
+        "hupm: cert:3: bound 1 of item 2 but sum 0\n",
+    ),
+    (
+        "cert 5\norder 1 2\n:0:1 2=0\n1:5:2\n",
+        6,
+        "",
+        "hupm: cert:5: not of the form\n",
+    ),
+];
+
+/// The words after `check`, and how a run ends that meets a missing or a refused file.
+const OTHER_ENDS: [(&str, u8, &str); 3] = [
+    ("5 missing f", 3, "hupm: read failed: missing\n"),
+    ("5 cert missing", 3, "hupm: read failed: missing\n"),
+    ("5 missing cert", 1, "hupm: cert:1: not three parts\n"),
+];
+
+/// The records and a certificate.
+fn files(alloc: Global, text: &str) -> Result<MemoryFiles, Fail> {
+    let mut files = MemoryFiles::new(alloc);
+    files.add("f", RECORDS.as_bytes())?;
+    files.add("cert", text.as_bytes())?;
+    Ok(files)
+}
+
+#[test]
+fn certificates(rt: HostRuntime) -> Result<(), Fail> {
+    for (text, status, written, told) in &CERTIFICATES {
+        let words = words_of(rt.alloc(), "check", "5 cert f")?;
+        let mut files = files(rt.alloc(), *text)?;
+        ends(
+            &rt,
+            rt.alloc(),
+            &words,
+            &mut files,
+            (*status, *written, *told),
+        )?;
+    }
+    for (rest, status, told) in &OTHER_ENDS {
+        let words = words_of(rt.alloc(), "check", *rest)?;
+        let mut files = files(rt.alloc(), "cert 5\n")?;
+        ends(&rt, rt.alloc(), &words, &mut files, (*status, "", *told))?;
+    }
+    Ok(())
+}
