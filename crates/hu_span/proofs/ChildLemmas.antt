@@ -84,7 +84,8 @@ fall-sorted children up =
 abbrev pub reaches_floor : ℤ → Child → Bool
 reaches_floor floor child = int_le floor child.bound
 
-pub among-kept : (floor : ℤ) (children kept : List Child) → IsPermutation (filter (reaches_floor floor) children) kept → AllByRecursion (Contains children) kept
+pub among-kept : (floor : ℤ) (children kept : List Child) → IsPermutation (filter (reaches_floor floor) children) kept → AllByRecursion
+    (Contains children) kept
 among-kept floor children kept same = by_members (Contains children) kept (λ child m.
     let c = Contains-permutation kept (filter (reaches_floor floor) children) child (IsPermutation-sym (filter (reaches_floor floor) children) kept same)
     (Contains-from_member child kept m) in
@@ -200,7 +201,8 @@ record IsWhole (records : Records) (keep : ℕ → Bool) (pattern : List (List �
   pub support : n ≡ sequence_support records (stepped pattern step)
   pub bound : (other : List (List ℕ)) → IsGrownFrom (stepped pattern step) other → sequence_utility records other ≤ℤ b
 
-module _ (records : Records) (keep : ℕ → Bool) (pattern : List (List ℕ)) (step : Step) (marks : List Mark) (from : IsStep records keep pattern step marks) where
+module _ (records : Records) (keep : ℕ → Bool) (pattern : List (List ℕ)) (step : Step) (marks : List Mark)
+    (from : IsStep records keep pattern step marks) where
   reached : IsReached (stepped pattern step)
   reached = grown-reached step.growth pattern step.item.0 from.begun from.may
 
@@ -257,7 +259,8 @@ module _ (records : Records) (keep : ℕ → Bool) (pattern : List (List ℕ)) (
 abbrev pub steps_by : Growth → List Item → List Step
 steps_by growth items = map (λ item. record { growth = growth; item = item }) items
 
-module _ (records : Records) (keep : ℕ → Bool) (pattern : List (List ℕ)) (growth : Growth) (marks : List Mark) (from : IsGathered records keep pattern growth marks) where
+module _ (records : Records) (keep : ℕ → Bool) (pattern : List (List ℕ)) (growth : Growth) (marks : List Mark)
+    (from : IsGathered records keep pattern growth marks) where
   -- an item of the marks makes a child
   pub step-gathered : (item : Item) → Member item (map (λ mark. mark.item) marks) → (run : List Mark) → run ≡ marks_with item.0 marks
       → IsStep records keep pattern (record { growth = growth; item = item }) run
@@ -319,10 +322,15 @@ module _ (records : Records) (keep : ℕ → Bool) (pattern : List (List ℕ)) (
       first (m ∷ ms) some = (m, inl refl)
 
 -- children of both kinds of growth
-pub children-both : (records : Records) (keep : ℕ → Bool) (pattern : List (List ℕ)) (first later : List Child) → AreChildrenBy records keep pattern IntoLast first
+pub children-both : (records : Records) (keep : ℕ → Bool) (pattern : List (List ℕ)) (first later : List Child)
+    → AreChildrenBy records keep pattern IntoLast first
     → AreChildrenBy records keep pattern AfterLast later
     → AreChildren records keep pattern (first ++ later)
-children-both records keep pattern first later into after = record { each = each-append (IsChild records keep pattern) first later into.each after.each; all = all }
+children-both records keep pattern first later into after = record {
+  each = each-append
+      (IsChild records keep pattern) first later into.each after.each;
+  all = all;
+}
   where
     all : (growth : Growth) (item : ℕ) → keep item ≡ true → MayTake growth pattern item → 0 < sequence_support records (grown growth pattern item)
         → HasStep (first ++ later) growth item

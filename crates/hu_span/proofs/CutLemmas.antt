@@ -1,5 +1,6 @@
 -- No pattern earns more that is grown by an item than the rows reach in which the item makes a child.
-use Rattle.std.proofs.Common.{◌≡◌, ℕ, suc, ◌<◌, Bool, true, false, cond, eqb, ℤ, pos, ◌≤ℤ◌, ◌<ℤ◌, Option, None, Some, is_some, unwrap_or, List, [], ◌∷◌, ◌++◌, map, length, refl, sym, ap, ◌∙◌, subst, ◌⊎◌, inl, inr, arith}
+use Rattle.std.proofs.Common.{◌≡◌, ℕ, suc, ◌<◌, Bool, true, false, cond, eqb, ℤ, pos, ◌≤ℤ◌, ◌<ℤ◌, Option, None, Some, is_some, unwrap_or, List, []}
+use Rattle.std.proofs.Common.{◌∷◌, ◌++◌, map, length, refl, sym, ap, ◌∙◌, subst, ◌⊎◌, inl, inr, arith}
 use Rattle.std.specs.List.{AllByRecursion}
 use Rattle.std.proofs.lemmas.Bool.{ne_eqb, eq-eqb}
 use Rattle.std.proofs.lemmas.Int.{ints, clamps}
@@ -156,7 +157,8 @@ below-first : (reaches : List ℤ) (item row : ℕ) (places : List Place) → Ar
 below-first reaches item row [] all = tt
 below-first reaches item row (place ∷ places) all = (all.0, below-first reaches item row places all.1)
 
-fit-first : (item row : ℕ) (places : List Place) → AllByRecursion (λ (mark : Mark). IsFit mark.place) (map (mark_at row item) places) → AllByRecursion IsFit places
+fit-first : (item row : ℕ) (places : List Place) → AllByRecursion (λ (mark : Mark). IsFit mark.place) (map (mark_at row item) places)
+    → AllByRecursion IsFit places
 fit-first item row [] all = tt
 fit-first item row (place ∷ places) all = (all.0, fit-first item row places all.1)
 
@@ -256,7 +258,8 @@ module _ (records : Records) (keep : ℕ → Bool) (steps : List Step) (marks : 
         let from = Member-from_map (λ (s : Step). s.item.0) item steps (Member-from_contains item (map (λ (s : Step). s.item.0) steps) step) in
         subst (λ n. keep n ≡ true) from.2 (at_member (λ (s : Step). keep s.item.0 ≡ true) from.0 steps (steps-kept keep steps own) from.1)
     | inr child ↦
-        let from = Member-from_map (λ (c : Child). c.step.item.0) item children (Member-from_contains item (map (λ (c : Child). c.step.item.0) children) child) in
+        let from = Member-from_map (λ (c : Child). c.step.item.0) item children (Member-from_contains item (map (λ
+        (c : Child). c.step.item.0) children) child) in
         let is = at_member (IsChild records keep p) from.0 children all.each from.1 in
         subst (λ n. keep n ≡ true) from.2 is.kept
   ]

@@ -177,7 +177,8 @@ abbrev pub first_from : ℕ → Records → List Mark
 first_from row [] = []
 first_from row (r ∷ rs) = walk_marks row 0 (pos 0) (totals r) [] r ++ first_from (suc row) rs
 
-pub first-found : (item row : ℕ) (rs : Records) → AllByRecursion IsSequence rs → marks_with item (first_from row rs) ≡ marks_from ((item ∷ []) ∷ []) item row rs
+pub first-found : (item row : ℕ) (rs : Records) → AllByRecursion IsSequence rs → marks_with item (first_from row rs) ≡ marks_from
+    ((item ∷ []) ∷ []) item row rs
 first-found item row [] rules = refl
 first-found item row (r ∷ rs) rules =
     filter-append (is_of item) (walk_marks row 0 (pos 0) (totals r) [] r) (first_from (suc row) rs)

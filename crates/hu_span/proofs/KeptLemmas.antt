@@ -1,5 +1,6 @@
 -- The items that are kept, and what they leave of records: patterns of kept items earn the same.
-use Rattle.std.proofs.Common.{◌≡◌, ℕ, zero, suc, ◌<◌, ◌≤◌, Bool, true, false, eqb, ◌||◌, List, [], ◌∷◌, length, get_or, refl, sym, ap, ◌∙◌, arith, inl, inr, Contains, IsPermutation}
+use Rattle.std.proofs.Common.{◌≡◌, ℕ, zero, suc, ◌<◌, ◌≤◌, Bool, true, false, eqb, ◌||◌, List, [], ◌∷◌, length, get_or, refl, sym, ap, ◌∙◌, arith}
+use Rattle.std.proofs.Common.{inl, inr, Contains, IsPermutation}
 use Rattle.std.specs.List.{list_any}
 use Rattle.std.specs.List.Sorted.{IsNonDecreasingBy, IsPartitionPoint}
 use Rattle.std.proofs.lemmas.Bool.{eq-eqb, eqb-true, ne_eqb, cases_order}
@@ -53,7 +54,8 @@ any-member item (one ∷ items) h = by (eqb item one.0) refl (any-member item it
 
 pub member-any : (items : List Item) (one : Item) → Member one items → any_is one.0 items ≡ true
 member-any [] one m = absurd m
-member-any (x ∷ items) one (inl e) = let yes : eqb one.0 x.0 ≡ true = eq-eqb one.0 x.0 (sym (ap (λ (i : Item). i.0) e)) in ap (λ b. b || any_is one.0 items) yes
+member-any (x ∷ items) one (inl e) = let yes : eqb one.0 x.0 ≡ true = eq-eqb one.0 x.0 (sym (ap (λ (i : Item). i.0) e)) in ap
+    (λ b. b || any_is one.0 items) yes
 member-any (x ∷ items) one (inr m) = by (eqb one.0 x.0) (member-any items one m)
   where
     by : (b : Bool) → any_is one.0 items ≡ true → (b || any_is one.0 items) ≡ true

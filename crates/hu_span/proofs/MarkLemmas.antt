@@ -65,7 +65,8 @@ module _ (keep : ℕ → Bool) where
   taken-with item (mark ∷ marks) kept = by (keep mark.item.0) refl (eqb item mark.item.0) refl (taken-with item marks kept)
     where
       by : (k : Bool) → keep mark.item.0 ≡ k → (b : Bool) → eqb item mark.item.0 ≡ b → marks_with item (filter (takes keep) marks) ≡ marks_with item marks
-          → marks_with item (cond k (mark ∷ filter (takes keep) marks) (filter (takes keep) marks)) ≡ cond b (mark ∷ marks_with item marks) (marks_with item marks)
+          → marks_with item (cond k (mark ∷ filter (takes keep) marks) (filter (takes keep) marks)) ≡ cond b (mark ∷ marks_with item marks)
+          (marks_with item marks)
       by true e b i rest = (λ j. cond (i j) (mark ∷ rest j) (rest j))
       by false e true i rest = let bad : true ≡ false = sym kept ∙ ap keep (eqb-true item mark.item.0 i) ∙ e in cc
       by false e false i rest = rest

@@ -1,5 +1,6 @@
 -- The items that a node keeps, and what is known of rows, one by one.
-use Rattle.std.proofs.Common.{◌≡◌, ℕ, ◌+◌, ◌<◌, Bool, true, false, eqb, ℤ, ◌≤ℤ◌, ◌<ℤ◌, List, [], ◌∷◌, ◌++◌, map, length, get_or, set, take, refl, sym, ap, ◌∙◌, subst, ◌⊎◌, inl, inr, arith, Contains, get_or-set_same, get_or-set_other, ◌≢◌}
+use Rattle.std.proofs.Common.{◌≡◌, ℕ, ◌+◌, ◌<◌, Bool, true, false, eqb, ℤ, ◌≤ℤ◌, ◌<ℤ◌, List, [], ◌∷◌, ◌++◌, map, length, get_or, set, take, refl, sym}
+use Rattle.std.proofs.Common.{ap, ◌∙◌, subst, ◌⊎◌, inl, inr, arith, Contains, get_or-set_same, get_or-set_other, ◌≢◌}
 use Rattle.std.specs.List.{AllByRecursion}
 use Rattle.std.proofs.lemmas.Bool.{eqb-true, eqb-false}
 use Rattle.std.proofs.lemmas.Int.{ints}
@@ -66,7 +67,8 @@ contains-last f xs i d within =
 
 -- the items of steps and of the first children
 pub record AreSoFar (steps : List Step) (children : List Child) (reaches : List ℤ) (floor : ℤ) (items : List Item) (i : ℕ) : Type 0 where
-  pub known : (one : Item) → Contains items one → Contains (map (λ step. step.item) steps) one ⊎ Contains (map (λ child. child.step.item) (take i children)) one
+  pub known : (one : Item) → Contains items one → Contains (map (λ step. step.item) steps) one ⊎ Contains (map (λ child. child.step.item)
+      (take i children)) one
   pub own : (one : Item) → Contains (map (λ step. step.item) steps) one → Contains items one
   pub reaching : AllByRecursion (λ child. Contains items child.step.item ⊎ (spread reaches child.marks.now <ℤ floor)) (take i children)
 
@@ -112,9 +114,11 @@ open-all steps children reaches floor items i kept whole so_far known all = reco
             (Contains-from_member from.0.item.0 (map (λ (s : Step). s.item.0) steps) (Member-map (λ (s : Step). s.item.0) from.0 steps from.1)))
         | inr child ↦
             let seen = subst (λ (cs : List Child). Contains (map (λ (c : Child). c.step.item) cs) found.0) whole child in
-            let from = Member-from_map (λ (c : Child). c.step.item) found.0 children (Member-from_contains found.0 (map (λ (c : Child). c.step.item) children) seen) in
+            let from = Member-from_map (λ (c : Child). c.step.item) found.0 children (Member-from_contains found.0 (map (λ
+            (c : Child). c.step.item) children) seen) in
             inr (subst (Contains (map (λ (c : Child). c.step.item.0) children)) (ap (λ (x : Item). x.0) from.2 ∙ found.2)
-            (Contains-from_member from.0.step.item.0 (map (λ (c : Child). c.step.item.0) children) (Member-map (λ (c : Child). c.step.item.0) from.0 children from.1)))
+            (Contains-from_member from.0.step.item.0 (map (λ (c : Child). c.step.item.0) children) (Member-map (λ
+            (c : Child). c.step.item.0) from.0 children from.1)))
       ];
   own = by_members (λ (s : Step). keeps kept s.item.0 ≡ true) steps (λ s m.
       all s.item (so_far.own s.item (Contains-from_member s.item (map (λ (t : Step). t.item) steps) (Member-map (λ (t : Step). t.item) s steps m))));

@@ -1,6 +1,7 @@
 -- The patterns that a search reaches: their itemsets ascend, they are no longer than the records in which they occur, and
 -- they are all patterns of the records.
-use Rattle.std.proofs.Common.{◌≡◌, Bool, ℕ, ◌<◌, ◌≤◌, ℤ, is_some, List, [], ◌∷◌, ◌++◌, length, refl, sym, ap, ◌∙◌, true, false, Option, None, Some, subst, inl, inr}
+use Rattle.std.proofs.Common.{◌≡◌, Bool, ℕ, ◌<◌, ◌≤◌, ℤ, is_some, List, [], ◌∷◌, ◌++◌, length, refl, sym, ap, ◌∙◌, true, false, Option, None, Some}
+use Rattle.std.proofs.Common.{subst, inl, inr}
 use Rattle.std.proofs.Common.{arith, length-append, Contains, ◌↔◌}
 use Rattle.std.specs.List.{AllByRecursion}
 use Rattle.hu_kind.specs.declared.entry.Entry.{Entry}
@@ -155,7 +156,14 @@ module _ (records : Records) (are : AreRecords records) where
         growth = AfterLast;
         item = i;
         may = tt;
-        grows = record { other = (i ∷ more) ∷ rest; from = reached i more rest all.0.1 all.1; kept = all-kept keep every ((i ∷ more) ∷ rest); occurs = occurs; is = is };
+        grows = record {
+          other = (i ∷ more) ∷ rest;
+          from = reached i more rest all.0.1 all.1;
+          kept = all-kept keep every
+              ((i ∷ more) ∷ rest);
+          occurs = occurs;
+          is = is;
+        };
       }
 
   -- what grows from the empty pattern are all patterns

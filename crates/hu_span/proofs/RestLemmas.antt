@@ -1,5 +1,6 @@
 -- The places of a pattern where fewer items count: they are the same, with other rests.
-use Rattle.std.proofs.Common.{◌≡◌, ℕ, zero, suc, ◌<◌, Bool, true, cond, eqb, ℤ, pos, ◌+ℤ◌, ◌≤ℤ◌, Option, None, Some, option_map, option_to_list, List, [], ◌∷◌, ◌++◌, map, length, take, refl, sym, ap, ◌∙◌, subst, arith, append_assoc, length-append}
+use Rattle.std.proofs.Common.{◌≡◌, ℕ, zero, suc, ◌<◌, Bool, true, cond, eqb, ℤ, pos, ◌+ℤ◌, ◌≤ℤ◌, Option, None, Some, option_map, option_to_list, List}
+use Rattle.std.proofs.Common.{[], ◌∷◌, ◌++◌, map, length, take, refl, sym, ap, ◌∙◌, subst, arith, append_assoc, length-append}
 use Rattle.std.specs.List.{AllByRecursion}
 use Rattle.std.proofs.lemmas.Int.{ints}
 use Rattle.std.proofs.lemmas.List.{length-map, map-append, take-map}
@@ -72,7 +73,8 @@ module _ (keep : ℕ → Bool) (pattern : List (List ℕ)) (kept : AreKept keep 
       step c (Some u) = refl
 
   from-weighed : (elements : List (List (ℕ × ℤ))) (e : ℕ) (left : List (List (ℕ × ℤ)))
-      → places_from pattern (weighed_in keep elements) e (weighed_in keep left) ≡ map (with_rest (weighed_in keep elements)) (places_from pattern elements e left)
+      → places_from pattern (weighed_in keep elements) e (weighed_in keep left) ≡ map (with_rest (weighed_in keep elements))
+      (places_from pattern elements e left)
   from-weighed elements e [] = refl
   from-weighed elements e (cells ∷ left) =
       let w = weighed_in keep elements in
@@ -81,11 +83,13 @@ module _ (keep : ℕ → Bool) (pattern : List (List ℕ)) (kept : AreKept keep 
       ∙ ap (λ ps. ps ++ map (with_rest w) (places_from pattern elements (suc e) left)) (listed here)
       ∙ sym (map-append (with_rest w) (option_to_list here) (places_from pattern elements (suc e) left))
     where
-      listed : (o : Option Place) → option_to_list (option_map (with_rest (weighed_in keep elements)) o) ≡ map (with_rest (weighed_in keep elements)) (option_to_list o)
+      listed : (o : Option Place) → option_to_list (option_map (with_rest (weighed_in keep elements)) o) ≡ map (with_rest (weighed_in keep elements))
+          (option_to_list o)
       listed None = refl
       listed (Some p) = refl
 
-  pub chain-weighed : (elements : List (List (ℕ × ℤ))) → chain_of pattern (weighed_in keep elements) ≡ map (with_rest (weighed_in keep elements)) (chain_of pattern elements)
+  pub chain-weighed : (elements : List (List (ℕ × ℤ))) → chain_of pattern (weighed_in keep elements) ≡ map (with_rest (weighed_in keep elements))
+      (chain_of pattern elements)
   chain-weighed elements = from-weighed elements 0 elements
 
 twice : (w v : List (List (ℕ × ℤ))) (places : List Place) → map (with_rest w) (map (with_rest v) places) ≡ map (with_rest w) places

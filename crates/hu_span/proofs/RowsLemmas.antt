@@ -107,7 +107,8 @@ first-row pattern item row (r ∷ rs) first later is = by (first-row pattern ite
   where
     by : (first ∷ later ≡ marks_from pattern item (suc row) rs → IsFirstRow pattern item (suc row) rs first later) → (places : List Place)
         → chain_of pattern r ≡ places
-        → first ∷ later ≡ map (mark_at row item) (chain_of pattern r) ++ marks_from pattern item (suc row) rs → IsFirstRow pattern item row (r ∷ rs) first later
+        → first ∷ later ≡ map (mark_at row item) (chain_of pattern r) ++ marks_from pattern item (suc row) rs → IsFirstRow pattern item row
+        (r ∷ rs) first later
     by ih [] none is =
         let next = ih (subst (λ ps. first ∷ later ≡ map (mark_at row item) ps ++ marks_from pattern item (suc row) rs) none is) in
         let k = next.skipped in
@@ -209,9 +210,11 @@ each-all : {A : Type 0} (P : A → Type 0) → ((x : A) → P x) → (xs : List 
 each-all P all [] = tt
 each-all P all (x ∷ xs) = (all x, each-all P all xs)
 
-pub grown-sorted : (keep : ℕ → Bool) (growth : Growth) (records : Records) (pattern : List (List ℕ)) (marks sorted : List Mark) → AllByRecursion IsSequence records
+pub grown-sorted : (keep : ℕ → Bool) (growth : Growth) (records : Records) (pattern : List (List ℕ)) (marks sorted : List Mark)
+    → AllByRecursion IsSequence records
     → IsReached pattern
-    → marks ≡ filter (takes keep) (grown_from growth pattern 0 records) → AllByRecursion IsFit (places_of marks) → IsNonDecreasingBy (λ mark. mark.item.0) sorted
+    → marks ≡ filter (takes keep) (grown_from growth pattern 0 records) → AllByRecursion IsFit (places_of marks) → IsNonDecreasingBy
+    (λ mark. mark.item.0) sorted
     → IsPermutation marks sorted
     → ((item : ℕ) → marks_with item sorted ≡ marks_with item marks) → AreGrown records keep pattern growth sorted
 grown-sorted keep growth records pattern marks sorted rules is whole fit up same each =
@@ -230,7 +233,8 @@ grown-sorted keep growth records pattern marks sorted rules is whole fit up same
     may AfterLast = each-all (λ (mark : Mark). MayTake AfterLast pattern mark.item.0)
         (λ mark. may-reached AfterLast pattern mark.item.0 is (Ends-reached pattern is)) (grown_from AfterLast pattern 0 records)
     may IntoLast =
-        each-weaker (λ (mark : Mark). last_item pattern < mark.item.0) (λ (mark : Mark). MayTake IntoLast pattern mark.item.0) (grown_from IntoLast pattern 0 records)
+        each-weaker (λ (mark : Mark). last_item pattern < mark.item.0) (λ (mark : Mark). MayTake IntoLast pattern mark.item.0)
+        (grown_from IntoLast pattern 0 records)
         (λ mark low. may-reached IntoLast pattern mark.item.0 is (record { ends = Ends-reached pattern is; below = low }))
         (grown-above pattern 0 records rules (Ends-reached pattern is))
 
@@ -277,7 +281,8 @@ pub record AreRowsLeft (records : Records) (keep : ℕ → Bool) (pattern : List
   pub row : ℕ
   pub left_is : left ≡ marks_from pattern (last_item pattern) row (drop row records)
   pub each : AllByRecursion (IsMark records (last_item pattern)) left
-  pub so_far : grown ++ filter (takes keep) (grown_from AfterLast pattern row (drop row records)) ≡ filter (takes keep) (grown_from AfterLast pattern 0 records)
+  pub so_far : grown ++ filter (takes keep) (grown_from AfterLast pattern row (drop row records)) ≡ filter (takes keep)
+      (grown_from AfterLast pattern 0 records)
   pub fit : AllByRecursion IsFit (places_of grown)
 
 drop-drop : {A : Type 0} (n k : ℕ) (xs : List A) → drop (suc k) (drop n xs) ≡ drop (suc (n + k)) xs
@@ -290,7 +295,8 @@ record_at-drop zero k rs = let same : k ≡ 0 + k = omega arith in ap (record_at
 record_at-drop (suc n) k [] = refl
 record_at-drop (suc n) k (r ∷ rs) = let same : suc (n + k) ≡ suc n + k = omega arith in record_at-drop n k rs ∙ ap (record_at (r ∷ rs)) same
 
-pub rows-first : (records : Records) (keep : ℕ → Bool) (pattern : List (List ℕ)) (marks grown : List Mark) → ArePlaces records pattern (last_item pattern) marks → grown ≡ []
+pub rows-first : (records : Records) (keep : ℕ → Bool) (pattern : List (List ℕ)) (marks grown : List Mark) → ArePlaces records pattern
+    (last_item pattern) marks → grown ≡ []
     → AreRowsLeft records keep pattern marks grown
 rows-first records keep pattern marks grown is none = record {
   row = 0;
@@ -327,7 +333,8 @@ module _ (records : Records) (keep : ℕ → Bool) (pattern : List (List ℕ)) (
   pub rows-fit : AllByRecursion IsFit (places_of (first ∷ take n later))
   rows-fit = fit-each records (last_item pattern) (first ∷ take n later) (is.each.0, each-take (IsMark records (last_item pattern)) n later is.each.1)
 
-  pub rows-next : (more : List Mark) → more ≡ grown ++ filter (takes keep) (later_marks (record_at records first.row) first.row (places_of (first ∷ take n later)))
+  pub rows-next : (more : List Mark) → more ≡ grown ++ filter (takes keep) (later_marks (record_at records first.row) first.row (places_of
+      (first ∷ take n later)))
       → AllByRecursion IsFit (places_of more)
       → AreRowsLeft records keep pattern (drop n later) more
   rows-next more more_is fit =

@@ -1,5 +1,6 @@
 -- What a search makes that offers all children of a pattern and then enters them best bound first.
-use Rattle.std.proofs.Common.{◌≡◌, Bool, true, ℕ, zero, suc, ◌<◌, ◌≤◌, ◌+◌, ℤ, ◌<ℤ◌, ◌≤ℤ◌, List, [], ◌∷◌, length, get_or, take, drop, refl, sym, ap, ◌∙◌, subst}
+use Rattle.std.proofs.Common.{◌≡◌, Bool, true, ℕ, zero, suc, ◌<◌, ◌≤◌, ◌+◌, ℤ, ◌<ℤ◌, ◌≤ℤ◌, List, [], ◌∷◌, length, get_or, take, drop, refl, sym, ap}
+use Rattle.std.proofs.Common.{◌∙◌, subst}
 use Rattle.std.proofs.Common.{inl, inr, ◌⊎◌, arith, Contains, Result, Ok, Err, IsErr, IfOk}
 use Rattle.std.specs.List.{AllByRecursion}
 use Rattle.std.proofs.lemmas.Bool.{false≢true}
@@ -229,7 +230,8 @@ module _ (records : Records) (keep : ℕ → Bool) (pattern : List (List ℕ)) w
         (λ e one. one-grows own all e are.each one) over-grows (λ e on pass high. on-cases all e are on) first second
 
     pub opened-some : {old mid new : State} (all : List Child) → AreKept keep pattern → AreChildren records keep pattern all
-        → Reached old (IsOneOf records pattern all) mid → ReachedSome mid (GrowsOver records keep pattern) new → ReachedSome old (GrowsOn records keep pattern) new
+        → Reached old (IsOneOf records pattern all) mid → ReachedSome mid (GrowsOver records keep pattern) new → ReachedSome old
+        (GrowsOn records keep pattern) new
     opened-some all own are first second =
         some-then {P = IsOneOf records pattern all} {Q = GrowsOver records keep pattern} {R = GrowsOn records keep pattern}
         (λ e one. one-grows own all e are.each one) over-grows first second

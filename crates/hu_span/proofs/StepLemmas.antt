@@ -91,7 +91,8 @@ key-into (items ∷ next ∷ pattern) item key some is =
     let rest : (k : List ℤ) × (sequence_key (next ∷ pattern) ≡ k ++ negsuc 0 ∷ []) = open_end next pattern in
     let first : List ℤ = map pos items ++ negsuc 0 ∷ [] in
     let ih = key-into (next ∷ pattern) item rest.0 (omega arith) rest.1 in
-    let whole : first ++ rest.0 ≡ key = same_end (first ++ rest.0) key (append_assoc first rest.0 (negsuc 0 ∷ []) ∙ ap (λ ns. first ++ ns) (sym rest.1) ∙ is) in
+    let whole : first ++ rest.0 ≡ key = same_end (first ++ rest.0) key (append_assoc first rest.0 (negsuc 0 ∷ []) ∙ ap (λ ns. first ++ ns) (sym rest.1)
+    ∙ is) in
     ap (λ ns. first ++ ns) ih
     ∙ sym (append_assoc first (rest.0 ++ pos item ∷ []) (negsuc 0 ∷ []))
     ∙ ap (λ ns. ns ++ negsuc 0 ∷ []) (sym (append_assoc first rest.0 (pos item ∷ [])) ∙ ap (λ ns. ns ++ pos item ∷ []) whole)

@@ -1,5 +1,6 @@
 -- The subsequences of a record are the sequences of ascending itemsets that occur in it.
-use Rattle.std.proofs.Common.{◌≡◌, ℕ, ◌<◌, ◌≤◌, ◌+◌, Bool, true, false, cond, eqb, nat_lt, ℤ, ◌+ℤ◌, Option, None, Some, is_some, option_map, List, [], ◌∷◌, map}
+use Rattle.std.proofs.Common.{◌≡◌, ℕ, ◌<◌, ◌≤◌, ◌+◌, Bool, true, false, cond, eqb, nat_lt, ℤ, ◌+ℤ◌, Option, None, Some, is_some, option_map, List, []}
+use Rattle.std.proofs.Common.{◌∷◌, map}
 use Rattle.std.proofs.Common.{length, filter, refl, sym, ◌∙◌, subst, ◌⊎◌, inl, inr, arith, sum_by}
 use Rattle.std.specs.List.{AllByRecursion}
 use Rattle.std.proofs.lemmas.Bool.{and_from, or_left, or_right, eq-eqb, lt-ltb, ltb-true}

@@ -1,6 +1,7 @@
 -- The rules of tails and walks, and of the marks that they give.
 use Rattle.std.proofs.Common.{◌≡◌, ℕ, zero, suc, ◌+◌, ◌<◌, ◌≤◌, ◌^◌, Bool, true, false, cond, eqb, ℤ, pos, ◌+ℤ◌, ◌-ℤ◌, ◌≤ℤ◌, ◌<ℤ◌, List, [], ◌∷◌, ◌++◌}
-use Rattle.std.proofs.Common.{filter, to_z, of_z, length, length-drop, append_assoc, append-nil, get_or, take, ◌-◌, drop, refl, sym, ap, ◌∙◌, subst, arith, sum_by}
+use Rattle.std.proofs.Common.{filter, to_z, of_z, length, length-drop, append_assoc, append-nil, get_or, take, ◌-◌, drop, refl, sym, ap, ◌∙◌, subst}
+use Rattle.std.proofs.Common.{arith, sum_by}
 use Rattle.std.specs.Int.{int_max, w128}
 use Rattle.std.specs.List.{AllByRecursion}
 use Rattle.std.proofs.lemmas.Bool.{eqb-true}
@@ -155,7 +156,8 @@ module _ (elements : List (List (ℕ × ℤ))) (rules : IsSequence elements) whe
   low-later e = low-totals (drop e elements) (each-drop IsPlain e elements plain)
 
   -- what is left after a place fits
-  pub rest-fits : (place : Place) → IsInside elements place → (total (cells_after elements place) +ℤ totals (drop (suc place.element) elements)) <ℤ pos (2 ^ 127)
+  pub rest-fits : (place : Place) → IsInside elements place → (total (cells_after elements place) +ℤ totals (drop (suc place.element) elements)) <ℤ pos
+      (2 ^ 127)
   rest-fits place is =
       let cells = element_at elements place.element in
       let parts = total-parts (suc place.cell) cells in
@@ -285,7 +287,8 @@ pub cell-left : (keep : ℕ → Bool) (cells : List Cell) (i : ℕ) (d : Cell) �
 cell-left keep cells i d above within =
     let whole = weighed keep (pairs_of cells) in
     let split = ap (λ cs. weighed keep (pairs_of cs)) (drop_more cells i d within) in
-    let dropped : weighed keep (pairs_of (drop i cells)) ≡ drop i whole = ap (weighed keep) (pairs-drop i cells) ∙ sym (drop-map (weigh keep) i (pairs_of cells)) in
+    let dropped : weighed keep (pairs_of (drop i cells)) ≡ drop i whole = ap (weighed keep) (pairs-drop i cells) ∙ sym (drop-map (weigh keep) i
+    (pairs_of cells)) in
     let rest = subst (AllByRecursion IsAbove) (sym dropped) (each-drop IsAbove i whole above) in
     let both = subst (AllByRecursion IsAbove) split rest in
     let before = total-above (take i whole) (each-take IsAbove i whole above) in
@@ -303,15 +306,23 @@ pub counted-z : (b : Bool) (v : ℤ) → pos 0 ≤ℤ counted b v → counted b 
 counted-z true v low high = kept-z v low high
 counted-z false v low high = refl
 
-taken-next : (marks : List Mark) (b : Bool) (mark : Mark) (rest : List Mark) → (marks ++ filter (λ _. b) (mark ∷ [])) ++ rest ≡ marks ++ cond b (mark ∷ rest) rest
+taken-next : (marks : List Mark) (b : Bool) (mark : Mark) (rest : List Mark) → (marks ++ filter (λ _. b) (mark ∷ [])) ++ rest ≡ marks ++ cond b
+    (mark ∷ rest) rest
 taken-next marks true mark rest = append_assoc marks (mark ∷ []) rest
 taken-next marks false mark rest = ap (λ ms. ms ++ rest) (append-nil marks)
 
 -- one more cell
-pub tail-next : (keep : ℕ → Bool) (row e c : ℕ) (best rest : ℤ) (cells : List Cell) (i : ℕ) (cell : Cell) (marks new whole : List Mark) (mark : Mark) (c' : ℕ) (rest' : ℤ)
+pub tail-next : (keep : ℕ → Bool) (row e c : ℕ) (best rest : ℤ) (cells : List Cell) (i : ℕ) (cell : Cell) (marks new whole : List Mark) (mark : Mark)
+    (c' : ℕ) (rest' : ℤ)
     (is_kept : Bool) → IsCellLeft keep cells i cell → is_kept ≡ keep cell.item.0
     → new ≡ marks ++ filter (λ _. is_kept) (mark ∷ [])
-    → mark ≡ mark_at row cell.item.0 (record { element = e; cell = c; best = best +ℤ counted (keep cell.item.0) cell.value; rest = rest -ℤ counted (keep cell.item.0) cell.value })
+    → mark ≡ mark_at row cell.item.0 (record {
+      element = e;
+      cell = c;
+      best = best +ℤ counted (keep cell.item.0) cell.value;
+      rest = rest -ℤ counted
+          (keep cell.item.0) cell.value;
+    })
     → c' ≡ suc c → rest' ≡ rest -ℤ counted (keep cell.item.0) cell.value
     → marks ++ filter (takes keep) (tail_marks row e c best rest (weighed keep (pairs_of (drop i cells)))) ≡ whole
     → new ++ filter (takes keep) (tail_marks row e c' best rest' (weighed keep (pairs_of (drop (i + 1) cells)))) ≡ whole
@@ -329,7 +340,8 @@ pub tail-end : (keep : ℕ → Bool) (row e c : ℕ) (best rest : ℤ) (cells : 
     → marks ++ filter (takes keep) (tail_marks row e c best rest (weighed keep (pairs_of (drop i cells)))) ≡ whole
     → marks ≡ whole
 tail-end keep row e c best rest cells i marks whole past so_far =
-    sym (append-nil marks) ∙ ap (λ cs. marks ++ filter (takes keep) (tail_marks row e c best rest (weighed keep (pairs_of cs)))) (sym (drop-past cells i past)) ∙ so_far
+    sym (append-nil marks) ∙ ap (λ cs. marks ++ filter (takes keep) (tail_marks row e c best rest (weighed keep (pairs_of cs)))) (sym
+    (drop-past cells i past)) ∙ so_far
 
 -- the walk after the first place of a row
 pub walk-later : (elements : List (List (ℕ × ℤ))) (last : ℕ) (place : Place) (places : List Place) (walk : Walk) → IsSequence elements
@@ -359,7 +371,8 @@ walk-later elements last place places walk rules is are fit fits best ahead left
 
 -- ---- where fewer items count
 
-pub inside-of : (keep : ℕ → Bool) (elements : List (List (ℕ × ℤ))) (last : ℕ) (place : Place) → IsPlaceOf (weighed_in keep elements) last place → IsInside elements place
+pub inside-of : (keep : ℕ → Bool) (elements : List (List (ℕ × ℤ))) (last : ℕ) (place : Place) → IsPlaceOf (weighed_in keep elements) last place
+    → IsInside elements place
 inside-of keep elements last place is =
     let at = place-at (weighed_in keep elements) last place is in
     weighed-inside keep elements place (record { element = at.0; cell = at.1 })

@@ -1,5 +1,6 @@
 -- What is left of records where kept items count alone.
-use Rattle.std.proofs.Common.{◌≡◌, ℕ, zero, suc, ◌+◌, ◌<◌, ◌≤◌, ◌&&◌, ◌||◌, Bool, true, false, cond, eqb, ℤ, pos, ◌+ℤ◌, ◌≤ℤ◌, int_lt, unsigned_abs, None, option_map, unwrap_or, is_some, List, [], ◌∷◌, map, length, get_or, drop, refl, sym, ap, ◌∙◌, arith, sum_by}
+use Rattle.std.proofs.Common.{◌≡◌, ℕ, zero, suc, ◌+◌, ◌<◌, ◌≤◌, ◌&&◌, ◌||◌, Bool, true, false, cond, eqb, ℤ, pos, ◌+ℤ◌, ◌≤ℤ◌, int_lt, unsigned_abs}
+use Rattle.std.proofs.Common.{None, option_map, unwrap_or, is_some, List, [], ◌∷◌, map, length, get_or, drop, refl, sym, ap, ◌∙◌, arith, sum_by}
 use Rattle.std.specs.List.{AllByRecursion, list_any}
 use Rattle.std.proofs.lemmas.Bool.{eqb-true}
 use Rattle.std.proofs.lemmas.Int.{ints}
@@ -142,7 +143,14 @@ module _ (keep : ℕ → Bool) where
   weighed-lengths [] = refl
   weighed-lengths (cells ∷ elements) =
       let f : List (ℕ × ℤ) → ℕ = λ cs. length cs in
-      omega (arith, weighed-lengths elements, length-map cells weigh, sum_by-cons f (weighed keep cells) (weighed_in keep elements), sum_by-cons f cells elements)
+      omega (
+        arith,
+        weighed-lengths elements,
+        length-map cells weigh,
+        sum_by-cons f (weighed keep cells)
+            (weighed_in keep elements),
+        sum_by-cons f cells elements,
+      )
 
   pub weighed-sequence : (elements : List (List (ℕ × ℤ))) → IsSequence elements → IsSequence (weighed_in keep elements)
   weighed-sequence elements is = record {
@@ -178,7 +186,8 @@ module _ (keep : ℕ → Bool) where
   weighed-record (r ∷ rs) zero = refl
   weighed-record (r ∷ rs) (suc k) = weighed-record rs k
 
-  pub weighed-after : (elements : List (List (ℕ × ℤ))) (place : Place) → cells_after (weighed_in keep elements) place ≡ weighed keep (cells_after elements place)
+  pub weighed-after : (elements : List (List (ℕ × ℤ))) (place : Place) → cells_after (weighed_in keep elements) place ≡ weighed keep
+      (cells_after elements place)
   weighed-after elements place =
       ap (drop (suc place.cell)) (weighed-element elements place.element) ∙ drop-map weigh (suc place.cell) (element_at elements place.element)
 
@@ -233,13 +242,16 @@ module _ (fewer keep : ℕ → Bool) (less : (item : ℕ) → fewer item ≡ tru
   weighed-less_all [] above = omega (arith, ints)
   weighed-less_all (cells ∷ elements) above = omega (arith, ints, weighed-less cells above.0, weighed-less_all elements above.1)
 
-  pub rest-less : (elements : List (List (ℕ × ℤ))) (e c : ℕ) → IsSequence elements → rest_at (weighed_in fewer elements) e c ≤ℤ rest_at (weighed_in keep elements) e c
+  pub rest-less : (elements : List (List (ℕ × ℤ))) (e c : ℕ) → IsSequence elements → rest_at (weighed_in fewer elements) e c ≤ℤ rest_at
+      (weighed_in keep elements) e c
   rest-less elements e c is =
       let above = all-above elements is.none_below in
       let cells = drop (suc c) (element_at elements e) in
       let later = drop (suc e) elements in
-      let a = ap (λ (cs : List (ℕ × ℤ)). total (drop (suc c) cs)) (weighed-element fewer elements e) ∙ ap total (drop-map (weigh fewer) (suc c) (element_at elements e)) in
-      let b = ap (λ (cs : List (ℕ × ℤ)). total (drop (suc c) cs)) (weighed-element keep elements e) ∙ ap total (drop-map (weigh keep) (suc c) (element_at elements e)) in
+      let a = ap (λ (cs : List (ℕ × ℤ)). total (drop (suc c) cs)) (weighed-element fewer elements e) ∙ ap total (drop-map (weigh fewer) (suc c)
+      (element_at elements e)) in
+      let b = ap (λ (cs : List (ℕ × ℤ)). total (drop (suc c) cs)) (weighed-element keep elements e) ∙ ap total (drop-map (weigh keep) (suc c)
+      (element_at elements e)) in
       let a' = ap totals (drop-map (weighed fewer) (suc e) elements) in
       let b' = ap totals (drop-map (weighed keep) (suc e) elements) in
       let here = weighed-less cells (each-drop IsAbove (suc c) (element_at elements e) (at elements e above)) in

@@ -1,6 +1,7 @@
 -- A pattern occurs where one does that holds it. Where a pattern grows from another one by an item, the other one with just
 -- this item more occurs.
-use Rattle.std.proofs.Common.{◌≡◌, ℕ, ◌<◌, ◌&&◌, Bool, true, false, cond, ℤ, ◌+ℤ◌, Option, None, Some, option_map, is_some, List, [], ◌∷◌, ◌++◌, length, refl, sym, ap, ◌∙◌, subst, ◌⊎◌, inl, inr, arith}
+use Rattle.std.proofs.Common.{◌≡◌, ℕ, ◌<◌, ◌&&◌, Bool, true, false, cond, ℤ, ◌+ℤ◌, Option, None, Some, option_map, is_some, List, [], ◌∷◌, ◌++◌}
+use Rattle.std.proofs.Common.{length, refl, sym, ap, ◌∙◌, subst, ◌⊎◌, inl, inr, arith}
 use Rattle.std.proofs.lemmas.Bool.{and_from}
 use Rattle.hu_kind.specs.Record.{has, holds, values_of}
 use Rattle.hu_kind.specs.Sequence.{best_utility, IsSequence}
@@ -137,22 +138,26 @@ used-before growth pattern other y x can used = by growth used.growth can used.c
     by IntoLast IntoLast can next occurs = record {
       growth = IntoLast;
       can = record { ends = can.ends; below = let last = last_item-into pattern y in omega (arith, can.below, next.below, last) };
-      occurs = λ elements rules some. occurs-within (into pattern x) (into (into pattern y) x) elements (within-into_into pattern x y) (occurs elements rules some);
+      occurs = λ elements rules some. occurs-within (into pattern x) (into (into pattern y) x) elements (within-into_into pattern x y)
+          (occurs elements rules some);
     }
     by IntoLast AfterLast can next occurs = record {
       growth = AfterLast;
       can = can.ends;
-      occurs = λ elements rules some. occurs-within (after pattern x) (after (into pattern y) x) elements (within-into_after pattern x y) (occurs elements rules some);
+      occurs = λ elements rules some. occurs-within (after pattern x) (after (into pattern y) x) elements (within-into_after pattern x y)
+          (occurs elements rules some);
     }
     by AfterLast IntoLast can next occurs = record {
       growth = AfterLast;
       can = can;
-      occurs = λ elements rules some. occurs-within (after pattern x) (into (after pattern y) x) elements (within-after_into pattern x y) (occurs elements rules some);
+      occurs = λ elements rules some. occurs-within (after pattern x) (into (after pattern y) x) elements (within-after_into pattern x y)
+          (occurs elements rules some);
     }
     by AfterLast AfterLast can next occurs = record {
       growth = AfterLast;
       can = can;
-      occurs = λ elements rules some. occurs-within (after pattern x) (after (after pattern y) x) elements (within-after_after pattern x y) (occurs elements rules some);
+      occurs = λ elements rules some. occurs-within (after pattern x) (after (after pattern y) x) elements (within-after_after pattern x y)
+          (occurs elements rules some);
     }
 
 occurs-front : (pattern other : List (List ℕ)) (elements : List (List (ℕ × ℤ))) → IsSequence elements → Ends pattern → IsGrownFrom pattern other

@@ -56,7 +56,8 @@ HasStep children growth item = (child : Child) × Contains children child × (ch
 -- all children of a pattern by a kind of growth
 pub record AreChildrenBy (records : Records) (keep : ℕ → Bool) (pattern : List (List ℕ)) (growth : Growth) (children : List Child) : Type 0 where
   pub each : AllByRecursion (IsChild records keep pattern) children
-  pub all : (item : ℕ) → keep item ≡ true → MayTake growth pattern item → 0 < sequence_support records (grown growth pattern item) → HasStep children growth item
+  pub all : (item : ℕ) → keep item ≡ true → MayTake growth pattern item → 0 < sequence_support records (grown growth pattern item)
+      → HasStep children growth item
 
 -- all children of a pattern
 pub record AreChildren (records : Records) (keep : ℕ → Bool) (pattern : List (List ℕ)) (children : List Child) : Type 0 where

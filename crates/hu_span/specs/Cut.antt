@@ -1,6 +1,7 @@
 -- What the records earn at most in which a pattern is grown by an item: no pattern with the item earns more. After the
 -- reduced sequence utility of HUS-Span (Wang, Huang and Chen, 2016).
-use Rattle.std.specs.Prelude.{◌≡◌, ◌==◌, ◌≤ℤ◌, ◌<ℤ◌, ◌+ℤ◌, ◌⊎◌, true, ℕ, ℤ, pos, Bool, false, Option, None, Some, List, [], ◌∷◌, if◌then◌else◌, slice_index_or, map}
+use Rattle.std.specs.Prelude.{◌≡◌, ◌==◌, ◌≤ℤ◌, ◌<ℤ◌, ◌+ℤ◌, ◌⊎◌, true, ℕ, ℤ, pos, Bool, false, Option, None, Some, List, [], ◌∷◌, if◌then◌else◌}
+use Rattle.std.specs.Prelude.{slice_index_or, map}
 use Rattle.std.specs.List.{AllByRecursion, Contains}
 use Rattle.hu_kind.specs.declared.item.Item.{Item}
 use Rattle.hu_chain.specs.Bound.{reach}

@@ -1,5 +1,6 @@
 -- The marks of all items by which a pattern can grow, by its places in a record.
-use Rattle.std.specs.Prelude.{◌≡◌, ◌==◌, Bool, true, if◌then◌else◌, ◌+◌, ◌<◌, ◌≤◌, ◌^◌, ⊤, ℕ, suc, ℤ, pos, ◌+ℤ◌, ◌-ℤ◌, ◌≤ℤ◌, ◌<ℤ◌, List, [], ◌∷◌, ◌++◌, drop, length}
+use Rattle.std.specs.Prelude.{◌≡◌, ◌==◌, Bool, true, if◌then◌else◌, ◌+◌, ◌<◌, ◌≤◌, ◌^◌, ⊤, ℕ, suc, ℤ, pos, ◌+ℤ◌, ◌-ℤ◌, ◌≤ℤ◌, ◌<ℤ◌, List, [], ◌∷◌}
+use Rattle.std.specs.Prelude.{◌++◌, drop, length}
 use Rattle.std.specs.List.{flat_map, AllByRecursion}
 use Rattle.std.specs.List.Sorted.{IsNonDecreasingBy}
 use Rattle.hu_kind.specs.Cell.{pairs_of}
@@ -22,7 +23,8 @@ use Rattle.hu_span.specs.Mark.{mark_at, marks_of, marks_with, places_of}
 abbrev pub tail_marks : ℕ → ℕ → ℕ → ℤ → ℤ → List (ℕ × ℤ) → List Mark
 tail_marks row e c best ahead [] = []
 tail_marks row e c best ahead (cell ∷ cells) =
-    mark_at row cell.0 (record { element = e; cell = c; best = best +ℤ cell.1; rest = ahead -ℤ cell.1 }) ∷ tail_marks row e (suc c) best (ahead -ℤ cell.1) cells
+    mark_at row cell.0 (record { element = e; cell = c; best = best +ℤ cell.1; rest = ahead -ℤ cell.1 }) ∷ tail_marks row e (suc c) best
+    (ahead -ℤ cell.1) cells
 
 -- those of elements, of which the first has a number, each after the best occurrence before it
 abbrev pub walk_marks : ℕ → ℕ → ℤ → ℤ → List Place → List (List (ℕ × ℤ)) → List Mark

@@ -32,9 +32,12 @@ pub(crate) fn children_of<'a>(
     into: &'a [Mark],
     after: &'a [Mark],
 ) -> Result<Vec<Child<'a>>, NoMemory>
-    requires into { (rs : Records) × (keep : ℕ → Bool) × (p : Pattern) × IsGathered rs keep p Growth.IntoLast into.now }
-    requires after { (rs : Records) × (keep : ℕ → Bool) × (p : Pattern) × IsGathered rs keep p Growth.AfterLast after.now }
-    ensures { (rs : Records) → (keep : ℕ → Bool) → (p : Pattern) → IsGathered rs keep p Growth.IntoLast into.now
+    requires into { (rs : Records) × (keep : ℕ → Bool) × (p : Pattern)
+        × IsGathered rs keep p Growth.IntoLast into.now }
+    requires after { (rs : Records) × (keep : ℕ → Bool) × (p : Pattern)
+        × IsGathered rs keep p Growth.AfterLast after.now }
+    ensures { (rs : Records) → (keep : ℕ → Bool) → (p : Pattern)
+        → IsGathered rs keep p Growth.IntoLast into.now
         → IsGathered rs keep p Growth.AfterLast after.now
         → IfOk result (λ children. AreChildren rs keep p children.items) }
 {
@@ -50,8 +53,10 @@ fn children_by<'a>(
     marks: &'a [Mark],
     growth: Growth,
 ) -> Result<Vec<Child<'a>>, NoMemory>
-    requires { (rs : Records) × (keep : ℕ → Bool) × (p : Pattern) × IsGathered rs keep p growth marks.now }
-    ensures { (rs : Records) → (keep : ℕ → Bool) → (p : Pattern) → IsGathered rs keep p growth marks.now
+    requires { (rs : Records) × (keep : ℕ → Bool) × (p : Pattern)
+        × IsGathered rs keep p growth marks.now }
+    ensures { (rs : Records) → (keep : ℕ → Bool) → (p : Pattern)
+        → IsGathered rs keep p growth marks.now
         → IfOk result (λ children. AreChildrenBy rs keep p growth children.items) }
 {
     let mut children = Vec::new(alloc);
@@ -67,7 +72,8 @@ fn children_by<'a>(
 
 /// The child of a step, by its marks.
 fn child_of<'a>(step: Step, marks: &'a [Mark]) -> Child<'a>
-    requires { (rs : Records) × (keep : ℕ → Bool) × (p : Pattern) × IsStep rs keep p step marks.now }
+    requires { (rs : Records) × (keep : ℕ → Bool) × (p : Pattern)
+        × IsStep rs keep p step marks.now }
     ensures step { result.step ≡ step }
     ensures child { (rs : Records) → (keep : ℕ → Bool) → (p : Pattern)
         → IsStep rs keep p step marks.now → IsChild rs keep p result }

@@ -36,7 +36,8 @@ pub(crate) fn open_items(
     reaches: &[i128],
     floor: i128,
 ) -> Result<Kept, NoMemory>
-    requires { AllByRecursion (λ child. AllByRecursion (λ mark. mark.row < length reaches.now) child.marks.now) children.now }
+    requires { AllByRecursion (λ child. AllByRecursion
+        (λ mark. mark.row < length reaches.now) child.marks.now) children.now }
     ensures { IfOk result (AreOpen steps.now children.now reaches.now floor) }
 {
     let mut items = Vec::new(alloc);

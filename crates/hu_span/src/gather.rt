@@ -40,10 +40,12 @@ pub(crate) fn gathered(
         × ArePlaces (weighed_of (keeps kept.now) records.now) p (last_item p) marks.now }
     ensures into { (p : Pattern) → IsReached p
         → ArePlaces (weighed_of (keeps kept.now) records.now) p (last_item p) marks.now
-        → IfOk result (λ grown. AreGrown (weighed_of (keeps kept.now) records.now) (keeps kept.now) p Growth.IntoLast grown.into.items) }
+        → IfOk result (λ grown. AreGrown (weighed_of (keeps kept.now) records.now)
+        (keeps kept.now) p Growth.IntoLast grown.into.items) }
     ensures after { (p : Pattern) → IsReached p
         → ArePlaces (weighed_of (keeps kept.now) records.now) p (last_item p) marks.now
-        → IfOk result (λ grown. AreGrown (weighed_of (keeps kept.now) records.now) (keeps kept.now) p Growth.AfterLast grown.after.items) }
+        → IfOk result (λ grown. AreGrown (weighed_of (keeps kept.now) records.now)
+        (keeps kept.now) p Growth.AfterLast grown.after.items) }
 {
     let into = marks_into(alloc, records, kept, marks)?;
     let after = marks_after(alloc, records, kept, marks)?;
@@ -58,7 +60,8 @@ pub(crate) fn first_grown(
 ) -> Result<Grown, NoMemory>
     ensures into { IfOk result (λ grown. grown.into.items ≡ []) }
     ensures after { IfOk result (λ grown.
-        AreGrown (weighed_of (keeps kept.now) records.now) (keeps kept.now) [] Growth.AfterLast grown.after.items) }
+        AreGrown (weighed_of (keeps kept.now) records.now)
+        (keeps kept.now) [] Growth.AfterLast grown.after.items) }
     ensures rules { IfOk result (λ _. AllByRecursion IsSequence records.now) }
 {
     let after = first_marks(alloc, records, kept)?;
@@ -71,7 +74,8 @@ pub(crate) fn first_grown(
 /// The marks of the kept items of records, in the order of the items.
 fn first_marks(alloc: Global, records: &[SeqRecord], kept: &Kept) -> Result<Vec<Mark>, NoMemory>
     ensures marks { IfOk result (λ marks.
-        AreGrown (weighed_of (keeps kept.now) records.now) (keeps kept.now) [] Growth.AfterLast marks.items) }
+        AreGrown (weighed_of (keeps kept.now) records.now)
+        (keeps kept.now) [] Growth.AfterLast marks.items) }
     ensures rules { IfOk result (λ _. AllByRecursion IsSequence records.now) }
 {
     let mut marks = Vec::new(alloc);
@@ -101,7 +105,8 @@ fn marks_into(
         × ArePlaces (weighed_of (keeps kept.now) records.now) p (last_item p) marks.now }
     ensures { (p : Pattern) → IsReached p
         → ArePlaces (weighed_of (keeps kept.now) records.now) p (last_item p) marks.now
-        → IfOk result (λ grown. AreGrown (weighed_of (keeps kept.now) records.now) (keeps kept.now) p Growth.IntoLast grown.items) }
+        → IfOk result (λ grown. AreGrown (weighed_of (keeps kept.now) records.now)
+        (keeps kept.now) p Growth.IntoLast grown.items) }
 {
     let mut grown = Vec::new(alloc);
     'marks: for mark in marks {
@@ -123,7 +128,8 @@ fn marks_after(
         × ArePlaces (weighed_of (keeps kept.now) records.now) p (last_item p) marks.now }
     ensures { (p : Pattern) → IsReached p
         → ArePlaces (weighed_of (keeps kept.now) records.now) p (last_item p) marks.now
-        → IfOk result (λ grown. AreGrown (weighed_of (keeps kept.now) records.now) (keeps kept.now) p Growth.AfterLast grown.items) }
+        → IfOk result (λ grown. AreGrown (weighed_of (keeps kept.now) records.now)
+        (keeps kept.now) p Growth.AfterLast grown.items) }
 {
     let mut grown = Vec::new(alloc);
     let mut left = marks;
@@ -161,7 +167,8 @@ fn push_beside(
     requires fit { IsFit mark.now.place }
     ensures marks { OnOk result (marks.new.items
         ≡ marks.old.items
-        ++ filter (takes (keeps kept.now)) (beside_marks (weighed_in (keeps kept.now) elements.now) mark.now.row mark.now.place)) }
+        ++ filter (takes (keeps kept.now)) (beside_marks (weighed_in
+        (keeps kept.now) elements.now) mark.now.row mark.now.place)) }
     ensures fit { OnOk result (StaysFit marks.old.items marks.new.items) }
 {
     let place = mark.place;
@@ -187,7 +194,8 @@ fn push_later(
 ) -> Result<(), NoMemory>
     requires rules { IsSequence elements.now }
     requires places { (last : ℕ)
-        × AllByRecursion (IsPlaceOf (weighed_in (keeps kept.now) elements.now) last) (places_of (first.now ∷ left.now)) }
+        × AllByRecursion (IsPlaceOf (weighed_in (keeps kept.now) elements.now) last) (places_of
+        (first.now ∷ left.now)) }
     requires fit { AllByRecursion IsFit (places_of (first.now ∷ left.now)) }
     ensures marks { OnOk result (marks.new.items
         ≡ marks.old.items
@@ -290,7 +298,8 @@ fn push_walk(
     requires walk { IsWalk (weighed_in (keeps kept.now) elements.now) first walk }
     ensures marks { OnOk result (marks.new.items
         ≡ marks.old.items
-        ++ filter (takes (keeps kept.now)) (marks_past (weighed_in (keeps kept.now) elements.now) first walk.entry)) }
+        ++ filter (takes (keeps kept.now)) (marks_past (weighed_in
+        (keeps kept.now) elements.now) first walk.entry)) }
     ensures fit { OnOk result (StaysFit marks.old.items marks.new.items) }
 {
     let mut walk = walk;
@@ -330,7 +339,8 @@ struct Tail<'a> {
 fn push_tail(marks: &mut Vec<Mark>, kept: &Kept, tail: Tail<'_>) -> Result<i128, NoMemory>
     requires { IsTail (keeps kept.now) tail }
     ensures marks { IfOk result (λ _. marks.new.items
-        ≡ marks.old.items ++ filter (takes (keeps kept.now)) (marks_in (keeps kept.now) tail.entry)) }
+        ≡ marks.old.items ++ filter (takes (keeps kept.now)) (marks_in
+        (keeps kept.now) tail.entry)) }
     ensures fit { IfOk result (λ _. StaysFit marks.old.items marks.new.items) }
     ensures rest { IfOk result (λ rest. rest
         ≡ tail.entry.ahead -ℤ total (weighed (keeps kept.now) (pairs_of tail.entry.cells.now))) }
@@ -357,7 +367,8 @@ fn push_tail(marks: &mut Vec<Mark>, kept: &Kept, tail: Tail<'_>) -> Result<i128,
 
 /// Appends a mark that is taken.
 fn push_if(marks: &mut Vec<Mark>, mark: Mark, is_taken: bool) -> Result<(), NoMemory>
-    ensures { OnOk result (marks.new.items ≡ marks.old.items ++ filter (λ _. is_taken) (mark ∷ [])) }
+    ensures { OnOk result (marks.new.items ≡ marks.old.items ++ filter (λ _. is_taken)
+        (mark ∷ [])) }
 {
     if is_taken {
         marks.push(mark)?;

@@ -38,7 +38,8 @@ pub fn mine<C: Collect>(
     base: &Base<SeqRecord>,
     collect: &mut C,
 ) -> Result<(), NoMemory>
-    ensures { Mines (C.state collect.old) (sequence_patterns (records_of base.now)) (C.state collect.new) result }
+    ensures { Mines (C.state collect.old) (sequence_patterns (records_of base.now))
+        (C.state collect.new) result }
 {
     // These tell the proof that what is held is in order, and that no sum overflows.
     let _floor = collect.floor();
@@ -86,10 +87,12 @@ fn deepen<C: Collect>(
     requires records { AreRecords records.now }
     requires rows { length reaches.old ≡ length records.now }
     requires pattern { AreKept (keeps kept.now) (pattern_of steps.old.items) }
-    requires grown { AreGathered (weighed_of (keeps kept.now) records.now) (keeps kept.now) (pattern_of steps.old.items) grown.now }
+    requires grown { AreGathered (weighed_of (keeps kept.now) records.now) (keeps kept.now)
+        (pattern_of steps.old.items) grown.now }
     ensures steps { OnOk result (steps.new.items ≡ steps.old.items) }
     ensures made { Searches (C.state collect.old)
-        (GrowsOver (weighed_of (keeps kept.now) records.now) (keeps kept.now) (pattern_of steps.old.items))
+        (GrowsOver (weighed_of (keeps kept.now) records.now) (keeps kept.now)
+        (pattern_of steps.old.items))
         (C.state collect.new) result }
 {
     let children = best_children(alloc, grown, collect.floor())?;
@@ -118,10 +121,12 @@ fn enter<C: Collect>(
     requires rows { length reaches.old ≡ length records.now }
     requires begun { IsBegun (pattern_of steps.old.items) }
     requires pattern { AreKept (keeps kept.now) (pattern_of steps.old.items) }
-    requires child { IsChild (weighed_of (keeps kept.now) records.now) (keeps kept.now) (pattern_of steps.old.items) child.now }
+    requires child { IsChild (weighed_of (keeps kept.now) records.now) (keeps kept.now)
+        (pattern_of steps.old.items) child.now }
     ensures steps { OnOk result (steps.new.items ≡ steps.old.items) }
     ensures made { Searches (C.state collect.old)
-        (GrowsOn (weighed_of (keeps kept.now) records.now) (keeps kept.now) (stepped (pattern_of steps.old.items) child.now.step))
+        (GrowsOn (weighed_of (keeps kept.now) records.now) (keeps kept.now) (stepped
+        (pattern_of steps.old.items) child.now.step))
         (C.state collect.new) result }
 {
     steps.push(child.step)?;
@@ -148,10 +153,12 @@ fn narrowed<C: Collect>(
     requires rows { length reaches.old ≡ length records.now }
     requires pattern { AreKept (keeps kept.now) (pattern_of steps.old.items) }
     requires reached { IsReached (pattern_of steps.old.items) }
-    requires places { ArePlaces (weighed_of (keeps kept.now) records.now) (pattern_of steps.old.items) (last_item (pattern_of steps.old.items)) marks.now }
+    requires places { ArePlaces (weighed_of (keeps kept.now) records.now)
+        (pattern_of steps.old.items) (last_item (pattern_of steps.old.items)) marks.now }
     ensures steps { OnOk result (steps.new.items ≡ steps.old.items) }
     ensures made { Narrows (C.state collect.old) (C.state collect.new)
-        (weighed_of (keeps kept.now) records.now) (keeps kept.now) (pattern_of steps.old.items) result }
+        (weighed_of (keeps kept.now) records.now) (keeps kept.now)
+        (pattern_of steps.old.items) result }
 {
     let grown = gathered(alloc, records, kept, marks)?;
     let children = children_of(alloc, &grown.into, &grown.after)?;
@@ -166,7 +173,8 @@ fn best_children<'a>(
     grown: &'a Grown,
     floor: i128,
 ) -> Result<Vec<Child<'a>>, NoMemory>
-    requires { (rs : Records) × (keep : ℕ → Bool) × (p : Pattern) × AreGathered rs keep p grown.now }
+    requires { (rs : Records) × (keep : ℕ → Bool) × (p : Pattern)
+        × AreGathered rs keep p grown.now }
     ensures { (rs : Records) → (keep : ℕ → Bool) → (p : Pattern) → AreGathered rs keep p grown.now
         → IfOk result (λ kept. AreKeptBest rs keep p floor kept.items) }
 {
@@ -182,11 +190,13 @@ fn offer_grown<C: Collect>(
     collect: &mut C,
 ) -> Result<(), NoMemory>
     requires ordered { IsInOrder (C.state collect.old) }
-    requires grown { (rs : Records) × (keep : ℕ → Bool) × AreGathered rs keep (pattern_of steps.old.items) grown.now }
+    requires grown { (rs : Records) × (keep : ℕ → Bool) × AreGathered rs keep
+        (pattern_of steps.old.items) grown.now }
     ensures steps { OnOk result (steps.new.items ≡ steps.old.items) }
     ensures made { (rs : Records) → (keep : ℕ → Bool) → AreKept keep (pattern_of steps.old.items)
         → AreGathered rs keep (pattern_of steps.old.items) grown.now
-        → OffersAll (C.state collect.old) (C.state collect.new) rs keep (pattern_of steps.old.items) result }
+        → OffersAll (C.state collect.old) (C.state collect.new) rs keep
+        (pattern_of steps.old.items) result }
 {
     let children = children_of(alloc, &grown.into, &grown.after)?;
     offer_children(alloc, steps, &children, collect)
@@ -221,9 +231,11 @@ fn offer_child<C: Collect>(
     child: &Child<'_>,
     collect: &mut C,
 ) -> Result<(), NoMemory>
-    requires { (rs : Records) × (keep : ℕ → Bool) × IsChild rs keep (pattern_of steps.old.items) child.now }
+    requires { (rs : Records) × (keep : ℕ → Bool) × IsChild rs keep
+        (pattern_of steps.old.items) child.now }
     ensures steps { OnOk result (steps.new.items ≡ steps.old.items) }
-    ensures made { (rs : Records) → (keep : ℕ → Bool) → IsChild rs keep (pattern_of steps.old.items) child.now
+    ensures made { (rs : Records) → (keep : ℕ → Bool) → IsChild rs keep
+        (pattern_of steps.old.items) child.now
         → Takes (C.state collect.old) (child_entry rs (pattern_of steps.old.items) child.now ∷ [])
         (C.state collect.new) result }
 {

@@ -38,7 +38,8 @@ items-preserved c =
           c.in_ok-push.ensures.items c.items.invariant.steps c.child_of.ensures.step;
       each = λ rs keep p from. subst (AllByRecursion (IsChild rs keep p)) (sym c.in_ok-push.ensures.items)
           (each-push (IsChild rs keep p) c.items.children.items c.child_of.result (c.items.invariant.each rs keep p from)
-          (c.child_of.ensures.child rs keep p (step-gathered rs keep p c.args.growth marks from (get_or items i none) among c.run_of.result.now c.run_of.ensures)));
+          (c.child_of.ensures.child rs keep p (step-gathered rs keep p c.args.growth marks from
+          (get_or items i none) among c.run_of.result.now c.run_of.ensures)));
     }
 
 pub returns : goal.returns

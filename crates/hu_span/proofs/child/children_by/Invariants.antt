@@ -8,5 +8,6 @@ use Rattle.hu_span.proofs.child.children_by.Given as goal
 abbrev pub invariant-items : goal.invariant-items
 invariant-items l = record {
   steps : map (λ child. child.step) l.children.items ≡ steps_by l.growth (take l.item-index l.item-items);
-  each : (rs : Records) → (keep : ℕ → Bool) → (p : List (List ℕ)) → IsGathered rs keep p l.growth l.marks → AllByRecursion (IsChild rs keep p) l.children.items;
+  each : (rs : Records) → (keep : ℕ → Bool) → (p : List (List ℕ)) → IsGathered rs keep p l.growth l.marks → AllByRecursion
+      (IsChild rs keep p) l.children.items;
 }

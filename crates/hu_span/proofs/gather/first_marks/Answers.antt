@@ -58,7 +58,8 @@ records-preserved c =
     let after = first_from (suc row) (drop (suc row) rs) in
     let split = first-next rs row w within at in
     let so_far = c.records.invariant.so_far in
-    let front = each-push IsSequence (take row records) (get_or records row r) c.records.invariant.rules (subst IsSequence c.index-records-row.is c.elements-elements.ensures.rules) in
+    let front = each-push IsSequence (take row records) (get_or records row r) c.records.invariant.rules
+    (subst IsSequence c.index-records-row.is c.elements-elements.ensures.rules) in
     let fronts = subst (AllByRecursion IsSequence) (sym (take_more records row r c.records-test.true)) front in
     record {
       so_far = rw add-one (ap (λ ms. ms ++ filter (takes keep) after) c.in_ok-push_walk.ensures.marks

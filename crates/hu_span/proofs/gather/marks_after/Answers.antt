@@ -69,5 +69,6 @@ returns c p is places =
     let records = weighed_of keep c.args.records.now in
     let none = no-marks c.rows.left.now c.in_default.ensures.cases in
     let left = subst (λ (ms : List Mark). AreRowsLeft records keep p ms c.rows.grown.items) none (c.rows.invariant p is places) in
-    grown-sorted keep AfterLast records p c.rows.grown.items c.by_item.new.marks.items (weighed-rules keep c.args.records.now c.requires.rules) is (rows-end records keep p c.rows.grown.items left) left.fit
+    grown-sorted keep AfterLast records p c.rows.grown.items c.by_item.new.marks.items (weighed-rules keep c.args.records.now c.requires.rules) is
+    (rows-end records keep p c.rows.grown.items left) left.fit
     c.in_ok-by_item.ensures.sorted c.in_ok-by_item.ensures.same c.in_ok-by_item.ensures.each

@@ -14,5 +14,6 @@ returns c p is places =
     let rs = weighed_of keep c.args.records.now in
     let all = take_all c.marks.mark-index c.args.marks.now (omega (arith, c.marks-test.false)) in
     let whole = c.marks.invariant.so_far ∙ ap (flat_map (beside_kept keep rs)) (all ∙ places.is) ∙ beside-all keep rs p (last_item p) in
-    grown-sorted keep IntoLast rs p c.marks.grown.items c.by_item.new.marks.items (weighed-rules keep c.args.records.now c.requires.rules) is whole c.marks.invariant.fit
+    grown-sorted keep IntoLast rs p c.marks.grown.items c.by_item.new.marks.items
+    (weighed-rules keep c.args.records.now c.requires.rules) is whole c.marks.invariant.fit
     c.in_ok-by_item.ensures.sorted c.in_ok-by_item.ensures.same c.in_ok-by_item.ensures.each

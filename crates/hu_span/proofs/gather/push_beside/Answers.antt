@@ -11,7 +11,11 @@ pub overflow_add-tail : goal.overflow_add-tail
 overflow_add-tail c =
     let keep = keeps c.args.kept.now in
     let elements = c.args.elements.now in
-    omega (arith, cell-few (weighed_in keep elements) (weighed-sequence keep elements c.requires.rules) c.requires.place.0 c.args.mark.now.place c.requires.place.1)
+    omega (
+      arith,
+      cell-few (weighed_in keep elements)
+          (weighed-sequence keep elements c.requires.rules) c.requires.place.0 c.args.mark.now.place c.requires.place.1,
+    )
 
 pub cells_after-requires : goal.cells_after-requires
 cells_after-requires c = inside-of (keeps c.args.kept.now) c.args.elements.now c.requires.place.0 c.args.mark.now.place c.requires.place.1
@@ -27,7 +31,8 @@ push_tail-requires c =
     let best = kept-z place.best low (omega (arith, ints)) in
     let rest = kept-z place.rest more (omega (arith, ints)) in
     let first : place.cell + 1 ≡ suc place.cell = omega arith in
-    tail-beside (weighed_in keep elements) (weighed-sequence keep elements c.requires.rules) keep c.requires.place.0 place _ c.requires.place.1 c.requires.fit first
+    tail-beside (weighed_in keep elements)
+    (weighed-sequence keep elements c.requires.rules) keep c.requires.place.0 place _ c.requires.place.1 c.requires.fit first
     (after-of keep elements place _ c.cells_after.ensures) best rest
 
 pub returns-clause-marks : goal.returns-clause-marks

@@ -21,7 +21,8 @@ overflow_add-sum c =
     let same : c.counted-sum.result ≡ counted (keep cell.item.0) (to_z w128 (of_z w128 cell.value)) =
     c.counted-sum.ensures ∙ ap (λ b. counted b (to_z w128 (of_z w128 cell.value))) c.has.ensures in
     let value = same ∙ counted-z (keep cell.item.0) cell.value left.low (omega (arith, ints, sum, left.later, left.front, c.requires.fits)) in
-    let stored = kept-z c.counted-sum.result (omega (arith, ints, value, left.low)) (omega (arith, ints, value, sum, left.later, left.front, c.requires.fits)) in
+    let stored = kept-z c.counted-sum.result (omega (arith, ints, value, left.low)) (omega
+    (arith, ints, value, sum, left.later, left.front, c.requires.fits)) in
     omega (arith, ints, sum, value, stored, so_far, left.low, left.later, left.front, c.requires.fits)
 
 pub loop-cell-preserved : goal.loop-cell-preserved
@@ -36,7 +37,8 @@ loop-cell-preserved c =
     let same : c.counted-sum.result ≡ counted (keep cell.item.0) (to_z w128 (of_z w128 cell.value)) =
     c.counted-sum.ensures ∙ ap (λ b. counted b (to_z w128 (of_z w128 cell.value))) c.has.ensures in
     let value = same ∙ counted-z (keep cell.item.0) cell.value left.low (omega (arith, ints, sum, left.later, left.front, c.requires.fits)) in
-    let stored = kept-z c.counted-sum.result (omega (arith, ints, value, left.low)) (omega (arith, ints, value, sum, left.later, left.front, c.requires.fits)) in
+    let stored = kept-z c.counted-sum.result (omega (arith, ints, value, left.low)) (omega
+    (arith, ints, value, sum, left.later, left.front, c.requires.fits)) in
     omega (arith, ints, sum, value, stored, so_far, left.low, left.later, left.front, c.requires.fits)
 
 pub returns : goal.returns

@@ -69,7 +69,8 @@ overflow_add-sum c =
     let most = later-within es rules e in
     let front = later-within es rules c.args.first in
     let fits = totals-fit es rules in
-    let stored = kept-z c.total-sum.result (omega (arith, ints, c.total-sum.ensures, same, low)) (omega (arith, ints, c.total-sum.ensures, same, split, later, most, fits)) in
+    let stored = kept-z c.total-sum.result (omega (arith, ints, c.total-sum.ensures, same, low)) (omega
+    (arith, ints, c.total-sum.ensures, same, split, later, most, fits)) in
     omega (arith, ints, c.total-sum.ensures, c.elements.invariant, stored, same, split, low, later, most, front, fits)
 
 pub elements-preserved : goal.elements-preserved
@@ -90,7 +91,8 @@ elements-preserved c =
     let most = later-within es rules e in
     let front = later-within es rules c.args.first in
     let fits = totals-fit es rules in
-    let stored = kept-z c.total-sum.result (omega (arith, ints, c.total-sum.ensures, same, low)) (omega (arith, ints, c.total-sum.ensures, same, split, later, most, fits)) in
+    let stored = kept-z c.total-sum.result (omega (arith, ints, c.total-sum.ensures, same, low)) (omega
+    (arith, ints, c.total-sum.ensures, same, split, later, most, fits)) in
     rw add-one (omega (arith, ints, c.total-sum.ensures, c.elements.invariant, stored, same, split, low, later, most, front, fits))
 
 pub returns : goal.returns

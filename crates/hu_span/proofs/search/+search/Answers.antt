@@ -1,4 +1,5 @@
-use Rattle.std.proofs.Common.{rules, refl, to_z, of_z, SFits, ◌≡◌, ◌<◌, ◌+◌, ◌-◌, ◌*◌, ◌<ℤ◌, pos, [], ◌∷◌, length, length-append, get_or, sym, ap, ◌∙◌, subst, arith}
+use Rattle.std.proofs.Common.{rules, refl, to_z, of_z, SFits, ◌≡◌, ◌<◌, ◌+◌, ◌-◌, ◌*◌, ◌<ℤ◌, pos, [], ◌∷◌, length, length-append, get_or, sym, ap}
+use Rattle.std.proofs.Common.{◌∙◌, subst, arith}
 use Rattle.std.proofs.Common.{inl, inr}
 use Rattle.std.specs.Int.{w128}
 use Rattle.std.proofs.lemmas.Int.{ints, to_z-of_z}
@@ -15,7 +16,8 @@ use Rattle.hu_span.specs.Growing.{GrowsOn, GrowsOver, IsBegun, IsReached}
 use Rattle.hu_span.specs.Search.{AreKeptBest, IsNarrowed}
 use Rattle.hu_span.specs.Step.{pattern_of}
 use Rattle.hu_span.proofs.ReachLemmas.{grown-reached, steps-few}
-use Rattle.hu_span.proofs.SearchLemmas.{narrowed-ordered, opened-all, opened-some, so_far-none, so_far-ordered, so_far-all, so_far-next, so_far-some, turn-child, wider-all, wider-some}
+use Rattle.hu_span.proofs.SearchLemmas.{narrowed-ordered, opened-all, opened-some, so_far-none, so_far-ordered, so_far-all, so_far-next, so_far-some}
+use Rattle.hu_span.proofs.SearchLemmas.{turn-child, wider-all, wider-some}
 use Rattle.hu_span.proofs.CutLemmas.{grown-kept}
 use Rattle.hu_span.proofs.WeighedLemmas.{weighed-records}
 use Rattle.hu_span.proofs.StepLemmas.{pattern_of-push}
@@ -55,7 +57,8 @@ deepen-children-init g t c =
     record {
       steps = refl;
       rows = c.requires.rows;
-      made = so_far-none records keep p are begun c.requires.ordered (subst (AreKeptBest records keep p (floor_in old)) (sym c.deref-child-items.ensures.value) best');
+      made = so_far-none records keep p are begun c.requires.ordered (subst (AreKeptBest records keep p (floor_in old))
+          (sym c.deref-child-items.ensures.value) best');
     }
 
 pub deepen-returns-then-child-floor-clause-made : goal.deepen-returns-then-child-floor-clause-made

@@ -124,7 +124,8 @@ returns g c =
     let again : pattern_of c.offer_grown.new.steps.items ≡ p = ap pattern_of c.in_ok-offer_grown.ensures.steps in
     let offers = c.in_ok-offer_grown.ensures.made rs keep own gathered' in
     let below = subst (λ r. Searches (g.C.Collect.state c.offer_grown.new.collect) (GrowsOver rs keep r) new result) again c.deepen.ensures.made in
-    let whole = opened-searches rs keep p (weighed-records keep seen are_seen) (inl none) _ _ _ offers.0 own c.floor-floor.ensures.in_order offers.1 offers.2 result below in
+    let whole = opened-searches rs keep p (weighed-records keep seen are_seen)
+    (inl none) _ _ _ offers.0 own c.floor-floor.ensures.in_order offers.1 offers.2 result below in
     let made = subst (λ r. Searches old (GrowsOn r keep []) new result) (all-records keep every seen ∙ same)
     (subst (λ r. Searches old (GrowsOn rs keep r) new result) none whole) in
     mined (GrowsOn records keep []) old new (sequence_patterns records) result (all-patterns records are keep every) made

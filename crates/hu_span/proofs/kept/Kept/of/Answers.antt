@@ -6,7 +6,8 @@ use Rattle.hu_span.proofs.kept.Kept.of.Goals as goal
 
 pub invariant_of-result : goal.invariant_of-result
 invariant_of-result c =
-    IsNonDecreasingBy-from_sort_by_key (λ (item : Item). item.0) c.sort_unstable_by_key.new.self.items c.sort_unstable_by_key.ensures.sorted (λ a r q k. search rules)
+    IsNonDecreasingBy-from_sort_by_key (λ (item : Item). item.0) c.sort_unstable_by_key.new.self.items c.sort_unstable_by_key.ensures.sorted
+    (λ a r q k. search rules)
 
 pub returns-clause-known : goal.returns-clause-known
 returns-clause-known c item h = of-known c.args.items.items c.sort_unstable_by_key.new.self.items item c.sort_unstable_by_key.ensures.permutation h

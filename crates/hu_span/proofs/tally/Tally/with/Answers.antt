@@ -53,7 +53,8 @@ returns c =
     let zrs = kept.reaches in
     let best = kept-z place.best (omega (arith, ints)) (omega (arith, ints)) in
     let rest = kept-z place.rest (omega (arith, ints)) (omega (arith, ints)) in
-    let r = kept-z (to_z w128 (of_z w128 place.best) +ℤ to_z w128 (of_z w128 place.rest)) (omega (arith, ints, best, rest)) (omega (arith, ints, best, rest)) in
+    let r = kept-z (to_z w128 (of_z w128 place.best) +ℤ to_z w128 (of_z w128 place.rest)) (omega (arith, ints, best, rest)) (omega
+    (arith, ints, best, rest)) in
     let bs = kept-z (to_z w128 (of_z w128 t.bests) +ℤ to_z w128 (of_z w128 t.best)) (omega (arith, ints, zb, zbs)) (omega (arith, ints, zb, zbs)) in
     let rs = kept-z (to_z w128 (of_z w128 t.reaches) +ℤ to_z w128 (of_z w128 t.reach)) (omega (arith, ints, zr, zrs)) (omega (arith, ints, zr, zrs)) in
     let r' = r ∙ (λ j. best j +ℤ rest j) in
