@@ -13,3 +13,4 @@ mod WalkLemmas
 mod HeldLemmas
 mod TurnLemmas
 mod CheckLemmas
+mod NeverMemory

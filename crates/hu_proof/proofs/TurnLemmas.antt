@@ -18,12 +18,12 @@ use Rattle.hu_proof.specs.declared.fault.CheckFault.{CheckFault}
 use Rattle.hu_proof.specs.declared.line.Opened.{Opened}
 use Rattle.hu_proof.specs.declared.token.Token.{Token}
 use Rattle.hu_proof.specs.Check.{Node, grown, children, line_fault, opened_by, walk}
-use Rattle.hu_proof.specs.Judged.{token_items, line_fault_at, Judges, SaysTokens}
+use Rattle.hu_proof.specs.Judged.{token_items, line_fault_at, Judges, SaysTokens, node_at}
 use Rattle.hu_proof.specs.Places.{PlaceOf, held, narrowed, earned, Apart, Follows, HasRoom, places_of}
 use Rattle.hu_proof.specs.Text.{pieces, said_of}
 use Rattle.hu_proof.specs.Words.{numbers_of}
 use Rattle.hu_kind.specs.declared.item.Item.{Item}
-use Rattle.hu_proof.specs.Waiting.{WaitingOf, entry_at, prefix_at, nodes_of, node_at, nodes_now, Stands, IsNode, Fits, Steps, IsChild, AreChildren, open_items, PushesChildren}
+use Rattle.hu_proof.specs.Waiting.{WaitingOf, entry_at, prefix_at, nodes_of, nodes_now, Stands, IsNode, Fits, Steps, IsChild, AreChildren, open_items, PushesChildren}
 use Rattle.hu_proof.proofs.HeldLemmas.{narrowed-held, line_fault-held, earned-held, length-held, room-held}
 use Rattle.hu_proof.proofs.Orders.{Apart-grown, each-follows}
 use Rattle.hu_proof.proofs.Walks.{checked, prefixes-cons}

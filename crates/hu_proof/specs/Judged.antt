@@ -1,5 +1,5 @@
 -- What a step of the check answers, and what it stands on.
-use Rattle.std.specs.Prelude.{◌≡◌, ◌⊎◌, ℕ, ◌<◌, ◌≤◌, ℤ, Bool, true, false, ◌&&◌, not, Option, None, Some, Result, MatchResult, List, [], ◌∷◌, map, option_map, length, slice_index}
+use Rattle.std.specs.Prelude.{◌≡◌, ◌⊎◌, ℕ, ◌<◌, ◌≤◌, ℤ, Bool, true, false, ◌&&◌, not, Option, None, Some, Result, MatchResult, List, [], ◌∷◌, map, option_map, drop, length, slice_index}
 use Rattle.std.specs.List.{list_any}
 use Rattle.hu_kind.specs.First.{first_some}
 use Rattle.hu_kind.specs.Record.{has}
@@ -49,6 +49,10 @@ pub record IsLower (order named : List ℕ) (from low item rank : ℕ) : Type 0 
 -- an item after the prefix is left out
 abbrev pub missing_fault : ℕ → List ℕ → List ℕ → List PlaceOf → Option CheckFault
 missing_fault line later named places = option_map (λ item. LeftOut line (record { 0 = item })) (missing later named places)
+
+-- the node of a path, before the later items of which so many items of the order stand
+abbrev pub node_at : List ℕ → List ℕ → ℕ → Node
+node_at order path from = record { prefix = path; later = drop from order }
 
 -- the first fault of a line's tokens, by the places of the prefix
 abbrev pub children_fault_at : ℤ → ℕ → List ℕ → List PlaceOf → List Token → Option CheckFault

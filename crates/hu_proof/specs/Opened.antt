@@ -20,6 +20,10 @@ opened text = prefixes_in (drop 2 (pieces text))
 abbrev pub prefix_entry : List (List (ℕ × ℤ)) → List ℕ → Entry
 prefix_entry records prefix = record { key = map pos (ranking nat_cmp prefix); utility = utility records prefix; support = support records prefix }
 
--- those of the opened prefixes that reach the minimum, each once and in the one order
+-- those of the prefixes of lines that reach the minimum, each once and in the one order
+abbrev pub answer_of_lines : List (List (ℕ × ℤ)) → ℤ → List (List ℕ) → List Entry
+answer_of_lines records least lines = answer least None (map (prefix_entry records) (prefixes_in lines))
+
+-- those of the opened prefixes
 abbrev pub opened_answer : List (List (ℕ × ℤ)) → ℤ → List ℕ → List Entry
-opened_answer records least text = answer least None (map (prefix_entry records) (opened text))
+opened_answer records least text = answer_of_lines records least (drop 2 (pieces text))

@@ -9,6 +9,7 @@ use Rattle.hu_proof.specs.declared.token.Token.{Token}
 use Rattle.hu_proof.specs.declared.walk.Waiting.{Waiting}
 use Rattle.hu_proof.specs.Bounds.{after}
 use Rattle.hu_proof.specs.Check.{Node}
+use Rattle.hu_proof.specs.Judged.{node_at}
 use Rattle.hu_proof.specs.Places.{PlaceOf, places_of, held, narrowed, earned, Apart}
 
 -- a waiting prefix: how many items it shares with the path, its last item, how many items of the order stand before its
@@ -74,10 +75,6 @@ open_items tokens = map (λ token. token.item.0) (filter (λ token. is_none toke
 abbrev pub PushesChildren : List ℕ → ℕ → ℕ → List PlaceOf → List Token → List WaitingOf → List WaitingOf → Type 0
 PushesChildren order depth from places tokens stack stack' = (children : List WaitingOf) × AreChildren order depth from places (open_items tokens)
     children × (stack' ≡ children ++ stack)
-
--- the node of a path
-abbrev pub node_at : List ℕ → List ℕ → ℕ → Node
-node_at order path from = record { prefix = path; later = drop from order }
 
 -- the nodes that are to be opened, that of the path first where there is one
 abbrev pub nodes_now : List ℕ → List ℕ → List WaitingOf → Option Opened → List Node

@@ -2,10 +2,10 @@
 
 ghost use Rattle.std.specs.Prelude.{◌≡◌, ◌≢◌, ◌⊎◌, ◌≤◌, ◌≤ℤ◌, [], ◌∷◌, None, Some, drop, length, map, pos, IfOk, IfErr, OnOk};
 ghost use Rattle.hu_base.specs.Base.{records_of};
-ghost use Rattle.hu_kind.specs.Answer.{answer, item_answer};
+ghost use Rattle.hu_kind.specs.Answer.{item_answer};
 ghost use Rattle.hu_proof.specs.Check.{first_fault, from_minimum, from_order, order_fault};
 ghost use Rattle.hu_proof.specs.Judged.{Judges, JudgesMinimum};
-ghost use Rattle.hu_proof.specs.Opened.{prefix_entry, prefixes_in};
+ghost use Rattle.hu_proof.specs.Opened.{answer_of_lines};
 ghost use Rattle.hu_proof.specs.Text.{minimum_of, pieces};
 ghost use Rattle.hu_proof.specs.Words.{numbers_of};
 
@@ -24,8 +24,9 @@ const MOST_BYTES: usize = 268_435_456;
 /// The answer of the task `items` over a base from a minimum on, where a text is an accepted certificate of it; else the
 /// first fault of the text. Whoever made the text, an accepted one leaves nothing out: see [`crate::laws`].
 ///
-/// Each line takes a pass over the records that hold its prefix, for each of its tokens one more, and a look-up by a hash for
-/// each cell. The memory is that of the places of the prefixes that wait, each place a record that holds the prefix.
+/// Each line takes a pass over the cells of the records that hold its prefix, and for each of its tokens one more, with a
+/// look-up by a hash for each cell. The memory is that of the order, of one line's tokens, and for each prefix that waits of
+/// the places of the records that hold it.
 pub fn check(
     alloc: Global,
     base: &Base<Record>,
@@ -35,7 +36,9 @@ pub fn check(
     requires { pos 1 ≤ℤ least }
     ensures answer { IfOk result (λ entries. entries.items ≡ item_answer (records_of base.now) least None) }
     ensures accepted { OnOk result (first_fault (records_of base.now) least text.now ≡ None) }
-    ensures refused { IfErr result (λ fault. (fault ≡ CheckFault.NoMemory) ⊎ (first_fault (records_of base.now) least text.now ≡ Some fault)) }
+    ensures refused { IfErr result (λ fault. (fault ≡ CheckFault.NoMemory)
+        ⊎ (first_fault (records_of base.now) least text.now ≡ Some fault)) }
+    ensures never_memory { first_fault (records_of base.now) least text.now ≢ Some CheckFault.NoMemory }
 {
     if text.len() > MOST_BYTES {
         return Err(CheckFault::TooLong);
@@ -53,7 +56,7 @@ fn check_text(
     requires least { pos 1 ≤ℤ least }
     requires small { length text.now ≤ 268435456 }
     ensures fault { Judges result (from_minimum (records_of base.now) least (pieces text.now)) }
-    ensures answer { IfOk result (λ entries. entries.items ≡ answer least None (map (prefix_entry (records_of base.now)) (prefixes_in (drop 2 (pieces text.now))))) }
+    ensures answer { IfOk result (λ entries. entries.items ≡ answer_of_lines (records_of base.now) least (drop 2 (pieces text.now))) }
 {
     let Some((line, rest)) = cut(b'\n', text) else {
         return Err(CheckFault::NotOfForm { line: 1 });
@@ -97,7 +100,7 @@ fn check_order(
     requires least { pos 1 ≤ℤ least }
     requires small { length text.now ≤ 268435456 }
     ensures fault { Judges result (from_order (records_of base.now) least (pieces text.now)) }
-    ensures answer { IfOk result (λ entries. entries.items ≡ answer least None (map (prefix_entry (records_of base.now)) (prefixes_in (drop 1 (pieces text.now))))) }
+    ensures answer { IfOk result (λ entries. entries.items ≡ answer_of_lines (records_of base.now) least (drop 1 (pieces text.now))) }
 {
     let Some((line, rest)) = cut(b'\n', text) else {
         return Err(CheckFault::NotOfForm { line: 2 });
@@ -119,7 +122,7 @@ fn check_walk(
     requires least { pos 1 ≤ℤ least }
     requires small { length text.now ≤ 268435456 }
     ensures fault { Judges result (order_fault (records_of base.now) least (Some (numbers_of items.now)) (pieces text.now)) }
-    ensures answer { IfOk result (λ entries. entries.items ≡ answer least None (map (prefix_entry (records_of base.now)) (prefixes_in (pieces text.now)))) }
+    ensures answer { IfOk result (λ entries. entries.items ≡ answer_of_lines (records_of base.now) least (pieces text.now)) }
 {
     if !is_order(alloc, base.records(), items)? {
         return Err(CheckFault::WrongOrder);

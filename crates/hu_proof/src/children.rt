@@ -32,7 +32,8 @@ pub(crate) fn child_tokens(
     requires form { is_some (each token_of (words text.now)) ≡ true }
     ensures value { IfOk result (λ tokens. tokens.items ≡ told (each token_of (words text.now))) }
     ensures later { IfOk result (λ tokens. Follows (drop from order.now) (token_items tokens.items)) }
-    ensures fault { Judges result (option_map (λ item. CheckFault.WrongChild line (record { 0 = item })) (wrong_child (drop from order.now) (told (each token_of (words text.now))))) }
+    ensures fault { Judges result (option_map (λ item. CheckFault.WrongChild line (record { 0 = item }))
+        (wrong_child (drop from order.now) (told (each token_of (words text.now))))) }
 {
     let mut tokens = Vec::new(alloc);
     let mut from = from;
@@ -104,7 +105,8 @@ fn lower(order: &Order, from: usize, named: &Order, low: usize, item: Item) -> O
     requires apart { Apart order.now }
     requires within { low ≤ length order.now }
     ensures some { IfSome result (λ rank. IsLower order.now named.now from low item.0 rank) }
-    ensures none { IfNone result ((rank : ℕ) → from ≤ rank → rank < low → is_among (slice_index order.now rank) named.now ≡ false → slice_index order.now rank ≢ item.0) }
+    ensures none { IfNone result ((rank : ℕ) → from ≤ rank → rank < low
+        → is_among (slice_index order.now rank) named.now ≡ false → slice_index order.now rank ≢ item.0) }
 {
     let rank = order.rank_of(item)?;
     if from <= rank && rank < low && named.rank_of(item).is_none() {

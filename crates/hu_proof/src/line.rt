@@ -2,6 +2,7 @@
 
 ghost use Rattle.std.specs.Prelude.{◌≡◌, drop, IfOk};
 ghost use Rattle.hu_proof.specs.Judged.{children_fault_at, line_fault_at, missing_fault, token_items, Judges, SaysTokens};
+ghost use Rattle.hu_proof.specs.Judged.{node_at};
 ghost use Rattle.hu_proof.specs.Places.{places_of, Apart, Follows, HasRoom};
 ghost use Rattle.hu_proof.specs.Text.{said_of};
 ghost use Rattle.hu_proof.specs.Words.{numbers_of};
@@ -34,7 +35,8 @@ pub(crate) fn check_line(
 ) -> Result<Vec<Token>, CheckFault>
     requires apart { Apart order.now }
     requires room { HasRoom (drop node.now.from order.now) (places_of node.now.places.items) }
-    ensures fault { Judges result (line_fault_at least line (record { prefix = numbers_of prefix.now; later = drop node.now.from order.now }) (places_of node.now.places.items) (said_of text.now)) }
+    ensures fault { Judges result (line_fault_at least line (node_at order.now (numbers_of prefix.now) node.now.from)
+        (places_of node.now.places.items) (said_of text.now)) }
     ensures tokens { IfOk result (λ tokens. SaysTokens text.now tokens.items) }
     ensures later { IfOk result (λ tokens. Follows (drop node.now.from order.now) (token_items tokens.items)) }
 {
@@ -72,7 +74,8 @@ fn check_children(
     requires apart { Apart order.now }
     requires room { HasRoom (drop node.now.from order.now) (places_of node.now.places.items) }
     requires later { Follows (drop node.now.from order.now) (token_items tokens.now) }
-    ensures { Judges result (children_fault_at least line (drop node.now.from order.now) (places_of node.now.places.items) tokens.now) }
+    ensures { Judges result (children_fault_at least line (drop node.now.from order.now)
+        (places_of node.now.places.items) tokens.now) }
 {
     check_missing(alloc, order, node, tokens, line)?;
     check_bounds(order, node.from, &node.places, tokens, line)?;
@@ -89,7 +92,8 @@ fn check_missing(
 ) -> Result<(), CheckFault>
     requires apart { Apart order.now }
     requires once { Apart (token_items tokens.now) }
-    ensures { Judges result (missing_fault line (drop node.now.from order.now) (token_items tokens.now) (places_of node.now.places.items)) }
+    ensures { Judges result (missing_fault line (drop node.now.from order.now) (token_items tokens.now)
+        (places_of node.now.places.items)) }
 {
     let named = Order::of(alloc, &items_of(alloc, tokens)?)?;
     match missing(order, node.from, &named, &node.places) {

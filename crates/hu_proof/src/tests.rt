@@ -116,3 +116,54 @@ fn spoilt(rt: HostRuntime) -> Result<(), Fail> {
     }
     Ok(())
 }
+
+/// How deep the deep text goes.
+const DEPTH: u32 = 1500;
+
+/// The base of as many records as items, each of one item that earns 1.
+fn items_apart(alloc: Global) -> Result<Base<Record>, Fail> {
+    let mut base = Base::after(alloc, 0);
+    for item in 0..DEPTH {
+        let mut cells = Vec::new(alloc);
+        cells.push(Cell {
+            item: Item(item),
+            value: 1,
+        })?;
+        base.add(Record::new(cells).ok_or("no record")?)?;
+    }
+    Ok(base)
+}
+
+/// A text that opens the prefixes `0`, `0 1`, `0 1 2` and so on, of which no record holds any but the first.
+fn deep_text(alloc: Global) -> Result<String, Fail> {
+    let mut text = String::new(alloc);
+    let mut prefix = String::new(alloc);
+    text.push_str("cert 2\norder")?;
+    for item in 0..DEPTH {
+        text.push_str(&format!(in alloc; " {item}")?)?;
+    }
+    text.push_str("\n:0:0")?;
+    for item in 1..DEPTH {
+        text.push_str(&format!(in alloc; " {item}=1")?)?;
+    }
+    text.push_str("\n0:1:1\n")?;
+    prefix.push_str("0")?;
+    for item in 1..DEPTH {
+        prefix.push_str(&format!(in alloc; " {item}")?)?;
+        text.push_str(&prefix)?;
+        text.push_str(":0:")?;
+        if item < DEPTH - 1 {
+            text.push_str(&format!(in alloc; "{}", item + 1)?)?;
+        }
+        text.push_str("\n")?;
+    }
+    Ok(text)
+}
+
+#[test]
+fn accepted_deep(rt: HostRuntime) -> Result<(), Fail> {
+    let base = items_apart(rt.alloc())?;
+    let entries = check(rt.alloc(), &base, 2, deep_text(rt.alloc())?.as_bytes())?;
+    assert_eq!(rt; entries.len(), 0);
+    Ok(())
+}

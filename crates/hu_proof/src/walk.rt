@@ -5,15 +5,14 @@ ghost use Rattle.std.specs.Ordering.{nat_cmp};
 ghost use Rattle.hu_kind.specs.Order.{ranking};
 ghost use Rattle.hu_proof.specs.Bounds.{after};
 ghost use Rattle.hu_base.specs.Base.{records_of};
-ghost use Rattle.hu_kind.specs.Answer.{answer};
 ghost use Rattle.hu_proof.specs.Check.{root, walk};
-ghost use Rattle.hu_proof.specs.Opened.{prefix_entry, prefixes_in};
+ghost use Rattle.hu_proof.specs.Opened.{answer_of_lines};
 ghost use Rattle.hu_collect.specs.State.{offered, Takes};
-ghost use Rattle.hu_proof.specs.Judged.{line_fault_at, token_items, Judges, SaysTokens};
+ghost use Rattle.hu_proof.specs.Judged.{line_fault_at, token_items, Judges, SaysTokens, node_at};
 ghost use Rattle.hu_proof.specs.Text.{pieces, said_of};
 ghost use Rattle.hu_proof.specs.declared.token.Token.{Token};
 ghost use Rattle.hu_proof.specs.Places.{narrowed, places_of, Apart, Follows, HasRoom, IsOneOf};
-ghost use Rattle.hu_proof.specs.Waiting.{entry_at, node_at, stack_of, PushesChildren, Steps};
+ghost use Rattle.hu_proof.specs.Waiting.{entry_at, stack_of, PushesChildren, Steps};
 ghost use Rattle.hu_proof.specs.Words.{numbers_of};
 
 use crate::fault::CheckFault;
@@ -40,7 +39,8 @@ pub(crate) fn next<'a>(
     path: &mut Vec<Item>,
     waiting: &mut Vec<Waiting<'a>>,
 ) -> Result<Option<Opened<'a>>, NoMemory>
-    ensures some { IfOk result (λ next. IfSome next (λ node. Steps (numbers_of path.old.items) (stack_of waiting.old.items) (numbers_of path.new.items) (stack_of waiting.new.items) node.from (places_of node.places.items))) }
+    ensures some { IfOk result (λ next. IfSome next (λ node. Steps (numbers_of path.old.items) (stack_of waiting.old.items)
+        (numbers_of path.new.items) (stack_of waiting.new.items) node.from (places_of node.places.items))) }
     ensures none { IfOk result (λ next. IfNone next ((stack_of waiting.old.items ≡ []) × (stack_of waiting.new.items ≡ []))) }
 {
     let Some(Waiting { depth, item, node }) = waiting.pop() else {
@@ -63,7 +63,8 @@ pub(crate) fn push_children<'a>(
     requires apart { Apart order.now }
     requires room { HasRoom (drop node.now.from order.now) (places_of node.now.places.items) }
     requires later { Follows (drop node.now.from order.now) (token_items tokens.now) }
-    ensures { OnOk result (PushesChildren order.now depth node.now.from (places_of node.now.places.items) tokens.now (stack_of waiting.old.items) (stack_of waiting.new.items)) }
+    ensures { OnOk result (PushesChildren order.now depth node.now.from (places_of node.now.places.items) tokens.now
+        (stack_of waiting.old.items) (stack_of waiting.new.items)) }
 {
     let mut i = tokens.len();
     'tokens: while i > 0 {
@@ -85,7 +86,8 @@ fn push_child<'a>(
     requires apart { Apart order.now }
     requires room { HasRoom (drop node.now.from order.now) (places_of node.now.places.items) }
     requires later { IsOneOf token.now.item.0 (drop node.now.from order.now) }
-    ensures { OnOk result (PushesChildren order.now depth node.now.from (places_of node.now.places.items) (token.now ∷ []) (stack_of waiting.old.items) (stack_of waiting.new.items)) }
+    ensures { OnOk result (PushesChildren order.now depth node.now.from (places_of node.now.places.items) (token.now ∷ [])
+        (stack_of waiting.old.items) (stack_of waiting.new.items)) }
 {
     if token.bound.is_none() {
         waiting.push(Waiting {
@@ -147,10 +149,13 @@ fn visit<'a>(
 ) -> Result<(), CheckFault>
     requires apart { Apart order.now }
     requires room { HasRoom (drop node.now.from order.now) (places_of node.now.places.items) }
-    ensures fault { Judges result (line_fault_at least line (node_at order.now (numbers_of path.now) node.now.from) (places_of node.now.places.items) (said_of text.now)) }
+    ensures fault { Judges result (line_fault_at least line (node_at order.now (numbers_of path.now) node.now.from)
+        (places_of node.now.places.items) (said_of text.now)) }
     ensures pushed { OnOk result ((tokens : List Token) × SaysTokens text.now tokens × Follows (drop node.now.from order.now) (token_items tokens)
-        × PushesChildren order.now (length path.now) node.now.from (places_of node.now.places.items) tokens (stack_of waiting.old.items) (stack_of waiting.new.items)) }
-    ensures found { OnOk result (⟦<All as Collect>⟧.state found.new ≡ offered (⟦<All as Collect>⟧.state found.old) (entry_at (numbers_of path.now) (places_of node.now.places.items) ∷ [])) }
+        × PushesChildren order.now (length path.now) node.now.from (places_of node.now.places.items) tokens
+        (stack_of waiting.old.items) (stack_of waiting.new.items)) }
+    ensures found { OnOk result (⟦<All as Collect>⟧.state found.new ≡ offered (⟦<All as Collect>⟧.state found.old)
+        (entry_at (numbers_of path.now) (places_of node.now.places.items) ∷ [])) }
 {
     let tokens = check_line(alloc, order, least, line, path, node, text)?;
     push_children(alloc, waiting, order, path.len(), node, &tokens)?;
@@ -161,7 +166,8 @@ fn visit<'a>(
 /// Offers the entry of the path.
 fn offer(alloc: Global, path: &[Item], node: &Opened<'_>, found: &mut All) -> Result<(), NoMemory>
     requires { (later : List ℕ) × HasRoom later (places_of node.now.places.items) }
-    ensures { Takes (⟦<All as Collect>⟧.state found.old) (entry_at (numbers_of path.now) (places_of node.now.places.items) ∷ []) (⟦<All as Collect>⟧.state found.new) result }
+    ensures { Takes (⟦<All as Collect>⟧.state found.old) (entry_at (numbers_of path.now) (places_of node.now.places.items) ∷ [])
+        (⟦<All as Collect>⟧.state found.new) result }
 {
     found.offer(Entry {
         key: key_of(alloc, path)?,
@@ -184,7 +190,7 @@ pub(crate) fn walk(
     requires least { pos 1 ≤ℤ least }
     requires small { length text.now ≤ 268435456 }
     ensures fault { Judges result (walk (records_of base.now) least 3 (root order.now ∷ []) (pieces text.now)) }
-    ensures answer { IfOk result (λ entries. entries.items ≡ answer least None (map (prefix_entry (records_of base.now)) (prefixes_in (pieces text.now)))) }
+    ensures answer { IfOk result (λ entries. entries.items ≡ answer_of_lines (records_of base.now) least (pieces text.now)) }
 {
     // This tells the proof that no sum overflows.
     let _sum = base.sum();

@@ -8,6 +8,7 @@ use Rattle.hu_proof.specs.Judged.{Judges}
 use Rattle.hu_proof.specs.Opened.{prefix_entry, prefixes_in}
 use Rattle.hu_proof.specs.Text.{pieces}
 use Rattle.hu_proof.proofs.CheckLemmas.{answered}
+use Rattle.hu_proof.proofs.NeverMemory.{never_memory}
 use Rattle.hu_proof.proofs.certificate.check.Goals as goal
 
 pub returns-clause-answer : goal.returns-clause-answer
@@ -20,3 +21,6 @@ returns-clause-answer c =
     let opened = subst (λ m. IfOk c.check_text.result (λ entries. entries.items ≡ answer m None
     (map (prefix_entry records) (prefixes_in (drop 2 (pieces text)))))) back c.check_text.ensures.answer in
     answered (λ entries. entries.items) records least text c.check_text.result c.requires (omega arith) fault opened
+
+pub returns-clause-never_memory : goal.returns-clause-never_memory
+returns-clause-never_memory c = never_memory (records_of c.args.base.now) c.args.least c.args.text.now

@@ -10,11 +10,11 @@ use Rattle.hu_kind.specs.Record.{absolute_of}
 use Rattle.hu_proof.specs.declared.fault.CheckFault.TheVariants.{NoMemory}
 use Rattle.hu_proof.specs.declared.token.Token.{Token}
 use Rattle.hu_proof.specs.Check.{root, walk}
-use Rattle.hu_proof.specs.Judged.{line_fault_at, token_items, SaysTokens}
+use Rattle.hu_proof.specs.Judged.{line_fault_at, token_items, SaysTokens, node_at}
 use Rattle.hu_proof.specs.Opened.{prefixes_in}
 use Rattle.hu_proof.specs.Places.{places_of, Follows}
 use Rattle.hu_proof.specs.Text.{pieces, said_of}
-use Rattle.hu_proof.specs.Waiting.{stack_of, node_at, nodes_of, nodes_now, entry_at, Stands, IsNode, Fits, PushesChildren}
+use Rattle.hu_proof.specs.Waiting.{stack_of, nodes_of, nodes_now, entry_at, Stands, IsNode, Fits, PushesChildren}
 use Rattle.hu_proof.specs.Words.{numbers_of}
 use Rattle.hu_proof.proofs.LineLemmas.{judged-same}
 use Rattle.hu_proof.proofs.TurnLemmas.{root-node, room-node, walk-end, walk-fault, judges-err, some-pieces, length-numbers, passed, turned, entry-held, offered-more}
