@@ -51,7 +51,7 @@ pub(crate) fn open_items(
             is_open(child.marks, reaches, floor),
         )?;
     }
-    Ok(Kept::of(items))
+    Kept::of(alloc, items)
 }
 
 /// Whether the rows of marks reach a floor together. They do where no number tells their sum.
