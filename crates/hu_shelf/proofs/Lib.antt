@@ -1,3 +1,4 @@
 pub mod lemmas
 mod NumeralLemmas
 mod TextLemmas
+mod KeeperLemmas

@@ -1,3 +1,6 @@
 pub mod Store
 pub mod Laws
 pub mod Worked
+pub mod Keeper
+pub mod MemoryKeeper
+pub mod DiskKeeper
