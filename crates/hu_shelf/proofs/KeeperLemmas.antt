@@ -1,5 +1,5 @@
 -- What calls of keepers come to.
-use Rattle.std.proofs.Common.{◌≡◌, ℕ, ◌≤◌, List, [], ◌∷◌, map, Bool, true, false, Result, Ok, Err, Option, None, Some, String, unwrap_or, refl, ap, sym, subst, ◌∙◌, arith, min, cond, length, ◌==◌, if◌then◌else◌, ◌+◌, ◌-◌, ◌^◌}
+use Rattle.std.proofs.Common.{◌≡◌, ℕ, ◌≤◌, List, [], ◌∷◌, map, Bool, true, false, Result, Ok, Err, Option, Some, String, unwrap_or, refl, ap, sym, ◌∙◌, arith, min, cond, length, ◌==◌, if◌then◌else◌, ◌+◌, ◌-◌, ◌^◌}
 use mathlib.Core.Path.{fun_ext}
 use Rattle.std.specs.BTreeMap.{BTreeMap, UpdatesBy, get_by_text}
 use Rattle.std.specs.Cmp.Lexicographic.{slice_cmp}
@@ -19,7 +19,7 @@ use Rattle.hu_shelf.specs.DiskKeeper.{Counts, system_keeper}
 use Rattle.hu_io.specs.Count.{one_more}
 use Rattle.hu_io.specs.Plan.{after_call, next_fails}
 use Rattle.hu_shelf.specs.MemoryKeeper.{KeeperView, after_load, keeper_faults, keeper_state}
-use Rattle.hu_shelf.specs.Keeper.{Fails, Loads, Replaces, Stays, with_text}
+use Rattle.hu_shelf.specs.Keeper.{Fails, Loads, Replaces, with_text}
 
 -- a count that rose, and texts that aren't told
 rose_untold : (old new : ℕ) (name : List ℕ) → min (old + 1) (2 ^ 64 - 1) ≤ new → old ≤ new → Fails (system_keeper old) (system_keeper new) name

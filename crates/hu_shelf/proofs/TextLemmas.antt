@@ -1,7 +1,9 @@
 -- Texts that are cut at a byte.
-use Rattle.std.proofs.Common.{◌≡◌, ℕ, suc, add-one, ◌+◌, ◌==◌, Bool, true, false, not, Some, List, [], ◌∷◌, ◌++◌, length, take, drop, refl, ap, ◌∙◌, arith}
+use Rattle.std.proofs.Common.{◌≡◌, ℕ, suc, add-one, ◌+◌, ◌≤◌, ◌==◌, Bool, true, false, not, None, Some, List, [], ◌∷◌, ◌++◌, position, ◌-◌, length, take, drop, refl, ap, sym, ◌∙◌, arith}
 use Rattle.std.specs.Bool.{then_some}
 use Rattle.std.specs.List.{list_all, position_or_len}
+use Rattle.std.proofs.lemmas.Bool.Decides.{nat_tests}
+use Rattle.std.proofs.lemmas.List.{take_all, drop_all, length-drop}
 use Rattle.std.proofs.lemmas.Bool.{eq-eqb, and_parts, not-true}
 use Rattle.std.proofs.lemmas.List.Elements.{All-nil, All-cons, All-head, All-tail}
 use Rattle.hu_shelf.specs.Store.{before_byte, after_byte}
@@ -39,3 +41,26 @@ lacks_by_test c [] test = All-nil (λ b. (b == c) ≡ false)
 lacks_by_test c (b ∷ bs) test =
     let parts = and_parts (not (b == c)) (list_all (λ b. not (b == c)) bs) test in
     All-cons (λ b. (b == c) ≡ false) b bs (not-true (b == c) parts.0) (lacks_by_test c bs parts.1)
+
+-- ---- a text is cut at the byte's first place
+
+is_first : (c : ℕ) (text : List ℕ) (place : ℕ) → position (λ b. b == c) text ≡ Some place → place ≡ position_or_len (λ b. b == c) text
+is_first c text place found = grind (arith, nat_tests)
+
+pub before_byte-at : (c : ℕ) (text : List ℕ) (place : ℕ) → position (λ b. b == c) text ≡ Some place → take place text ≡ before_byte c text
+before_byte-at c text place found = ap (λ n. take n text) (is_first c text place found)
+
+pub after_byte-at : (c : ℕ) (text : List ℕ) (place : ℕ) → position (λ b. b == c) text ≡ Some place
+    → take (length text - (place + 1)) (drop (place + 1) text) ≡ after_byte c text
+after_byte-at c text place found =
+    take_all (length text - (place + 1)) (drop (place + 1) text) (omega (arith, length-drop (place + 1) text))
+    ∙ ap (λ n. drop (n + 1) text) (is_first c text place found)
+
+none_past : (c : ℕ) (text : List ℕ) → position (λ b. b == c) text ≡ None → length text ≤ position_or_len (λ b. b == c) text
+none_past c text none = grind (arith, nat_tests)
+
+pub before_byte-none : (c : ℕ) (text : List ℕ) → position (λ b. b == c) text ≡ None → text ≡ before_byte c text
+before_byte-none c text none = sym (take_all (position_or_len (λ b. b == c) text) text (none_past c text none))
+
+pub after_byte-none : (c : ℕ) (text : List ℕ) → position (λ b. b == c) text ≡ None → [] ≡ after_byte c text
+after_byte-none c text none = sym (drop_all (position_or_len (λ b. b == c) text + 1) text (omega (arith, none_past c text none)))

@@ -1,5 +1,5 @@
 -- A keeper of files of the system, and texts by name in a map.
-use Rattle.std.specs.Prelude.{◌≡◌, ℕ, ◌≤◌, List, [], None, Result, Ok, Err, IsOk, IsErr, MatchResult}
+use Rattle.std.specs.Prelude.{◌≡◌, ℕ, ◌≤◌, [], None, Result, MatchResult}
 use Rattle.hu_io.specs.Count.{one_more}
 use Rattle.hu_shelf.specs.Keeper.{KeeperState}
 

@@ -4,3 +4,5 @@ pub mod Worked
 pub mod Keeper
 pub mod MemoryKeeper
 pub mod DiskKeeper
+pub mod Shelf
+pub mod Settings

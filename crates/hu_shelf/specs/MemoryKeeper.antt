@@ -1,5 +1,5 @@
 -- A keeper in memory, of which chosen calls fail.
-use Rattle.std.specs.Prelude.{◌≡◌, ℕ, ◌-◌, ◌==◌, min, Bool, List, [], ◌∷◌, length, codes, refl, Some, if◌then◌else◌}
+use Rattle.std.specs.Prelude.{◌≡◌, ℕ, ◌-◌, ◌==◌, min, List, [], ◌∷◌, length, codes, refl, Some, if◌then◌else◌}
 use Rattle.hu_io.specs.Count.{one_more, Rose}
 use Rattle.hu_io.specs.Files.{content_or_empty}
 use Rattle.hu_io.specs.Plan.{PlanView, after_call, listing, next_fails, no_plan}

@@ -47,12 +47,19 @@ before_byte byte text = before_first (λ b. nat_eq b byte) text
 abbrev pub after_byte : ℕ → List ℕ → List ℕ
 after_byte byte text = after_first (λ b. nat_eq b byte) text
 
--- what a line tells of the settings, however they are written: its words are parted by spaces (byte 32)
+-- what the words of the settings tell, however they are written
+abbrev pub closed_said : List ℕ → Bool
+closed_said word = bytes_eq word (codes "closed")
+
+abbrev pub least_said : List ℕ → ℤ
+least_said word = unwrap_or (result_ok (number word)) (pos 0)
+
+abbrev pub top_said : List ℕ → Option ℕ
+top_said word = option_map unsigned_abs (result_ok (number word))
+
+-- what a line tells of the settings: its words are parted by spaces (byte 32)
 abbrev pub settings_in : List ℕ → Keeping
-settings_in line = fresh
-    (unwrap_or (result_ok (number (before_byte 32 (after_byte 32 line)))) (pos 0))
-    (option_map unsigned_abs (result_ok (number (after_byte 32 (after_byte 32 line)))))
-    (bytes_eq (before_byte 32 line) (codes "closed"))
+settings_in line = fresh (least_said (before_byte 32 (after_byte 32 line))) (top_said (after_byte 32 (after_byte 32 line))) (closed_said (before_byte 32 line))
 
 -- the record that a line tells, where it has at most 1,048,576 bytes and tells one
 abbrev pub record_in : List ℕ → Option (List (ℕ × ℤ))

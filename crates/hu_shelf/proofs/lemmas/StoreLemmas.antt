@@ -1,20 +1,17 @@
 -- A store's text tells the store, and a store's text is the only one that does.
-use Rattle.std.proofs.Common.{◌≡◌, ℕ, ◌<◌, ◌≤◌, ◌^◌, ◌==◌, ℤ, pos, negsuc, unsigned_abs, Bool, true, false, ◌&&◌, Option, None, Some, List, [], ◌∷◌, ◌++◌, length, codes, unwrap_or, refl, ap, sym, ◌∙◌, arith, append_assoc, nat_lt, nat_le}
+use Rattle.std.proofs.Common.{◌≡◌, ℕ, ◌<◌, ◌≤◌, ◌^◌, ◌==◌, ℤ, pos, negsuc, Bool, true, false, ◌&&◌, Option, None, Some, List, [], ◌∷◌, ◌++◌, length, codes, refl, ap, sym, ◌∙◌, arith, append_assoc, nat_lt, nat_le}
 use Rattle.std.specs.Bool.{then_some}
 use Rattle.std.specs.List.{All, slice_split, sum_by}
-use Rattle.std.specs.Option.{option_map}
-use Rattle.std.specs.Result.{result_ok}
 use Rattle.std.specs.Str.{bytes_eq}
 use Rattle.std.proofs.lemmas.Bool.{leb-true, le-leb, and_parts, and_from, ltb-true, lt-ltb}
 use Rattle.std.proofs.lemmas.List.Elements.{All-cons, All-head, All-tail, All-append}
 use Rattle.std.proofs.lemmas.List.Splits.{slice_split_at}
 use Rattle.std.proofs.lemmas.Slice.Eq.{bytes_eq-Decides}
 use Rattle.std.specs.Fmt.{signed_decimal}
-use Rattle.hu_kind.specs.Number.{number}
 use Rattle.hu_kind.specs.Record.{absolute_of}
 use Rattle.hu_trans.specs.Canonical.{canonical_line}
 use Rattle.hu_kept.specs.Kept.{Keeping, fresh, with_batch}
-use Rattle.hu_shelf.specs.Store.{IsStore, IsWritten, is_least, is_lawful, is_top, record_in, records_in, records_text, settings_in, settings_line, store_of, store_text, task_word, told_by, top_word, before_byte, after_byte}
+use Rattle.hu_shelf.specs.Store.{IsStore, IsWritten, closed_said, least_said, top_said, is_least, is_lawful, is_top, record_in, records_in, records_text, settings_in, settings_line, store_of, store_text, task_word, told_by, top_word, before_byte, after_byte}
 use Rattle.hu_shelf.proofs.NumeralLemmas.{Lacks, decimal-lacks, number-decimal}
 use Rattle.hu_shelf.proofs.TextLemmas.{lacks_by_test, before_byte-lacks, after_byte-lacks, then_some-given}
 
@@ -41,37 +38,36 @@ task_word-lacks : (closed : Bool) → Lacks 32 (task_word closed)
 task_word-lacks true = lacks_by_test 32 (codes "closed") refl
 task_word-lacks false = lacks_by_test 32 (codes "items") refl
 
-task_word-read : (closed : Bool) → bytes_eq (task_word closed) (codes "closed") ≡ closed
+task_word-read : (closed : Bool) → closed_said (task_word closed) ≡ closed
 task_word-read true = refl
 task_word-read false = refl
 
-top_word-read : (top : Option ℕ) → is_top top ≡ true → option_map unsigned_abs (result_ok (number (top_word top))) ≡ top
+top_word-read : (top : Option ℕ) → is_top top ≡ true → top_said (top_word top) ≡ top
 top_word-read None lawful = refl
 top_word-read (Some k) lawful =
     let within : k ≤ 1000000 = leb-true k 1000000 (and_parts (nat_le 1 k) (nat_le k 1000000) lawful).1 in
     rw (number-decimal k (omega arith)) refl
 
 settings_in-parts : (line rest task least top : List ℕ) → before_byte 32 line ≡ task → after_byte 32 line ≡ rest
-    → before_byte 32 rest ≡ least → after_byte 32 rest ≡ top
-    → settings_in line ≡ fresh (unwrap_or (result_ok (number least)) (pos 0)) (option_map unsigned_abs (result_ok (number top))) (bytes_eq task (codes "closed"))
+    → before_byte 32 rest ≡ least → after_byte 32 rest ≡ top → settings_in line ≡ fresh (least_said least) (top_said top) (closed_said task)
 settings_in-parts line rest task least top one two three four =
-    ap (λ t. fresh (unwrap_or (result_ok (number (before_byte 32 (after_byte 32 line)))) (pos 0)) (option_map unsigned_abs (result_ok (number (after_byte 32 (after_byte 32 line))))) (bytes_eq t (codes "closed"))) one
-    ∙ ap (λ r. fresh (unwrap_or (result_ok (number (before_byte 32 r))) (pos 0)) (option_map unsigned_abs (result_ok (number (after_byte 32 r)))) (bytes_eq task (codes "closed"))) two
-    ∙ ap (λ l. fresh (unwrap_or (result_ok (number l)) (pos 0)) (option_map unsigned_abs (result_ok (number (after_byte 32 rest)))) (bytes_eq task (codes "closed"))) three
-    ∙ ap (λ t. fresh (unwrap_or (result_ok (number least)) (pos 0)) (option_map unsigned_abs (result_ok (number t))) (bytes_eq task (codes "closed"))) four
+    ap (λ word. fresh (least_said (before_byte 32 (after_byte 32 line))) (top_said (after_byte 32 (after_byte 32 line))) (closed_said word)) one
+    ∙ ap (λ more. fresh (least_said (before_byte 32 more)) (top_said (after_byte 32 more)) (closed_said task)) two
+    ∙ ap (λ word. fresh (least_said word) (top_said (after_byte 32 rest)) (closed_said task)) three
+    ∙ ap (λ word. fresh (least_said least) (top_said word) (closed_said task)) four
 
 settings_in-line : (s : Keeping) (n : ℕ) → s.least ≡ pos n → n < 2 ^ 127 → is_top s.top ≡ true → settings_in (settings_line s) ≡ fresh s.least s.top s.closed
 settings_in-line s n is small top =
     let rest = signed_decimal s.least ++ 32 ∷ top_word s.top in
     let lacks : Lacks 32 (signed_decimal s.least) = rw is (decimal-lacks 32 n small (omega arith)) in
-    let read : unwrap_or (result_ok (number (signed_decimal s.least))) (pos 0) ≡ s.least = rw (is, number-decimal n small) refl in
+    let read : least_said (signed_decimal s.least) ≡ s.least = rw (is, number-decimal n small) refl in
     settings_in-parts (settings_line s) rest (task_word s.closed) (signed_decimal s.least) (top_word s.top)
     (before_byte-lacks 32 (task_word s.closed) rest (task_word-lacks s.closed))
     (after_byte-lacks 32 (task_word s.closed) rest (task_word-lacks s.closed))
     (before_byte-lacks 32 (signed_decimal s.least) (top_word s.top) lacks)
     (after_byte-lacks 32 (signed_decimal s.least) (top_word s.top) lacks)
-    ∙ ap (λ l. fresh l (option_map unsigned_abs (result_ok (number (top_word s.top)))) (bytes_eq (task_word s.closed) (codes "closed"))) read
-    ∙ ap (λ t. fresh s.least t (bytes_eq (task_word s.closed) (codes "closed"))) (top_word-read s.top top)
+    ∙ ap (λ least. fresh least (top_said (top_word s.top)) (closed_said (task_word s.closed))) read
+    ∙ ap (λ limit. fresh s.least limit (closed_said (task_word s.closed))) (top_word-read s.top top)
     ∙ ap (fresh s.least s.top) (task_word-read s.closed)
 
 -- the settings line has no line feed

@@ -1,5 +1,3 @@
-use Rattle.std.proofs.Common.{sym, subst}
-use Rattle.hu_shelf.specs.DiskKeeper.{Counts}
 use Rattle.hu_shelf.proofs.KeeperLemmas.{Loads-counted}
 use Rattle.hu_shelf.proofs.disk_keeper.DiskKeeperKeeper.load.Goals as goal
 
