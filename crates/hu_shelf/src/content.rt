@@ -20,7 +20,8 @@ pub(crate) fn is_empty<K: Keeper>(keeper: &mut K, name: &str) -> Result<bool, Sh
     ensures told { IfOk result (λ empty. Told (K.state keeper.old) name.now
         (λ text. MatchBool empty (text ≡ []) (0 < length text))) }
     ensures same { OnOk result (K.state keeper.new ≡ K.state keeper.old) }
-    ensures err { IfErr result (Refuses (K.state keeper.old) (K.state keeper.new) name.now (λ _. ⊥)) }
+    ensures err { IfErr result (Refuses (K.state keeper.old) (K.state keeper.new) name.now
+        (λ _. ⊥)) }
 {
     let mut first = [0];
     let count = keeper.load(name, 0, &mut first)?;
@@ -36,7 +37,8 @@ pub(crate) fn read<K: Keeper>(
     ensures told { IfOk result (λ found. Told (K.state keeper.old) name.now
         (λ text. MatchOption found (MOST_BYTES < length text) (λ bytes. bytes.items ≡ text))) }
     ensures same { OnOk result (K.state keeper.new ≡ K.state keeper.old) }
-    ensures err { IfErr result (Refuses (K.state keeper.old) (K.state keeper.new) name.now (λ _. ⊥)) }
+    ensures err { IfErr result (Refuses (K.state keeper.old) (K.state keeper.new) name.now
+        (λ _. ⊥)) }
 {
     let mut buffer = new_buffer(alloc)?;
     read_by(alloc, keeper, name, &mut buffer)
@@ -53,7 +55,8 @@ fn read_by<K: Keeper>(
     ensures told { IfOk result (λ found. Told (K.state keeper.old) name.now
         (λ text. MatchOption found (MOST_BYTES < length text) (λ bytes. bytes.items ≡ text))) }
     ensures same { OnOk result (K.state keeper.new ≡ K.state keeper.old) }
-    ensures err { IfErr result (Refuses (K.state keeper.old) (K.state keeper.new) name.now (λ _. ⊥)) }
+    ensures err { IfErr result (Refuses (K.state keeper.old) (K.state keeper.new) name.now
+        (λ _. ⊥)) }
 {
     let mut text = Vec::new(alloc);
     'pieces: while text.len() <= MOST_BYTES {

@@ -1,4 +1,10 @@
-//! A store of records between runs, as one text.
+//! Stores of records that last from one run to the next, each as one text under a name.
+//!
+//! [`Shelf`] makes, finds and grows a store, and gives the answer of its records. A [`Keeper`] has the texts:
+//! [`MemoryKeeper`] in memory, for tests, and [`DiskKeeper`] in files. What the text of a store is, and which store a
+//! text tells, stands in `specs/Store.antt`; `specs/Keeper.antt` has what a keeper is seen as, and `specs/Shelf.antt` why
+//! calls are refused. That texts and stores tell each other is proved, by the functions whose names begin with `law`.
+//! Begin with [`Shelf`]. The crate stands on hu_kept, hu_trans and hu_io.
 #![tactic(auto)]
 
 mod content;
@@ -11,6 +17,8 @@ mod memory_keeper;
 mod records;
 mod settings;
 mod shelf;
+#[cfg(test)]
+mod tests;
 
 pub use disk_keeper::DiskKeeper;
 pub use fault::ShelfFault;

@@ -97,7 +97,8 @@ impl MemoryKeeper {
 
     /// Puts a text under a name.
     fn put(&mut self, name: &str, text: &[u8]) -> Result<(), NoMemory>
-        ensures texts { OnOk result (texts_of self.new ≡ with_text name.now text.now (texts_of self.old)) }
+        ensures texts { OnOk result
+            (texts_of self.new ≡ with_text name.now text.now (texts_of self.old)) }
         ensures rest { OnOk result (self.new ≡ record self.old { pairs = self.new.pairs }) }
         ensures err { OnErr result (self.new ≡ self.old) }
     {
@@ -114,7 +115,8 @@ impl Keeper for MemoryKeeper {
     /// Compares the call with each that is to fail, and the name as often as the number of names doubles.
     fn load(&mut self, name: &str, at: u64, into: &mut [u8]) -> Result<usize, Failed>
         ensures bound { ReadsAtMost result into.new }
-        ensures loads { Loads (keeper_state self.old) (keeper_state self.new) name.now at into.new result }
+        ensures loads { Loads (keeper_state self.old) (keeper_state self.new)
+            name.now at into.new result }
         ensures fails { is_err result ≡ next_fails self.old.plan }
         ensures count { IfOk result (λ n. n ≡ bytes_loaded self.old name.now at (length into.new)) }
         ensures after { self.new ≡ after_load self.old }
@@ -127,7 +129,8 @@ impl Keeper for MemoryKeeper {
 
     /// Copies the name and the text.
     fn replace(&mut self, name: &str, text: &[u8]) -> Result<(), KeepFault>
-        ensures replaces { Replaces (keeper_state self.old) (keeper_state self.new) name.now text.now result }
+        ensures replaces { Replaces (keeper_state self.old) (keeper_state self.new)
+            name.now text.now result }
         ensures fails { next_fails self.old.plan ≡ true → result ≡ Err KeepFault.Failed }
         ensures memory { next_fails self.old.plan ≡ false → IsOkUnless result KeepFault.NoMemory }
         ensures ok { OnOk result (AfterReplace self.old self.new name.now text.now) }

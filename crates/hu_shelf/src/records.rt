@@ -18,8 +18,10 @@ const LONGEST_LINE: usize = 1_048_576;
 /// The records that the lines of a text tell, where their absolute sums are at most 2^127 - 1 together. Lines that tell
 /// none are left out.
 pub(crate) fn read_records(alloc: Global, text: &[u8]) -> Result<Option<Base<Record>>, NoMemory>
-    ensures records { IfOk result (λ found. IfSome found (λ base. base ≡ (0, records_in text.now))) }
-    ensures large { IfOk result (λ found. IfNone found (2 ^ 127 ≤ absolute_sum (records_in text.now))) }
+    ensures records { IfOk result (λ found.
+        IfSome found (λ base. base ≡ (0, records_in text.now))) }
+    ensures large { IfOk result (λ found.
+        IfNone found (2 ^ 127 ≤ absolute_sum (records_in text.now))) }
 {
     let mut base = Base::after(alloc, 0);
     let mut rest = text;
@@ -35,7 +37,8 @@ pub(crate) fn read_records(alloc: Global, text: &[u8]) -> Result<Option<Base<Rec
 
 /// Adds the record that a line tells, if it tells one. Answers whether its absolute sum had room.
 fn add_line(alloc: Global, line: &[u8], base: &mut Base<Record>) -> Result<bool, NoMemory>
-    ensures { IfOk result (λ room. Adds room base.old base.new (option_to_list (record_in line.now))) }
+    ensures { IfOk result (λ room.
+        Adds room base.old base.new (option_to_list (record_in line.now))) }
 {
     let Some(one) = record_in(alloc, line)? else {
         return Ok(true);

@@ -106,7 +106,8 @@ impl Shelf {
         requires { Told (K.state keeper.old) name.now (λ text. text ≡ store_text self) }
 
         ensures put { OnOk result (K.state keeper.new
-            ≡ keeping_text name.now (store_text (with_batch self (records_of batch))) (K.state keeper.old)) }
+            ≡ keeping_text name.now (store_text (with_batch self (records_of batch)))
+            (K.state keeper.old)) }
         ensures shelf { IfOk result (λ done. done.0 ≡ with_batch self (records_of batch)) }
         ensures changes { IfOk result (λ done.
             done.1 ≡ changes (answer_of self) (answer_of (with_batch self (records_of batch)))) }
@@ -251,8 +252,10 @@ fn sum_with(before: i128, batch: &Base<Record>) -> Result<i128, ShelfFault>
     requires { pos 0 ≤ℤ before }
     ensures sum { IfOk result (λ sum. sum
         ≡ pos (unsigned_abs before + absolute_sum (records_of batch.now))) }
-    ensures fits { OnOk result (unsigned_abs before + absolute_sum (records_of batch.now) < 2 ^ 127) }
-    ensures large { OnErr result (2 ^ 127 ≤ unsigned_abs before + absolute_sum (records_of batch.now)) }
+    ensures fits { OnOk result
+        (unsigned_abs before + absolute_sum (records_of batch.now) < 2 ^ 127) }
+    ensures large { OnErr result
+        (2 ^ 127 ≤ unsigned_abs before + absolute_sum (records_of batch.now)) }
     ensures fault { IfErr result (λ fault. fault
         ≡ ShelfFault.SumTooLarge before (pos (absolute_sum (records_of batch.now)))) }
 {
