@@ -1,0 +1,7 @@
+use Rattle.hu_shelf.proofs.KeeperLemmas.{Replaces-counted}
+use Rattle.hu_shelf.proofs.disk_keeper.DiskKeeperKeeper.replace.Goals as goal
+
+pub returns : goal.returns
+returns g c =
+    rw (← c.self.view_is) (Replaces-counted c.counted.result c.self.inside.faults c.counted.new.faults c.args.name.now c.args.text.now
+    (rw c.counted.ensures.same c.counted.ensures.counts))
