@@ -1,0 +1,5 @@
+pub mod Text
+pub mod Ordered
+pub mod Spots
+pub mod Written
+pub mod Worked

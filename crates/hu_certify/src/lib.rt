@@ -1,0 +1,17 @@
+//! Certificates that a base itself makes: a text from which anybody can check that an answer over itemsets is whole.
+//!
+//! The text stands in `specs/Text.antt`, and that hu_proof accepts it in [`laws`]. The crate stands on hu_kind, hu_base,
+//! hu_totals and itoa; its definitions cite those of hu_proof.
+#![tactic(auto)]
+
+mod certificate;
+mod fault;
+mod order;
+mod place;
+mod text;
+
+pub use certificate::certify;
+pub use fault::CertFault;
+
+#[cfg(test)]
+mod tests;
