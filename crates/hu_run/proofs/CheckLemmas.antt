@@ -2,7 +2,6 @@
 use Rattle.std.proofs.Common.{◌≡◌, ℕ, ℤ, ◌+◌, ◌≤◌, ◌<◌, Bool, true, false, nat_lt, List, [], ◌∷◌, ◌++◌, length, take, Result, Ok, Err, Option, Some, None, refl, sym, ap, ◌∙◌, subst, arith}
 use Rattle.std.specs.Prelude.{IfSome, IsSomeAnd, IsOk, slice_get}
 use Rattle.std.specs.Option.{option_map}
-use Rattle.std.specs.List.{Contains}
 use Rattle.std.proofs.lemmas.Bool.{ltb-true, ltb-false}
 use Rattle.std.proofs.lemmas.List.{take_all, length-take-le}
 use Rattle.hu_kind.specs.Record.{absolute_of}
@@ -13,13 +12,12 @@ use Rattle.hu_input.specs.Reading.{ReadsAll}
 use Rattle.hu_input.specs.Content.{HasContent, StopsReading}
 use Rattle.hu_input.specs.declared.input.InputStop.{InputStop}
 use Rattle.hu_input.specs.declared.input.InputStop.TheVariants as input
-use Rattle.hu_proof.specs.declared.fault.CheckFault.TheVariants.{TooLong}
 use Rattle.hu_proof.specs.Check.{first_fault}
 use Rattle.hu_run.specs.declared.stop.Stop.{Stop}
-use Rattle.hu_run.specs.declared.stop.Stop.TheVariants.{Words, Refused, ReadFailed, Denied, WriteFailed, NoMemory}
+use Rattle.hu_run.specs.declared.stop.Stop.TheVariants.{Words, Refused, ReadFailed, Denied, TooLong, WriteFailed, NoMemory}
 use Rattle.hu_run.specs.declared.answer.Answer.{Answer}
 use Rattle.hu_run.specs.Job.{check}
-use Rattle.hu_run.specs.Ending.{Ending, denies, transactions, judging_ending, checking_ending}
+use Rattle.hu_run.specs.Ending.{Ending, has_fault, denies, transactions, judging_ending, checking_ending}
 use Rattle.hu_run.specs.Stop.{stop_of_input}
 use Rattle.hu_run.specs.Attempt.{Answers, Judges, StopsAt}
 
@@ -100,12 +98,13 @@ module _ (least : ℤ) (cert : List ℕ) (files read : FilesState) (names : List
     same = has.same ∙ all.same;
   }
   cert-judged new text (Err (Denied named fault)) has judged = record {
-    named = subst (Contains (cert ∷ [])) (sym judged.1) (0, omega arith, refl);
-    ending = comes new text has (judged.0 ∙ ap (λ name. denies name fault) (sym judged.1));
+    may = judged.1;
+    ending = comes new text has (judged.0 ∙ ap (λ name. denies (has_fault name fault)) (sym judged.1));
     same = has.same ∙ all.same;
   }
   cert-judged new text (Err NoMemory) has judged = has.same ∙ all.same
   cert-judged new text (Err (Words fault)) has judged = absurd judged
   cert-judged new text (Err (Refused name number reason)) has judged = absurd judged
   cert-judged new text (Err (ReadFailed name)) has judged = absurd judged
+  cert-judged new text (Err TooLong) has judged = absurd judged
   cert-judged new text (Err WriteFailed) has judged = absurd judged

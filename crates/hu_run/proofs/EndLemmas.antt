@@ -11,12 +11,11 @@ use Rattle.std.proofs.lemmas.Result.{IfOk-weaker}
 use Rattle.std.proofs.lemmas.Option.{slice_get_within, get_or_from_slice_get}
 use Rattle.hu_io.specs.State.{SinkState, FilesState, Appended, Broke, Missed}
 use Rattle.hu_input.specs.Input.{Refusal}
-use Rattle.hu_proof.specs.declared.fault.CheckFault.{CheckFault}
 use Rattle.hu_run.specs.declared.words.WordFault.{WordFault}
 use Rattle.hu_run.specs.declared.stop.Stop.{Stop}
-use Rattle.hu_run.specs.declared.stop.Stop.TheVariants.{Words, Refused, ReadFailed, Denied, WriteFailed, NoMemory}
-use Rattle.hu_run.specs.Job.{Asked, mine, size, average, check, drill, job, names_of, reads_of}
-use Rattle.hu_run.specs.Ending.{Ending, ending, status_of}
+use Rattle.hu_run.specs.declared.stop.Stop.TheVariants.{Words, Refused, ReadFailed, Denied, TooLong, WriteFailed, NoMemory}
+use Rattle.hu_run.specs.Job.{Asked, mine, size, average, certify, check, drill, job, names_of, reads_of}
+use Rattle.hu_run.specs.Ending.{Denial, has_fault, too_long, Ending, ending, status_of}
 use Rattle.hu_run.specs.Stop.{stop_status, stop_line, told_line, word_text, refusal_line, read_failed_line, denial_line}
 use Rattle.hu_run.specs.Run.{Streams, Runs, Tells, ComesTo, WhereTold, Writing, Lacking, Unharmed}
 use Rattle.hu_run.specs.Attempt.{HasText, HasRefusal, HasFailed, HasDenial, Puts, Ends}
@@ -72,6 +71,7 @@ pub names-of-texts : (asked : Asked) (words : List (String Global)) → names_of
 names-of-texts (mine m) words = drop-map string_bytes 4 words
 names-of-texts (size s) words = drop-map string_bytes 6 words
 names-of-texts (average s) words = drop-map string_bytes 4 words
+names-of-texts (certify least) words = drop-map string_bytes 2 words
 names-of-texts (check least cert) words = drop-map string_bytes 3 words
 names-of-texts (drill seed) words = refl
 
@@ -263,12 +263,12 @@ module _ (s : Streams) where
         err_plan = told.plan;
       }
 
-  -- the certificate is refused
-  denied : (cert : List ℕ) (fault : CheckFault)
-      → IsOkAnd (job s.words) (λ asked. HasDenial asked s.files s.files_after (names_of asked s.words) cert fault) → s.out_after ≡ s.out
-      → Tells s (denial_line cert fault) → Runs s 6
-  denied cert fault ends unwritten told_ =
-      let told = sink-told s (denial_line cert fault) told_ in
+  -- something is wrong with the certificate
+  denied : (denial : Denial)
+      → IsOkAnd (job s.words) (λ asked. HasDenial asked s.files s.files_after (names_of asked s.words) denial) → s.out_after ≡ s.out
+      → Tells s (denial_line denial) → Runs s 6
+  denied denial ends unwritten told_ =
+      let told = sink-told s (denial_line denial) told_ in
       let same : s.files_after ≡ s.files = from_ok (job s.words) _ _ (λ asked p. p.same) ends in
       let kept = kept-stopped 6 same unwritten in
       record {
@@ -281,7 +281,7 @@ module _ (s : Streams) where
         broken = λ is. absurd (omega (arith, is));
         broken_rose = λ is. absurd (omega (arith, is));
         broken_told = λ is. absurd (omega (arith, is));
-        denied = λ _. and_ok (job s.words) _ _ (λ asked p. (cert, fault, p.named, p.ending, told_)) ends;
+        denied = λ _. and_ok (job s.words) _ _ (λ asked p. (denial, p.may, p.ending, told_)) ends;
         memory_told = λ is. absurd (omega (arith, is));
         complete = if_ok (job s.words) _ _ (λ asked p. if_some (comes_to asked) _ _ (λ e is unharmed. inl (sym (ap status_of is))) p.ending) ends;
         lacking = if_ok (job s.words) _ _ (λ asked p. if_some (comes_to asked) _ _ (λ e is lacking. absurd (subst Lacking is lacking)) p.ending) ends;
@@ -395,7 +395,8 @@ module _ (s : Streams) where
   stopped (Words fault) ends told = no_job fault ends.0 ends.1 ends.2 told
   stopped (Refused name number reason) ends told = refused name.now (record { number = number; reason = reason }) ends.0 ends.1 told
   stopped (ReadFailed name) ends told = unread name.now ends.0 ends.1 told
-  stopped (Denied cert fault) ends told = denied cert.now fault ends.0 ends.1 told
+  stopped (Denied cert fault) ends told = denied (has_fault cert.now fault) ends.0 ends.1 told
+  stopped TooLong ends told = denied too_long ends.0 ends.1 told
   stopped WriteFailed ends told = broken ends told
   stopped NoMemory ends told = out_of_memory (and_ok (job s.words) _ _ (λ asked p. tt) ends.0) (from_ok (job s.words) _ _ (λ asked p. p) ends.0) ends.1 told
 

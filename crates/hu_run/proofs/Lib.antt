@@ -6,3 +6,4 @@ mod SureLemmas
 mod CheckLemmas
 mod DenialLemmas
 mod SummaryLemmas
+mod CertifyLemmas

@@ -39,19 +39,19 @@ abbrev Unbroken : Streams → Ending → Type 0
 Unbroken s (writes text) = ¬ Broke s.out s.out_after text
 Unbroken s (refuses name refusal) = ⊤
 Unbroken s (lacks name) = ⊤
-Unbroken s (denies cert fault) = ⊤
+Unbroken s (denies denial) = ⊤
 
 not_broken : (s : Streams) (e : Ending) → Unbroken s e → Writing (Broke s.out s.out_after) e → ⊥
 not_broken s (writes text) never broke = never broke
 not_broken s (refuses name refusal) never broke = broke
 not_broken s (lacks name) never broke = broke
-not_broken s (denies cert fault) never broke = broke
+not_broken s (denies denial) never broke = broke
 
 status_of_text : (fact : List ℕ → Type 0) (e : Ending) → Writing fact e → 0 ≡ status_of e
 status_of_text fact (writes text) is = refl
 status_of_text fact (refuses name refusal) is = absurd is
 status_of_text fact (lacks name) is = absurd is
-status_of_text fact (denies cert fault) is = absurd is
+status_of_text fact (denies denial) is = absurd is
 
 -- what leaves a status of 0, 1, 5 or 6
 zero_one_five_six : (status n : ℕ) → status ≤ 6 → (status ≡ 0 → 0 ≡ n) → (status ≡ 1 → 1 ≡ n) → (status ≡ 6 → 6 ≡ n)
@@ -92,7 +92,7 @@ ends_as_told s status runs files out = known_ok (job s.words) _ (λ asked is. kn
     denied : (asked : Asked) → job s.words ≡ Ok asked → (e : Ending) → comes_to asked ≡ Some e → status ≡ 6 → 6 ≡ status_of e
     denied asked is e comes six =
         let told = of_ok (job s.words) asked _ is (runs.denied six) in
-        sym (ap status_of (of_some (comes_to asked) e _ comes told.3))
+        sym (ap status_of (of_some (comes_to asked) e _ comes told.2))
 
     no_fault : (asked : Asked) → job s.words ≡ Ok asked → IsErr (job s.words) → ⊥
     no_fault asked is err = cc
@@ -114,7 +114,7 @@ surely_done words files files_after err err_after status runs =
     never (writes text) = λ broke. omega (arith, broke.rose)
     never (refuses name refusal) = tt
     never (lacks name) = tt
-    never (denies cert fault) = tt
+    never (denies denial) = tt
 
 -- ---- files and sinks in memory
 
@@ -133,4 +133,4 @@ done_in_memory reads puts words files files_after out out_after err err_after st
     unbroken (writes text) room = puts out out_after text untroubled.no_failing_put room
     unbroken (refuses name refusal) room = tt
     unbroken (lacks name) room = tt
-    unbroken (denies cert fault) room = tt
+    unbroken (denies denial) room = tt

@@ -3,13 +3,13 @@ use Rattle.std.specs.Prelude.{◌≡◌, ℕ, ℤ, Some, Result, Ok, Err, List, 
 use Rattle.std.specs.List.{Contains}
 use Rattle.hu_io.specs.State.{SinkState, FilesState, Appended, Broke, Missed}
 use Rattle.hu_input.specs.Input.{Refusal}
-use Rattle.hu_proof.specs.declared.fault.CheckFault.{CheckFault}
 use Rattle.hu_run.specs.declared.stop.Stop.{Stop}
-use Rattle.hu_run.specs.declared.stop.Stop.TheVariants.{Words, Refused, ReadFailed, Denied, WriteFailed, NoMemory}
+use Rattle.hu_run.specs.declared.stop.Stop.TheVariants.{Words, Refused, ReadFailed, Denied, TooLong, WriteFailed, NoMemory}
 use Rattle.hu_run.specs.declared.answer.Answer.{Answer}
 use Rattle.hu_run.specs.Answer.{text_of}
+use Rattle.hu_run.specs.Run.{MayDeny}
 use Rattle.hu_run.specs.Job.{Asked, job, names_of, certificate_of}
-use Rattle.hu_run.specs.Ending.{writes, refuses, denies, ending, judging_ending, IsAccepted}
+use Rattle.hu_run.specs.Ending.{Denial, has_fault, too_long, writes, refuses, denies, ending, judging_ending, IsAccepted}
 use Rattle.hu_proof.specs.Check.{first_fault}
 
 -- the job comes to a text, and the files are as before
@@ -30,10 +30,10 @@ pub record HasFailed (asked : Asked) (old new : FilesState) (names : List (List 
   pub accepted : IfSome old.contents (λ told. IsAccepted asked told (take place names))
   pub missed : Missed old new name
 
--- the certificate isn't accepted, and the files are as before
-pub record HasDenial (asked : Asked) (old new : FilesState) (names : List (List ℕ)) (cert : List ℕ) (fault : CheckFault) : Type 0 where
-  pub named : Contains (certificate_of asked) cert
-  pub ending : IfSome (ending asked old.contents names) (λ e. e ≡ denies cert fault)
+-- the certificate isn't accepted or isn't given, and the files are as before
+pub record HasDenial (asked : Asked) (old new : FilesState) (names : List (List ℕ)) (denial : Denial) : Type 0 where
+  pub may : MayDeny asked denial
+  pub ending : IfSome (ending asked old.contents names) (λ e. e ≡ denies denial)
   pub same : new ≡ old
 
 -- why a job came to no answer
@@ -41,7 +41,8 @@ abbrev pub StopsAt : Asked → FilesState → FilesState → List (List ℕ) →
 StopsAt asked old new names (Words fault) = ⊥
 StopsAt asked old new names (Refused name number reason) = HasRefusal asked old new names name.now (record { number = number; reason = reason })
 StopsAt asked old new names (ReadFailed name) = HasFailed asked old new names name.now
-StopsAt asked old new names (Denied cert fault) = HasDenial asked old new names cert.now fault
+StopsAt asked old new names (Denied cert fault) = HasDenial asked old new names (has_fault cert.now fault)
+StopsAt asked old new names TooLong = HasDenial asked old new names too_long
 StopsAt asked old new names WriteFailed = ⊥
 StopsAt asked old new names NoMemory = new ≡ old
 
@@ -54,7 +55,7 @@ Answers asked old new names (Err stop) = StopsAt asked old new names stop
 abbrev pub Judges : ℤ → List ℕ → List (List (ℕ × ℤ)) → List ℕ → Result Answer Stop → Type 0
 Judges least cert records text (Ok answer) = judging_ending least cert records (first_fault records least text) ≡ writes (text_of answer)
 Judges least cert records text (Err (Denied named fault)) =
-    (judging_ending least cert records (first_fault records least text) ≡ denies cert fault) × (named.now ≡ cert)
+    (judging_ending least cert records (first_fault records least text) ≡ denies (has_fault cert fault)) × (named.now ≡ cert)
 Judges least cert records text (Err NoMemory) = ⊤
 Judges least cert records text (Err stop) = ⊥
 

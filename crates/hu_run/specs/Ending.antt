@@ -1,5 +1,5 @@
 -- What a job comes to over the contents of its files. This is the whole program in one definition.
-use Rattle.std.specs.Prelude.{⊤, ℕ, ℤ, Option, None, Some, Result, Ok, Err, List, IsOk}
+use Rattle.std.specs.Prelude.{⊤, ℕ, ℤ, nat_lt, Option, None, Some, Result, Ok, Err, List, length, IsOk, if◌then◌else◌}
 use Rattle.std.specs.Option.{option_map}
 use Rattle.std.specs.List.{sum_by}
 use Rattle.hu_kind.specs.declared.task.Task.{Task}
@@ -11,19 +11,25 @@ use Rattle.hu_average.specs.Answer.{average_answer}
 use Rattle.hu_average.specs.Text.{average_text}
 use Rattle.hu_proof.specs.declared.fault.CheckFault.{CheckFault}
 use Rattle.hu_proof.specs.Check.{first_fault}
+use Rattle.hu_certify.specs.Text.{certificate_text}
 use Rattle.hu_report.specs.Text.{answer_text}
 use Rattle.hu_input.specs.Formats.{transaction_reading, sequence_reading}
 use Rattle.hu_input.specs.Input.{Refusal, Unread, refused_line, missing_file, input}
-use Rattle.hu_run.specs.Job.{Mining, Sizing, Searching, Asked, mine, size, average, check, drill}
+use Rattle.hu_run.specs.Job.{Mining, Sizing, Searching, Asked, mine, size, average, certify, check, drill}
 use Rattle.hu_run.specs.Drill.{drill_text}
 
--- the text that is written, the first line that is refused with the name of its file, the first file that isn't there, or the
--- certificate that isn't accepted with its first fault
+-- why a certificate isn't accepted or isn't given: this one has a fault, its first one, or it would be too long
+pub data Denial : Type 0 where
+  has_fault : List ℕ → CheckFault → Denial
+  too_long : Denial
+
+-- the text that is written, the first line that is refused with the name of its file, the first file that isn't there, or what is
+-- wrong with a certificate
 pub data Ending : Type 0 where
   writes : List ℕ → Ending
   refuses : List ℕ → Refusal → Ending
   lacks : List ℕ → Ending
-  denies : List ℕ → CheckFault → Ending
+  denies : Denial → Ending
 
 -- the ending of a job by what it makes of its input
 abbrev pub ending_by : {R : Type 0} → (R → Ending) → Result R Unread → Ending
@@ -58,11 +64,18 @@ abbrev pub averaging_ending : Searching → (List ℕ → Option (List ℕ)) →
 averaging_ending s contents names =
     ending_by (λ records. writes (average_text (average_answer records s.least s.top))) (transactions contents names)
 
+-- the ending of making a certificate: its text, unless that is too long
+abbrev pub given : List ℕ → Ending
+given text = if nat_lt 268435456 (length text) then denies too_long else writes text
+
+abbrev pub certifying_ending : ℤ → (List ℕ → Option (List ℕ)) → List (List ℕ) → Ending
+certifying_ending least contents names = ending_by (λ records. given (certificate_text records least)) (transactions contents names)
+
 -- the ending of a check over records: where the text of the certificate has no fault, that of all their itemsets that reach the
 -- least utility
 abbrev pub judging_ending : ℤ → List ℕ → List (List (ℕ × ℤ)) → Option CheckFault → Ending
 judging_ending least cert records None = writes (answer_text Items (item_answer records least None))
-judging_ending least cert records (Some fault) = denies cert fault
+judging_ending least cert records (Some fault) = denies (has_fault cert fault)
 
 abbrev pub certificate_ending : ℤ → List ℕ → List (List (ℕ × ℤ)) → Option (List ℕ) → Ending
 certificate_ending least cert records None = lacks cert
@@ -78,6 +91,7 @@ abbrev pub ending : Asked → Option (List ℕ → Option (List ℕ)) → List (
 ending (mine mining) contents names = option_map (λ told. mining_ending mining told names) contents
 ending (size sizing) contents names = option_map (λ told. sized_ending sizing told names) contents
 ending (average searching) contents names = option_map (λ told. averaging_ending searching told names) contents
+ending (certify least) contents names = option_map (λ told. certifying_ending least told names) contents
 ending (check least cert) contents names = option_map (λ told. checking_ending least cert told names) contents
 ending (drill seed) contents names = Some (writes (drill_text seed))
 
@@ -86,7 +100,7 @@ abbrev pub status_of : Ending → ℕ
 status_of (writes text) = 0
 status_of (refuses name refusal) = 1
 status_of (lacks name) = 3
-status_of (denies cert fault) = 6
+status_of (denies denial) = 6
 
 -- each of these files of a job is there, and each line of it is accepted
 abbrev pub IsAccepted : Asked → (List ℕ → Option (List ℕ)) → List (List ℕ) → Type 0

@@ -1,5 +1,5 @@
 -- The words of the command line as a job: TASK ENGINE MIN TOP FILE [BATCH ..], average ENGINE MIN TOP FILE [BATCH ..],
--- sized ENGINE MIN TOP SHORT LONG FILE [BATCH ..], check MIN CERT FILE [BATCH ..], or drill SEED.
+-- sized ENGINE MIN TOP SHORT LONG FILE [BATCH ..], certify MIN FILE [BATCH ..], check MIN CERT FILE [BATCH ..], or drill SEED.
 use Rattle.std.specs.Prelude.{◌≡◌, ⊤, ℕ, ◌≤◌, nat_lt, nat_le, Bool, true, false, ◌&&◌, ℤ, pos, ◌≤ℤ◌, int_le, unsigned_abs, IfSome, Option, None, Some, Result, Ok, Err, List, [], ◌∷◌, ◌++◌, length, drop, codes, slice_index_or, if◌then◌else◌}
 use Rattle.std.specs.Option.{option_and_then, option_map}
 use Rattle.std.specs.Result.{result_ok}
@@ -110,12 +110,13 @@ pub record Searching : Type 0 where
   pub least : ℤ
   pub top : Option ℕ
 
--- what is asked for: to mine files, for itemsets of some lengths, or for those of high average utility, to check a certificate
--- of this name at a least utility, or a drill by a seed
+-- what is asked for: to mine files, for itemsets of some lengths, or for those of high average utility, to make a certificate at a
+-- least utility, to check one of this name, or a drill by a seed
 pub data Asked : Type 0 where
   mine : Mining → Asked
   size : Sizing → Asked
   average : Searching → Asked
+  certify : ℤ → Asked
   check : ℤ → List ℕ → Asked
   drill : ℕ → Asked
 
@@ -179,6 +180,15 @@ average_job words = do
   few ← refuse_if (nat_lt 68 (length words)) TooManyFiles
   Ok (average search)
 
+-- the job of words that begin with `certify`, or their first fault: the second word is a least utility, and those after it name the
+-- files, at most 64
+abbrev pub certify_job : List (List ℕ) → Result Asked WordFault
+certify_job words = do
+  enough ← refuse_if (nat_lt (length words) 3) TooFewWords
+  least ← or_fault (least_of (word_at words 1)) BadMinimum
+  few ← refuse_if (nat_lt 66 (length words)) TooManyFiles
+  Ok (certify least)
+
 -- the job of words that begin with `check`, or their first fault: the second word is a least utility, the third names a
 -- certificate, and those after it the files, at most 64
 abbrev pub check_job : List (List ℕ) → Result Asked WordFault
@@ -194,6 +204,7 @@ job words =
     if bytes_eq (word_at words 0) (codes "drill") then drill_job words
     else if bytes_eq (word_at words 0) (codes "sized") then sized_job words
     else if bytes_eq (word_at words 0) (codes "average") then average_job words
+    else if bytes_eq (word_at words 0) (codes "certify") then certify_job words
     else if bytes_eq (word_at words 0) (codes "check") then check_job words
     else mining_job words
 
@@ -202,6 +213,7 @@ abbrev pub names_of : {W : Type 0} → Asked → List W → List W
 names_of (mine m) words = drop 4 words
 names_of (size s) words = drop 6 words
 names_of (average s) words = drop 4 words
+names_of (certify least) words = drop 2 words
 names_of (check least cert) words = drop 3 words
 names_of (drill seed) words = []
 
@@ -223,6 +235,7 @@ abbrev pub IsLawful : Asked → Type 0
 IsLawful (mine m) = (offers m.task m.engine ≡ true) × (pos 1 ≤ℤ m.least) × IfSome m.top (λ k. 1 ≤ k)
 IsLawful (size s) = (offers_further s.engine ≡ true) × (pos 1 ≤ℤ s.least) × IfSome s.top (λ k. 1 ≤ k) × AreLengths s.short s.long
 IsLawful (average s) = (offers_further s.engine ≡ true) × (pos 1 ≤ℤ s.least) × IfSome s.top (λ k. 1 ≤ k)
+IsLawful (certify least) = pos 1 ≤ℤ least
 IsLawful (check least cert) = pos 1 ≤ℤ least
 IsLawful (drill seed) = IsSeed seed
 
@@ -231,6 +244,7 @@ abbrev pub IsDrill : Asked → Type 0
 IsDrill (mine m) = ⊥
 IsDrill (size s) = ⊥
 IsDrill (average s) = ⊥
+IsDrill (certify least) = ⊥
 IsDrill (check least cert) = ⊥
 IsDrill (drill seed) = ⊤
 
@@ -239,6 +253,7 @@ abbrev pub asked_of : Job → Asked
 asked_of (words.Mine task engine least top names) = mining task engine least top
 asked_of (words.Sized engine least top short long names) = sizing engine least top short long
 asked_of (words.Average engine least top names) = averaging engine least top
+asked_of (words.Certify least names) = certify least
 asked_of (words.Check least cert names) = check least cert.now
 asked_of (words.Drill seed) = drill seed
 
@@ -247,5 +262,6 @@ abbrev pub files_of : Job → List (String Global)
 files_of (words.Mine task engine least top names) = names.now
 files_of (words.Sized engine least top short long names) = names.now
 files_of (words.Average engine least top names) = names.now
+files_of (words.Certify least names) = names.now
 files_of (words.Check least cert names) = names.now
 files_of (words.Drill seed) = []

@@ -34,7 +34,7 @@ abbrev pub HasRoom : SinkView → Ending → Type 0
 HasRoom out (writes text) = length out.bytes + length text ≤ out.room
 HasRoom out (refuses name refusal) = ⊤
 HasRoom out (lacks name) = ⊤
-HasRoom out (denies cert fault) = ⊤
+HasRoom out (denies denial) = ⊤
 
 -- no call is to fail, every file and certificate that the words name is there, and there is room for the text that they come to
 pub record IsUntroubled (words : List (List ℕ)) (files : FilesView) (out : SinkView) : Type 0 where

@@ -4,9 +4,8 @@ use Rattle.std.specs.List.{Contains}
 use Rattle.hu_io.specs.Count.{Rose}
 use Rattle.hu_io.specs.State.{SinkState, FilesState, Appended, Broke}
 use Rattle.hu_input.specs.Input.{Refusal}
-use Rattle.hu_proof.specs.declared.fault.CheckFault.{CheckFault}
-use Rattle.hu_run.specs.Job.{Asked, job, names_of, certificate_of, reads_of}
-use Rattle.hu_run.specs.Ending.{Ending, writes, refuses, lacks, denies, ending, status_of, IsAccepted}
+use Rattle.hu_run.specs.Job.{Asked, certify, check, job, names_of, reads_of}
+use Rattle.hu_run.specs.Ending.{Denial, has_fault, too_long, Ending, writes, refuses, lacks, denies, ending, status_of, IsAccepted}
 use Rattle.hu_run.specs.Stop.{told_line, word_text, refusal_line, read_failed_line, denial_line}
 
 -- a run's words, and its files and streams before and after it
@@ -48,14 +47,14 @@ abbrev pub Writing : (List ℕ → Type 0) → Ending → Type 0
 Writing fact (writes text) = fact text
 Writing fact (refuses name refusal) = ⊥
 Writing fact (lacks name) = ⊥
-Writing fact (denies cert fault) = ⊥
+Writing fact (denies denial) = ⊥
 
 -- the ending is a file that isn't there
 abbrev pub Lacking : Ending → Type 0
 Lacking (writes text) = ⊥
 Lacking (refuses name refusal) = ⊥
 Lacking (lacks name) = ⊤
-Lacking (denies cert fault) = ⊥
+Lacking (denies denial) = ⊥
 
 -- a line of a named file was told, and where the contents are told it is the first that is refused
 abbrev pub TellsRefused : Streams → Asked → Type 0
@@ -71,11 +70,17 @@ TellsUnread s asked = (i : ℕ) × (name : List ℕ) × (slice_get (reads_of ask
     × IfSome s.files.contents (λ told. IsAccepted asked told (take i (names_of asked s.words)))
     × Tells s (read_failed_line name)
 
--- a fault of the job's certificate was told, and where the contents are told it is the first one
+-- what may be wrong with the certificate of a job
+abbrev pub MayDeny : Asked → Denial → Type 0
+MayDeny (certify least) too_long = ⊤
+MayDeny (check least cert) (has_fault named fault) = named ≡ cert
+MayDeny asked denial = ⊥
+
+-- what is wrong with the job's certificate was told, and where the contents are told it is so
 abbrev pub TellsDenied : Streams → Asked → Type 0
-TellsDenied s asked = (cert : List ℕ) × (fault : CheckFault) × Contains (certificate_of asked) cert
-    × IfSome (ending asked s.files.contents (names_of asked s.words)) (λ e. e ≡ denies cert fault)
-    × Tells s (denial_line cert fault)
+TellsDenied s asked = (denial : Denial) × MayDeny asked denial
+    × IfSome (ending asked s.files.contents (names_of asked s.words)) (λ e. e ≡ denies denial)
+    × Tells s (denial_line denial)
 
 -- no count of `out` rose, nor that of a file or a certificate
 pub record Unharmed (s : Streams) : Type 0 where
@@ -99,7 +104,7 @@ pub record Runs (s : Streams) (status : ℕ) : Type 0 where
   pub broken : status ≡ 4 → ComesTo s (Writing (Broke s.out s.out_after))
   pub broken_rose : status ≡ 4 → Rose s.out.faults s.out_after.faults
   pub broken_told : status ≡ 4 → Tells s (told_line (codes "write failed"))
-  -- a refused certificate: its fault is the first one, and the one that is told
+  -- a certificate that isn't accepted, with its first fault, or isn't given
   pub denied : status ≡ 6 → IsOkAnd (job s.words) (TellsDenied s)
   pub memory_told : status ≡ 5 → Tells s (told_line (codes "out of memory"))
   -- where no count rose the status is that of the ending, or want of memory; a missing file raises its own count

@@ -9,8 +9,11 @@ use Rattle.hu_run.specs.declared.words.WordFault.{WordFault}
 use Rattle.hu_run.specs.declared.words.WordFault.TheVariants as word
 use Rattle.hu_input.specs.declared.input.InputStop.{InputStop}
 use Rattle.hu_input.specs.declared.input.InputStop.TheVariants as input
+use Rattle.hu_certify.specs.declared.fault.CertFault.{CertFault}
+use Rattle.hu_certify.specs.declared.fault.CertFault.TheVariants as cert
 use Rattle.hu_run.specs.declared.stop.Stop.{Stop}
-use Rattle.hu_run.specs.declared.stop.Stop.TheVariants.{Words, Refused, ReadFailed, Denied, WriteFailed, NoMemory}
+use Rattle.hu_run.specs.Ending.{Denial, has_fault, too_long}
+use Rattle.hu_run.specs.declared.stop.Stop.TheVariants.{Words, Refused, ReadFailed, Denied, TooLong, WriteFailed, NoMemory}
 
 -- the reason of refused words
 abbrev pub word_text : WordFault → List ℕ
@@ -65,16 +68,22 @@ denied_line (denial.WrongBound line item stated summed) = line
 denied_line (denial.NotCut line item bound) = line
 denied_line fault = 1
 
--- the line that tells of a certificate that isn't accepted
-abbrev pub denial_line : List ℕ → CheckFault → List ℕ
-denial_line cert fault = joined (codes "hupm: " ∷ cert ∷ codes ":" ∷ decimal (denied_line fault) ∷ codes ": " ∷ denial_text fault ∷ codes "\n" ∷ [])
+-- the line that tells of a fault of a certificate
+abbrev pub fault_line : List ℕ → CheckFault → List ℕ
+fault_line cert fault = joined (codes "hupm: " ∷ cert ∷ codes ":" ∷ decimal (denied_line fault) ∷ codes ": " ∷ denial_text fault ∷ codes "\n" ∷ [])
+
+-- the line that tells what is wrong with a certificate
+abbrev pub denial_line : Denial → List ℕ
+denial_line (has_fault cert fault) = fault_line cert fault
+denial_line too_long = told_line (codes "certificate too long")
 
 -- the line that tells of a stop
 abbrev pub stop_line : Stop → List ℕ
 stop_line (Words fault) = told_line (word_text fault)
 stop_line (Refused name number reason) = refusal_line name.now number reason
 stop_line (ReadFailed name) = read_failed_line name.now
-stop_line (Denied cert fault) = denial_line cert.now fault
+stop_line (Denied cert fault) = fault_line cert.now fault
+stop_line TooLong = told_line (codes "certificate too long")
 stop_line WriteFailed = told_line (codes "write failed")
 stop_line NoMemory = told_line (codes "out of memory")
 
@@ -86,9 +95,15 @@ stop_status (ReadFailed name) = 3
 stop_status WriteFailed = 4
 stop_status NoMemory = 5
 stop_status (Denied cert fault) = 6
+stop_status TooLong = 6
 
 -- the stop of a run where its files gave no base
 abbrev pub stop_of_input : InputStop → Stop
 stop_of_input (input.Refused name number reason) = Refused name number reason
 stop_of_input (input.ReadFailed name) = ReadFailed name
 stop_of_input input.NoMemory = NoMemory
+
+-- the stop of a run where no certificate was given
+abbrev pub stop_of_certificate : CertFault → Stop
+stop_of_certificate cert.TooLong = TooLong
+stop_of_certificate cert.NoMemory = NoMemory

@@ -10,8 +10,8 @@ use Rattle.hu_trans.specs.declared.fault.Fault.TheVariants.{TotalDisagrees}
 use Rattle.hu_mine.specs.declared.engine.Engine.TheVariants.{Plain, Lists, Kept, Chain}
 use Rattle.hu_input.specs.declared.reason.Reason.TheVariants.{Transaction}
 use Rattle.hu_run.specs.declared.words.WordFault.TheVariants.{TooFewWords, TooManyWords, BadSeed, TaskUnknown, EngineNotOffered, BadMinimum, BadTop, BadLengths, TooManyFiles}
-use Rattle.hu_run.specs.Job.{job, drill, check, mining, sizing, averaging}
-use Rattle.hu_run.specs.Ending.{Ending, writes, refuses, lacks, denies, ending}
+use Rattle.hu_run.specs.Job.{job, drill, certify, check, mining, sizing, averaging}
+use Rattle.hu_run.specs.Ending.{Ending, writes, refuses, lacks, has_fault, denies, ending}
 use Rattle.hu_proof.specs.declared.fault.CheckFault.TheVariants.{NotOfForm}
 use Rattle.hu_run.specs.Stop.{refusal_line}
 
@@ -72,6 +72,12 @@ two_or_three = refl
 pub by_average : job (codes "average" ∷ codes "lists" ∷ codes "14" ∷ codes "4" ∷ codes "f" ∷ []) ≡ Ok (averaging Lists (pos 14) (Some 4))
 by_average = refl
 
+pub no_file_to_certify : job (codes "certify" ∷ codes "5" ∷ []) ≡ Err TooFewWords
+no_file_to_certify = refl
+
+pub certified : job (codes "certify" ∷ codes "5" ∷ codes "f" ∷ []) ≡ Ok (certify (pos 5))
+certified = refl
+
 pub no_file_to_check : job (codes "check" ∷ codes "5" ∷ codes "c" ∷ []) ≡ Err TooFewWords
 no_file_to_check = refl
 
@@ -122,7 +128,7 @@ pub no_certificate : ending (check (pos 5) (codes "d.txt")) files (codes "c.txt"
 unfolding refusal
 no_certificate = refl
 
-pub no_certificate_of_it : ending (check (pos 5) (codes "b.txt")) files (codes "c.txt" ∷ []) ≡ Some (denies (codes "b.txt") (NotOfForm 1))
+pub no_certificate_of_it : ending (check (pos 5) (codes "b.txt")) files (codes "c.txt" ∷ []) ≡ Some (denies (has_fault (codes "b.txt") (NotOfForm 1)))
 unfolding refusal
 no_certificate_of_it = refl
 

@@ -7,7 +7,7 @@ ghost use Rattle.hu_run.specs.Answer.{line_text, text_of};
 
 use hu_average::write_averages;
 use hu_drill::{Summary, write_summary};
-use hu_io::{Failed, Sink};
+use hu_io::{Failed, Sink, put_all};
 use hu_kind::{Entry, Task};
 use hu_report::write_entries;
 
@@ -18,6 +18,8 @@ pub(crate) enum Answer {
     Entries { task: Task, entries: Vec<Entry> },
     /// Entries by average.
     Averages(Vec<Entry>),
+    /// A text.
+    Text(Vec<u8>),
     /// The lines of a drill.
     Lines(Vec<Line>),
 }
@@ -46,6 +48,7 @@ impl Answer {
         match self {
             Answer::Entries { task, entries } => write_entries(entries, *task, sink),
             Answer::Averages(entries) => write_averages(entries, sink),
+            Answer::Text(text) => put_all(sink, text),
             Answer::Lines(lines) => write_lines(lines, sink),
         }
     }

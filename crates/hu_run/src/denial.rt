@@ -3,7 +3,7 @@
 ghost use Rattle.std.specs.Prelude.{◌≡◌, pos, ◌++◌, flat_map};
 ghost use Rattle.std.specs.Fmt.{signed_decimal};
 ghost use Rattle.hu_input.specs.Part.{part_text};
-ghost use Rattle.hu_run.specs.Stop.{denial_line, denial_text, denied_line};
+ghost use Rattle.hu_run.specs.Stop.{fault_line, denial_text, denied_line};
 
 use hu_input::Part;
 use hu_kind::Item;
@@ -13,8 +13,8 @@ use hu_proof::CheckFault;
 type DenialParts = [Part<'static>; 6];
 
 /// The line that tells of a certificate that isn't accepted, in constant time and without memory.
-pub(crate) fn denial_line(cert: &str, fault: CheckFault) -> [Part<'_>; 12]
-    ensures { flat_map part_text result ≡ denial_line cert.now fault }
+pub(crate) fn fault_line(cert: &str, fault: CheckFault) -> [Part<'_>; 12]
+    ensures { flat_map part_text result ≡ fault_line cert.now fault }
 {
     let [first, second, third, fourth, fifth, sixth] = denial_parts(fault);
     [

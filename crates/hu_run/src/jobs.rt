@@ -6,6 +6,7 @@ ghost use Rattle.hu_run.specs.Job.{asked_of, files_of, IsLawful, IsDrill};
 ghost use Rattle.hu_run.specs.Attempt.{Answers};
 
 mod average;
+mod certify;
 mod check;
 mod drill;
 mod mine;
@@ -50,6 +51,7 @@ pub(crate) fn answer<'a, F: Files>(
             top,
             names,
         } => average::answer(alloc, files, engine, least, top, names),
+        Job::Certify { least, names } => certify::answer(alloc, files, least, names),
         Job::Check { least, cert, names } => check::answer(alloc, files, least, cert, names),
         Job::Drill { seed } => Ok(drill::answer(alloc, seed)?),
     }

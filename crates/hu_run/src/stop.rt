@@ -2,10 +2,11 @@
 
 ghost use Rattle.std.specs.Prelude.{◌≡◌};
 ghost use Rattle.hu_input.specs.Part.{Tells};
-ghost use Rattle.hu_run.specs.Stop.{stop_status, stop_line, told_line, refusal_line, denial_line, word_text};
+ghost use Rattle.hu_run.specs.Stop.{stop_status, stop_line, told_line, refusal_line, fault_line, word_text};
 
-use crate::denial::denial_line;
+use crate::denial::fault_line;
 use crate::words::WordFault;
+use hu_certify::CertFault;
 use hu_input::{InputStop, Part, Reason, tell};
 use hu_io::{Failed, Sink};
 use hu_kind::NoMemory;
@@ -31,6 +32,8 @@ pub(crate) enum Stop<'a> {
         cert: &'a str,
         fault: CheckFault,
     },
+    /// The certificate would be too long.
+    TooLong,
     /// A write of the answer failed.
     WriteFailed,
     /// There is no memory.
@@ -48,7 +51,7 @@ impl Stop<'_> {
             Stop::ReadFailed { .. } => 3,
             Stop::WriteFailed => 4,
             Stop::NoMemory => 5,
-            Stop::Denied { .. } => 6,
+            Stop::Denied { .. } | Stop::TooLong => 6,
         }
     }
 
@@ -72,6 +75,7 @@ impl Stop<'_> {
                 ],
             ),
             Stop::Denied { cert, fault } => tell_denial(err, cert, *fault),
+            Stop::TooLong => tell_text(err, "certificate too long"),
             Stop::WriteFailed => tell_text(err, "write failed"),
             Stop::NoMemory => tell_text(err, "out of memory"),
         }
@@ -112,9 +116,9 @@ fn tell_refusal<E: Sink>(err: &mut E, name: &str, number: u64, reason: Reason)
 
 /// Tells of a certificate that isn't accepted.
 fn tell_denial<E: Sink>(err: &mut E, cert: &str, fault: CheckFault)
-    ensures { Tells (E.state err.old) (E.state err.new) (denial_line cert.now fault) }
+    ensures { Tells (E.state err.old) (E.state err.new) (fault_line cert.now fault) }
 {
-    tell(err, &denial_line(cert, fault));
+    tell(err, &fault_line(cert, fault));
 }
 
 /// The reason of refused words.
@@ -176,6 +180,20 @@ impl From<NoMemory> for Stop<'_> {
 
     fn from(_fault: NoMemory) -> Self {
         Stop::NoMemory
+    }
+}
+
+impl From<CertFault> for Stop<'_> {
+    ghost use Rattle.std.specs.Prelude.{◌≡◌};
+    ghost use Rattle.hu_run.specs.Stop.{stop_of_certificate};
+
+    ghost from_gives = { λ fault e. e ≡ stop_of_certificate fault };
+
+    fn from(fault: CertFault) -> Self {
+        match fault {
+            CertFault::TooLong => Stop::TooLong,
+            CertFault::NoMemory => Stop::NoMemory,
+        }
     }
 }
 

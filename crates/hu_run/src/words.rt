@@ -7,6 +7,7 @@ ghost use Rattle.hu_input.specs.Names.{texts_of};
 ghost use Rattle.hu_run.specs.Job.{word_at, job, names_of, asked_of, files_of, IsLawful};
 
 mod average;
+mod certify;
 mod check;
 mod drill;
 mod mining;
@@ -46,6 +47,11 @@ pub enum Job<'a> {
         top: Option<u32>,
         names: &'a [String],
     },
+    /// A certificate of all itemsets that earn at least `least` in the records of the named files.
+    Certify {
+        least: i128,
+        names: &'a [String],
+    },
     /// Whether the certificate that is named `cert` shows all itemsets that earn at least `least` in the records of the named
     /// files; and which these are.
     Check {
@@ -62,8 +68,8 @@ pub enum Job<'a> {
 /// Why words are no job. Where several are, the first of this list is meant.
 #[derive(Clone, Copy, Debug, PartialEq, Eq)]
 pub enum WordFault {
-    /// There are fewer than five words, or fewer than two where the first is `drill`, seven where it is `sized`, four where it is
-    /// `check`.
+    /// There are fewer than five words, or fewer than two where the first is `drill`, seven where it is `sized`, three where it is
+    /// `certify`, four where it is `check`.
     TooFewWords,
     /// The first word is `drill`, and there are more than two.
     TooManyWords,
@@ -73,7 +79,7 @@ pub enum WordFault {
     TaskUnknown,
     /// The second word is no engine that the task offers.
     EngineNotOffered,
-    /// The third word, or the second after `check`, is no number from 1 to 2^127 - 1.
+    /// The third word, or the second where the first is `certify` or `check`, is no number from 1 to 2^127 - 1.
     BadMinimum,
     /// The fourth word is neither `all` nor a number from 1 to 1,000,000.
     BadTop,
@@ -96,6 +102,8 @@ pub fn read_words(words: &[String]) -> Result<Job<'_>, WordFault>
         sized::read(words)
     } else if begins_with(words, "average") {
         average::read(words)
+    } else if begins_with(words, "certify") {
+        certify::read(words)
     } else if begins_with(words, "check") {
         check::read(words)
     } else {

@@ -83,7 +83,7 @@ const OTHER_ENDS: [(&str, u8, &str); 3] = [
 ];
 
 /// The records and a certificate.
-fn files(alloc: Global, text: &str) -> Result<MemoryFiles, Fail> {
+fn files_with(alloc: Global, text: &str) -> Result<MemoryFiles, Fail> {
     let mut files = MemoryFiles::new(alloc);
     files.add("f", RECORDS.as_bytes())?;
     files.add("cert", text.as_bytes())?;
@@ -91,10 +91,21 @@ fn files(alloc: Global, text: &str) -> Result<MemoryFiles, Fail> {
 }
 
 #[test]
+fn a_certificate_made_and_checked(rt: HostRuntime) -> Result<(), Fail> {
+    let words = words_of(rt.alloc(), "certify", "5 f")?;
+    let mut files = files_with(rt.alloc(), "")?;
+    let made = "cert 5\norder 1 2\n:0:1 2=0\n1:5:2\n1 2:5:\n";
+    ends(&rt, rt.alloc(), &words, &mut files, (0, made, ""))?;
+    let words = words_of(rt.alloc(), "check", "5 cert f")?;
+    let mut files = files_with(rt.alloc(), made)?;
+    ends(&rt, rt.alloc(), &words, &mut files, (0, ITS_ANSWER, ""))
+}
+
+#[test]
 fn certificates(rt: HostRuntime) -> Result<(), Fail> {
     for (text, status, written, told) in &CERTIFICATES {
         let words = words_of(rt.alloc(), "check", "5 cert f")?;
-        let mut files = files(rt.alloc(), *text)?;
+        let mut files = files_with(rt.alloc(), *text)?;
         ends(
             &rt,
             rt.alloc(),
@@ -105,7 +116,7 @@ fn certificates(rt: HostRuntime) -> Result<(), Fail> {
     }
     for (rest, status, told) in &OTHER_ENDS {
         let words = words_of(rt.alloc(), "check", *rest)?;
-        let mut files = files(rt.alloc(), "cert 5\n")?;
+        let mut files = files_with(rt.alloc(), "cert 5\n")?;
         ends(&rt, rt.alloc(), &words, &mut files, (*status, "", *told))?;
     }
     Ok(())

@@ -6,7 +6,7 @@ use std::alloc::Global;
 use std::process::Abort;
 use std::test::Fail;
 
-const WORDS: [(&str, &str, &str); 27] = [
+const WORDS: [(&str, &str, &str); 29] = [
     ("", "", "hupm: too few words\n"),
     ("items plain 30 all", "", "hupm: too few words\n"),
     ("drill", "", "hupm: too few words\n"),
@@ -23,6 +23,8 @@ const WORDS: [(&str, &str, &str); 27] = [
     ("average project 0 0 f", "", "hupm: engine not offered\n"),
     ("average plain 0 0 f", "", "hupm: bad minimum\n"),
     ("average lists 1 0 f", "", "hupm: bad top\n"),
+    ("certify 0", "", "hupm: too few words\n"),
+    ("certify 0 f", "", "hupm: bad minimum\n"),
     ("check 0 c", "", "hupm: too few words\n"),
     ("check 0 c f", "", "hupm: bad minimum\n"),
     ("sets lists 0 0 f", "", "hupm: unknown task\n"),

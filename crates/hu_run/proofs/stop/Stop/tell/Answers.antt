@@ -16,3 +16,8 @@ pub returns-in-NoMemory : goal.returns-in-NoMemory
 returns-in-NoMemory g c =
     subst (λ stop. Tells (g.E.Sink.state c.args.err.now) (g.E.Sink.state c.tell_text-in-NoMemory.new.err) (stop_line stop)) (sym c.in-NoMemory.is)
     c.tell_text-in-NoMemory.ensures
+
+pub returns-in-TooLong : goal.returns-in-TooLong
+returns-in-TooLong g c =
+    subst (λ stop. Tells (g.E.Sink.state c.args.err.now) (g.E.Sink.state c.tell_text-in-TooLong.new.err) (stop_line stop)) (sym c.in-TooLong.is)
+    c.tell_text-in-TooLong.ensures

@@ -4,7 +4,7 @@ use Rattle.std.specs.Int.{w128}
 use Rattle.std.specs.Fmt.{decimal, signed_decimal}
 use Rattle.hu_run.specs.Stop.{denied_line, denial_text}
 use Rattle.hu_run.proofs.DenialLemmas.{six-parts}
-use Rattle.hu_run.proofs.denial.denial_line.Goals as goal
+use Rattle.hu_run.proofs.denial.fault_line.Goals as goal
 
 pub returns : goal.returns
 returns c =
