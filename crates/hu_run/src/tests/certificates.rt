@@ -1,7 +1,8 @@
 //! Runs that check a certificate.
 
 use super::{ends, words_of};
-use hu_io::MemoryFiles;
+use crate::run;
+use hu_io::{MemoryFiles, MemorySink};
 use std::alloc::Global;
 use std::process::Abort;
 use std::test::Fail;
@@ -118,6 +119,40 @@ fn certificates(rt: HostRuntime) -> Result<(), Fail> {
         let words = words_of(rt.alloc(), "check", *rest)?;
         let mut files = files_with(rt.alloc(), "cert 5\n")?;
         ends(&rt, rt.alloc(), &words, &mut files, (*status, "", *told))?;
+    }
+    Ok(())
+}
+
+/// What a byte of a certificate is changed to.
+const BYTES: [u8; 16] = *b"0123456789 :=-\nx";
+
+/// Asserts that a certificate that is accepted gives the answer of the records, and one that isn't gives nothing.
+fn gives_the_answer_or_nothing(rt: &impl Abort, alloc: Global, text: &[u8]) -> Result<(), Fail> {
+    let words = words_of(alloc, "check", "5 cert f")?;
+    let mut files = MemoryFiles::new(alloc);
+    files.add("f", RECORDS.as_bytes())?;
+    files.add("cert", text)?;
+    let mut out = MemorySink::new(alloc, 100)?;
+    let mut err = MemorySink::new(alloc, 100)?;
+    let status = run(alloc, &words, &mut files, &mut out, &mut err);
+    let answer = if status == 0 { ITS_ANSWER } else { "" };
+    assert!(rt; status == 0 || status == 6);
+    assert_eq!(rt; out.bytes(), answer.as_bytes());
+    Ok(())
+}
+
+#[test]
+fn certificates_with_a_byte_changed(rt: HostRuntime) -> Result<(), Fail> {
+    let (made, ..) = CERTIFICATES[0];
+    for at in 0..made.len() {
+        for byte in BYTES {
+            let mut text = Vec::new(rt.alloc());
+            text.extend_from_slice(made.as_bytes())?;
+            if let Some(place) = text.get_mut(at) {
+                *place = byte;
+            }
+            gives_the_answer_or_nothing(&rt, rt.alloc(), &text)?;
+        }
     }
     Ok(())
 }
