@@ -18,7 +18,8 @@ pub Told-both : (state : KeeperState) (name : List ℕ) (P Q R : List ℕ → Ty
     → Told state name P → Told state name Q → Told state name R
 Told-both state name P Q R f one two = by state.texts one two
   where
-    by : (texts : Option (List ℕ → List ℕ)) → MatchOption texts ⊤ (λ t. P (t name)) → MatchOption texts ⊤ (λ t. Q (t name)) → MatchOption texts ⊤ (λ t. R (t name))
+    by : (texts : Option (List ℕ → List ℕ)) → MatchOption texts ⊤ (λ t. P (t name)) → MatchOption texts ⊤ (λ t. Q (t name))
+        → MatchOption texts ⊤ (λ t. R (t name))
     by None h k = tt
     by (Some t) h k = f (t name) h k
 
@@ -43,7 +44,8 @@ read_piece old before now name bytes into new at n so_far loaded here within is 
       same = loaded.same ∙ so_far.same;
       front = Told-both old name (λ text. take (length bytes) text ≡ bytes) (λ text. Gives text at n into) (λ text. take (length new) text ≡ new)
           (λ text front gives.
-          let count : length new ≡ length bytes + n = ap length is ∙ length-append bytes (take n into) ∙ ap (λ k. length bytes + k) (length-take-le n into within) in
+          let count : length new ≡ length bytes + n =
+          ap length is ∙ length-append bytes (take n into) ∙ ap (λ k. length bytes + k) (length-take-le n into within) in
           ap (λ k. take k text) count
           ∙ take-add (length bytes) n text
           ∙ ap (λ xs. xs ++ take n (drop (length bytes) text)) front

@@ -40,7 +40,8 @@ damaged (b ∷ bs) some none = rw none refl
 
 -- a text that is too long to be read is damaged
 pub long_damaged : {A : Type 0} (state : KeeperState) (name : List ℕ) (found : Option (Vec ℕ A))
-    → Told state name (λ text. MatchOption found (268435456 < length text) (λ bytes. bytes.items ≡ text)) → found ≡ None → IsFaultOf state name find_fault Damaged
+    → Told state name (λ text. MatchOption found (268435456 < length text) (λ bytes. bytes.items ≡ text))
+    → found ≡ None → IsFaultOf state name find_fault Damaged
 long_damaged state name None told none =
     Told-map state name (λ text. 268435456 < length text) (λ text. find_fault text ≡ Some Damaged)
     (λ text long. damaged text (omega (arith, long)) (none_by_length text long)) told
@@ -48,7 +49,8 @@ long_damaged state name (Some v) told none = absurd (cc)
 
 -- the text that was read is that of the name
 pub read_text : {A : Type 0} (state : KeeperState) (name : List ℕ) (found : Option (Vec ℕ A)) (v : Vec ℕ A)
-    → Told state name (λ text. MatchOption found (268435456 < length text) (λ bytes. bytes.items ≡ text)) → found ≡ Some v → Told state name (λ text. v.items ≡ text)
+    → Told state name (λ text. MatchOption found (268435456 < length text) (λ bytes. bytes.items ≡ text))
+    → found ≡ Some v → Told state name (λ text. v.items ≡ text)
 read_text state name found v told some =
     subst (λ f. Told state name (λ text. MatchOption f (268435456 < length text) (λ bytes. bytes.items ≡ text))) some told
 
@@ -65,26 +67,29 @@ found_text state name items text (Ok s) told is found =
     Told-map state name (λ t. items ≡ t) (λ t. t ≡ store_text s) (λ t same. sym (is ∙ same) ∙ text_of-store text s found) told
 found_text state name items text (Err fault) told is found = tt
 
+-- a keeper that is as before
+pub still_same : (state now : KeeperState) → now ≡ state → Stays state now
+still_same state now same = record {
+  texts = ap (λ s. s.texts) same;
+  later = λ other. omega (arith, ap (λ s. s.faults other) same);
+  plan = ap (λ s. s.plan) same;
+}
+
 pub found_none : (state now : KeeperState) (name items text : List ℕ) (result : Result Keeping ShelfFault) → Told state name (λ t. items ≡ t) → text ≡ items
     → 0 < length items → now ≡ state → IfErr result (λ fault. (fault ≡ NoMemory) ⊎ ((fault ≡ Damaged) × (store_of text ≡ None)))
     → IfErr result (Refuses state now name (IsFaultOf state name find_fault))
 found_none state now name items text (Ok s) told is some same cause = tt
-found_none state now name items text (Err fault) told is some same cause = record { cause = by cause; stays = still }
+found_none state now name items text (Err fault) told is some same cause = record { cause = by cause; stays = still_same state now same }
   where
-    still : Stays state now
-    still = record { texts = ap (λ s. s.texts) same; later = λ other. omega (arith, ap (λ s. s.faults other) same); plan = ap (λ s. s.plan) same }
-
     by : (fault ≡ NoMemory) ⊎ ((fault ≡ Damaged) × (store_of text ≡ None)) → IsCause state now name (IsFaultOf state name find_fault) fault
     by (inl memory) = subst (IsCause state now name (IsFaultOf state name find_fault)) (sym memory) tt
     by (inr bad) = subst (IsCause state now name (IsFaultOf state name find_fault)) (sym bad.0)
         (Told-map state name (λ t. items ≡ t) (λ t. find_fault t ≡ Some Damaged)
         (λ t same'. damaged t (omega (arith, some, ap length same')) (ap store_of (sym (is ∙ same')) ∙ bad.1)) told)
 
-pub still_same : (state now : KeeperState) → now ≡ state → Stays state now
-still_same state now same = record { texts = ap (λ s. s.texts) same; later = λ other. omega (arith, ap (λ s. s.faults other) same); plan = ap (λ s. s.plan) same }
-
 -- what a text tells, by its parts
-pub told_by-parts : (text after line rest : List ℕ) (settings : Keeping) (found : Option (ℕ × List (List (ℕ × ℤ)))) (base : ℕ × List (List (ℕ × ℤ))) (records : List (List (ℕ × ℤ)))
+pub told_by-parts : (text after line rest : List ℕ) (settings : Keeping) (found : Option (ℕ × List (List (ℕ × ℤ))))
+    (base : ℕ × List (List (ℕ × ℤ))) (records : List (List (ℕ × ℤ)))
     → after ≡ after_byte 10 text → line ≡ before_byte 10 after → rest ≡ after_byte 10 after → settings_in line ≡ settings
     → IfSome found (λ b. b ≡ (0, records_in rest)) → found ≡ Some base → records ≡ records_of base → told_by text ≡ with_batch settings records
 told_by-parts text after line rest settings found base records one two three told read some are =

@@ -55,7 +55,8 @@ lookup-pairs name ((k, v) ∷ es) = rw is_eq-slice_cmp (chosen (bytes_eq name (s
     chosen true v p q same = refl
     chosen false v p q same = same
 
-pub text-pairs : {Y X : Type 0} (m : BTreeMap (String Y) (Vec ℕ X)) (name : List ℕ) → content_or_empty (pairs_of m.entries) name ≡ items_in (get_by_text m name)
+pub text-pairs : {Y X : Type 0} (m : BTreeMap (String Y) (Vec ℕ X)) (name : List ℕ)
+    → content_or_empty (pairs_of m.entries) name ≡ items_in (get_by_text m name)
 text-pairs m name = ap (λ found. unwrap_or found []) (lookup-pairs name m.entries)
 
 items-chosen : {X : Type 0} (b : Bool) (v : Vec ℕ X) (found : Option (Vec ℕ X)) → items_in (cond b (Some v) found) ≡ cond b v.items (items_in found)

@@ -18,7 +18,8 @@ use Rattle.hu_shelf.specs.Shelf.{Adds, absolute_sum}
 pub records_in-cut : (text : List ℕ) → records_in text ≡ option_to_list (record_in (before_byte 10 text)) ++ records_in (after_byte 10 text)
 records_in-cut text =
     elim (split_at (position_or_len (λ b. b == 10) text) (length text)) [
-      | inl within ↦ ap (filter_map record_in) (slice_split_first (λ b. b == 10) text 0 within) ∙ chosen (record_in (before_byte 10 text)) (records_in (after_byte 10 text))
+      | inl within ↦ ap (filter_map record_in) (slice_split_first (λ b. b == 10) text 0 within)
+          ∙ chosen (record_in (before_byte 10 text)) (records_in (after_byte 10 text))
       | inr past ↦ last past
     ]
   where
@@ -29,9 +30,11 @@ records_in-cut text =
     chosen None more = refl
     chosen (Some one) more = refl
 
-    last : length text ≤ position_or_len (λ b. b == 10) text → records_in text ≡ option_to_list (record_in (before_byte 10 text)) ++ records_in (after_byte 10 text)
+    last : length text ≤ position_or_len (λ b. b == 10) text
+        → records_in text ≡ option_to_list (record_in (before_byte 10 text)) ++ records_in (after_byte 10 text)
     last past =
-        let one : slice_split (λ b. b == 10) text ≡ text ∷ [] = slice_split_none (λ b. b == 10) text (λ k d within. fails_before_first (λ b. b == 10) text k d (omega arith)) in
+        let one : slice_split (λ b. b == 10) text ≡ text ∷ [] =
+        slice_split_none (λ b. b == 10) text (λ k d within. fails_before_first (λ b. b == 10) text k d (omega arith)) in
         let before : before_byte 10 text ≡ text = take_all (position_or_len (λ b. b == 10) text) text past in
         let after : after_byte 10 text ≡ [] = drop_all (position_or_len (λ b. b == 10) text + 1) text (omega arith) in
         ap (filter_map record_in) one

@@ -73,10 +73,12 @@ pub record IsAppended (s : Keeping) (batch : List (List (ℕ × ℤ))) (bytes : 
   pub fits : absolute_sum s.records + absolute_sum batch < 2 ^ 127
   pub text : bytes ≡ store_text (with_batch s batch)
 
-pub appended_too_long : (s : Keeping) (batch : List (List (ℕ × ℤ))) (bytes : List ℕ) → IsAppended s batch bytes → 268435456 < length bytes → add_fault s batch ≡ Some TooLarge
+pub appended_too_long : (s : Keeping) (batch : List (List (ℕ × ℤ))) (bytes : List ℕ) → IsAppended s batch bytes
+    → 268435456 < length bytes → add_fault s batch ≡ Some TooLarge
 appended_too_long s batch bytes is long = add_fault-long s batch is.fits (omega (arith, ap length is.text))
 
-pub appended_none : (s : Keeping) (batch : List (List (ℕ × ℤ))) (bytes : List ℕ) → IsAppended s batch bytes → length bytes ≤ 268435456 → add_fault s batch ≡ None
+pub appended_none : (s : Keeping) (batch : List (List (ℕ × ℤ))) (bytes : List ℕ) → IsAppended s batch bytes
+    → length bytes ≤ 268435456 → add_fault s batch ≡ None
 appended_none s batch bytes is short = add_fault-none s batch is.fits (omega (arith, ap length is.text))
 
 pub appended_shelf : (s new : Keeping) (batch : List (List (ℕ × ℤ))) (bytes : List ℕ) (sum : ℤ) (closed : Bool) → IsStore s → IsAppended s batch bytes
@@ -91,8 +93,10 @@ appended_shelf s new batch bytes sum closed store is short with total only =
     })
 
 -- the fields after a batch, by what the calls ensure
-pub appended_by : (s : Keeping) (batch records : List (List (ℕ × ℤ))) (before : ℤ) (text new : List ℕ) → before ≡ pos (absolute_sum s.records) → text ≡ store_text s
-    → unsigned_abs before + absolute_sum batch < 2 ^ 127 → records ≡ batch → new ≡ text ++ records_text records → All IsWritten records → IsAppended s batch new
+pub appended_by : (s : Keeping) (batch records : List (List (ℕ × ℤ))) (before : ℤ) (text new : List ℕ)
+    → before ≡ pos (absolute_sum s.records) → text ≡ store_text s
+    → unsigned_abs before + absolute_sum batch < 2 ^ 127 → records ≡ batch → new ≡ text ++ records_text records
+    → All IsWritten records → IsAppended s batch new
 appended_by s batch records before text new sum is fits same pushed written = record {
   written = rw (← same) written;
   fits = rw sum at fits;
@@ -121,7 +125,8 @@ length-least : (least : ℤ) → pos 1 ≤ℤ least → unsigned_abs least < 2 ^
 length-least (pos n) low small = length-decimal n small
 length-least (negsuc n) low small = absurd (omega (arith, ints))
 
-fresh_short : (s : Keeping) → s.records ≡ [] → pos 1 ≤ℤ s.least → unsigned_abs s.least < 2 ^ 127 → IfSome s.top (λ k. k ≤ 1000000) → length (store_text s) ≤ 268435456
+fresh_short : (s : Keeping) → s.records ≡ [] → pos 1 ≤ℤ s.least → unsigned_abs s.least < 2 ^ 127
+    → IfSome s.top (λ k. k ≤ 1000000) → length (store_text s) ≤ 268435456
 fresh_short s none low small few =
     let task = task_word s.closed in
     let least = signed_decimal s.least in

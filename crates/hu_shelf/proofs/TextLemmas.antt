@@ -28,7 +28,9 @@ pub before_byte-lacks : (c : ℕ) (xs ys : List ℕ) → Lacks c xs → before_b
 before_byte-lacks c xs ys lacks = ap (λ n. take n (xs ++ c ∷ ys)) (position-lacks c xs ys lacks) ∙ take-front xs (c ∷ ys)
 
 pub after_byte-lacks : (c : ℕ) (xs ys : List ℕ) → Lacks c xs → after_byte c (xs ++ c ∷ ys) ≡ ys
-after_byte-lacks c xs ys lacks = ap (λ n. drop (n + 1) (xs ++ c ∷ ys)) (position-lacks c xs ys lacks) ∙ ap (λ n. drop n (xs ++ c ∷ ys)) (add-one (length xs)) ∙ drop-front c xs ys
+after_byte-lacks c xs ys lacks =
+    ap (λ n. drop (n + 1) (xs ++ c ∷ ys)) (position-lacks c xs ys lacks)
+    ∙ ap (λ n. drop n (xs ++ c ∷ ys)) (add-one (length xs)) ∙ drop-front c xs ys
 
 -- what is given on a test that passes
 pub then_some-given : {T : Type 0} (b : Bool) (x y : T) → then_some b x ≡ Some y → (b ≡ true) × (x ≡ y)

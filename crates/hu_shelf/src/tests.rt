@@ -37,14 +37,13 @@ fn batch(alloc: Global, lines: &[&str]) -> Result<Base<Record>, Fail> {
     Ok(base)
 }
 
-/// Adds the records of lines to the store of a name.
+/// Adds a batch to the store of a name.
 fn add<K: Keeper>(
     alloc: Global,
     keeper: &mut K,
     name: &str,
-    lines: &[&str],
-) -> Result<Changes, Fail> {
-    let batch = batch(alloc, lines)?;
+    batch: Base<Record>,
+) -> Result<Changes, ShelfFault> {
     let shelf = Shelf::find(alloc, keeper, name)?;
     let (_, changes) = shelf.add(keeper, name, batch)?;
     Ok(changes)
@@ -68,10 +67,10 @@ fn a_store_grows(rt: HostRuntime) -> Result<(), Fail> {
         keeper.content("s"),
         b"hupm shelf 1\nitems 30 all\n".as_slice()
     );
-    let first = add(alloc, &mut keeper, "s", &FIRST)?;
+    let first = add(alloc, &mut keeper, "s", batch(alloc, &FIRST)?)?;
     assert_eq!(rt; (first.added, first.changed, first.dropped), (5, 0, 0));
     assert_eq!(rt; keeper.content("s"), TEXT.as_bytes());
-    let second = add(alloc, &mut keeper, "s", &SECOND)?;
+    let second = add(alloc, &mut keeper, "s", batch(alloc, &SECOND)?)?;
     assert_eq!(rt; (second.added, second.changed, second.dropped), (3, 0, 0));
     let shelf = Shelf::find(alloc, &mut keeper, "s")?;
     assert_eq!(rt; shelf.entries(alloc)?.len(), 8);
@@ -112,11 +111,10 @@ fn a_store_refuses(rt: HostRuntime) -> Result<(), Fail> {
 fn a_keeper_fails(rt: HostRuntime) -> Result<(), Fail> {
     let alloc = rt.alloc();
     let mut keeper = MemoryKeeper::new(alloc);
-    assert_eq!(rt; keeper.replace("s", TEXT.as_bytes()), Ok(()));
-    let shelf = Shelf::find(alloc, &mut keeper, "s")?;
-    // The text was put by one call, and read by two.
+    // The text is put by one call and read by two.
     keeper.fail_at(4)?;
-    let added = shelf.add(&mut keeper, "s", batch(alloc, &SECOND)?);
+    assert_eq!(rt; keeper.replace("s", TEXT.as_bytes()), Ok(()));
+    let added = add(alloc, &mut keeper, "s", batch(alloc, &SECOND)?);
     assert_eq!(rt; added.err(), Some(ShelfFault::KeeperFailed));
     assert_eq!(rt; keeper.content("s"), TEXT.as_bytes());
     assert_eq!(rt; keeper.faults(), 1);
@@ -133,7 +131,7 @@ fn disk_texts(rt: HostRuntime) -> Result<(), Fail> {
     let mut keeper = DiskKeeper::new(alloc, rt);
     assert_eq!(rt; keeper.load(path.as_str(), 0, &mut [0; 4]), Ok(0));
     Shelf::create(alloc, &mut keeper, path.as_str(), 30, None, false)?;
-    let changes = add(alloc, &mut keeper, path.as_str(), &FIRST)?;
+    let changes = add(alloc, &mut keeper, path.as_str(), batch(alloc, &FIRST)?)?;
     assert_eq!(rt; changes.added, 5);
     assert_eq!(rt; fs::read_to_string(&rt, path.as_str())?.as_str(), TEXT);
     assert!(rt; fs::open(&rt, beside.as_str()).is_err());

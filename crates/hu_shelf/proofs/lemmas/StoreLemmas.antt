@@ -28,7 +28,8 @@ records_in-text (cells ∷ records) all =
     let more = records_in-text records (All-tail IsWritten cells records all) in
     let whole : (canonical_line cells ++ 10 ∷ []) ++ records_text records ≡ canonical_line cells ++ 10 ∷ records_text records =
     append_assoc (canonical_line cells) (10 ∷ []) (records_text records) in
-    let cut : slice_split (λ b. b == 10) (canonical_line cells ++ 10 ∷ records_text records) ≡ canonical_line cells ∷ slice_split (λ b. b == 10) (records_text records) =
+    let cut : slice_split (λ b. b == 10) (canonical_line cells ++ 10 ∷ records_text records)
+    ≡ canonical_line cells ∷ slice_split (λ b. b == 10) (records_text records) =
     slice_split_at (λ b. b == 10) (canonical_line cells) 10 (records_text records) written.plain.no_feed refl in
     rw (whole, cut, record_in-canonical cells written) (ap (λ rest. cells ∷ rest) more)
 

@@ -4,4 +4,5 @@ use Rattle.hu_shelf.proofs.memory_keeper.MemoryKeeperKeeper.replace.Goals as goa
 
 pub returns-then-next_fails-clause-replaces : goal.returns-then-next_fails-clause-replaces
 returns-then-next_fails-clause-replaces c =
-    Fails-planned c.args.self.now c.next_fails.new.self c.args.name.now (sym c.next_fails.ensures.fails ∙ c.if-next_fails.true) c.next_fails.ensures.after c.next_fails.ensures.later
+    Fails-planned c.args.self.now c.next_fails.new.self c.args.name.now
+    (sym c.next_fails.ensures.fails ∙ c.if-next_fails.true) c.next_fails.ensures.after c.next_fails.ensures.later

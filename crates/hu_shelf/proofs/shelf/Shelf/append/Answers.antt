@@ -11,8 +11,10 @@ returns-then-len-gt-MOST_BYTES-clause-err c =
     let kept = c.self.inside.kept in
     let bytes = c.push_records.new.text.items in
     let before : to_z w128 (of_z w128 c.self.inside.sum) ≡ c.self.inside.sum = to_z-of_z w128 c.self.inside.sum (search rules) in
-    let is : IsAppended kept (records_of c.args.batch) bytes = appended_by kept (records_of c.args.batch) c.records.result.now (to_z w128 (of_z w128 c.self.inside.sum)) c.self.inside.text.items bytes
-    (before ∙ c.self.invariant.sum) c.self.invariant.text c.in_ok-sum.ensures.fits c.records.ensures c.in_ok-push_records.ensures.text c.in_ok-push_records.ensures.written in
+    let is : IsAppended kept (records_of c.args.batch) bytes =
+    appended_by kept (records_of c.args.batch) c.records.result.now (to_z w128 (of_z w128 c.self.inside.sum)) c.self.inside.text.items bytes
+    (before ∙ c.self.invariant.sum) c.self.invariant.text c.in_ok-sum.ensures.fits c.records.ensures c.in_ok-push_records.ensures.text
+    c.in_ok-push_records.ensures.written in
     let long : 268435456 < length bytes = omega arith in
     inr (rw (← c.self.view_is) (appended_too_long kept (records_of c.args.batch) bytes is long))
 
@@ -21,8 +23,10 @@ invariant_of-shelf c =
     let kept = c.self.inside.kept in
     let bytes = c.push_records.new.text.items in
     let before : to_z w128 (of_z w128 c.self.inside.sum) ≡ c.self.inside.sum = to_z-of_z w128 c.self.inside.sum (search rules) in
-    let is : IsAppended kept (records_of c.args.batch) bytes = appended_by kept (records_of c.args.batch) c.records.result.now (to_z w128 (of_z w128 c.self.inside.sum)) c.self.inside.text.items bytes
-    (before ∙ c.self.invariant.sum) c.self.invariant.text c.in_ok-sum.ensures.fits c.records.ensures c.in_ok-push_records.ensures.text c.in_ok-push_records.ensures.written in
+    let is : IsAppended kept (records_of c.args.batch) bytes =
+    appended_by kept (records_of c.args.batch) c.records.result.now (to_z w128 (of_z w128 c.self.inside.sum)) c.self.inside.text.items bytes
+    (before ∙ c.self.invariant.sum) c.self.invariant.text c.in_ok-sum.ensures.fits c.records.ensures c.in_ok-push_records.ensures.text
+    c.in_ok-push_records.ensures.written in
     let short : length bytes ≤ 268435456 = omega arith in
     let after : to_z w128 (of_z w128 c.in_ok-sum.sum) ≡ c.in_ok-sum.sum = to_z-of_z w128 c.in_ok-sum.sum (search rules) in
     let total : c.in_ok-sum.sum ≡ pos (absolute_sum kept.records + absolute_sum (records_of c.args.batch)) =

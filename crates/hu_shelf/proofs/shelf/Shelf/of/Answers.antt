@@ -14,7 +14,8 @@ returns-clause-store c =
     let s = store_with c.args.settings (records_of c.args.base) in
     let least : to_z w128 (of_z w128 c.args.settings.least) ≡ c.args.settings.least = to_z-of_z w128 c.args.settings.least (search rules) in
     let is : c.append.new.self ≡ s =
-    c.in-Ok.ensures.ok ∙ ap (λ k. with_batch k (records_of c.args.base)) (c.new-kept.ensures ∙ ap (λ z. fresh z c.args.settings.top c.args.settings.closed) least) in
+    c.in-Ok.ensures.ok
+    ∙ ap (λ k. with_batch k (records_of c.args.base)) (c.new-kept.ensures ∙ ap (λ z. fresh z c.args.settings.top c.args.settings.closed) least) in
     let fits : absolute_sum (records_of c.args.base) < 2 ^ 127 = omega (arith, c.sum-sum.ensures.fits) in
     let short : length (store_text s) ≤ 268435456 = rw c.requires.text at c.requires.short in
     let store : IsStore s = IsStore-by s c.requires.written c.requires.least c.requires.top fits short in
@@ -25,7 +26,8 @@ invariant_of-result c =
     let s = store_with c.args.settings (records_of c.args.base) in
     let least : to_z w128 (of_z w128 c.args.settings.least) ≡ c.args.settings.least = to_z-of_z w128 c.args.settings.least (search rules) in
     let is : c.append.new.self ≡ s =
-    c.in-Ok.ensures.ok ∙ ap (λ k. with_batch k (records_of c.args.base)) (c.new-kept.ensures ∙ ap (λ z. fresh z c.args.settings.top c.args.settings.closed) least) in
+    c.in-Ok.ensures.ok
+    ∙ ap (λ k. with_batch k (records_of c.args.base)) (c.new-kept.ensures ∙ ap (λ z. fresh z c.args.settings.top c.args.settings.closed) least) in
     let fits : absolute_sum (records_of c.args.base) < 2 ^ 127 = omega (arith, c.sum-sum.ensures.fits) in
     let short : length (store_text s) ≤ 268435456 = rw c.requires.text at c.requires.short in
     let store : IsStore s = IsStore-by s c.requires.written c.requires.least c.requires.top fits short in

@@ -15,6 +15,7 @@ returns-then-ne-clause-err c =
     told_by-parts c.args.text.now c.cut.result.1.now c.cut-2.result.0.now c.cut-2.result.1.now (fresh settings.least settings.top settings.closed)
     c.in_ok-base.field-0 c.in-Some-2.base c.records.result.now c.cut.ensures.after c.cut-2.ensures.before c.cut-2.ensures.after c.in-Some.ensures.some
     c.in_ok-base.ensures.records c.in-Some-2.is c.records.ensures in
-    let other : bytes_eq c.as_slice.result.now c.args.text.now ≡ false = not-true (bytes_eq c.as_slice.result.now c.args.text.now) (sym c.ne.ensures ∙ c.if-ne.true) in
+    let other : bytes_eq c.as_slice.result.now c.args.text.now ≡ false =
+    not-true (bytes_eq c.as_slice.result.now c.args.text.now) (sym c.ne.ensures ∙ c.if-ne.true) in
     let written = c.as_slice.ensures.value ∙ c.in_ok-written.ensures.text in
     inr (refl, none_by_text c.args.text.now s told (written_other c.as_slice.result.now (store_text s) c.args.text.now written other))
