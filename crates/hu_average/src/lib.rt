@@ -15,6 +15,7 @@ mod order;
 mod plain;
 mod search;
 mod text;
+mod totals;
 
 pub use bounds::bound;
 pub use order::{cmp_average, reaches};

@@ -11,8 +11,9 @@ ghost use Rattle.hu_average.specs.Extension.{AreExtensions, AreEnough, AreJoined
 
 use crate::best::Best;
 use crate::bounds::greatest_values;
-use crate::extension::{Extension, joined, offer_extensions, singles};
+use crate::extension::{Extension, joined, offer_extensions, offer_singles, singles};
 use crate::order::Average;
+use crate::totals::rank_totals;
 use hu_kind::{Entry, NoMemory};
 use hu_list::UtilityList;
 use hu_totals::Ranked;
@@ -35,8 +36,10 @@ pub fn mine(
     ensures { IfOk result (λ entries. entries.items ≡ average_answer (unranked ranked.now) least top) }
 {
     let values = greatest_values(alloc, ranked)?;
+    let totals = rank_totals(alloc, ranked, &values)?;
     let mut best = Best::new(alloc, least, top);
-    let singles = singles(alloc, ranked, &values, &best)?;
+    offer_singles(alloc, ranked, &totals, &mut best)?;
+    let singles = singles(alloc, ranked, &values, &totals, &best)?;
     search(
         alloc,
         ranked,
