@@ -6,8 +6,7 @@ use Rattle.hu_kind.specs.Database.{support}
 use Rattle.hu_kind.proofs.lemmas.Members.{Member-append_cases, Member-append_right}
 use Rattle.hu_totals.specs.Ranked.{Ranking}
 use Rattle.hu_search.specs.Growth.{rank_entry, Grows}
-use Rattle.hu_average.specs.Best.{BestOf, offered, IsKept, Covers}
-use Rattle.hu_average.specs.Totals.{Offers}
+use Rattle.hu_average.specs.Best.{BestOf, offered, IsKept, Covers, Offers}
 use Rattle.hu_average.proofs.BestLemmas.{offered-kept, offered-then}
 
 -- what holds after no error

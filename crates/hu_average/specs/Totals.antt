@@ -2,12 +2,9 @@
 use Rattle.std.specs.Prelude.{◌≡◌, ℕ, ◌+◌, ◌^◌, ◌<◌, ℤ, pos, ◌+ℤ◌, unsigned_abs, List, [], ◌∷◌, length, slice_index_or, if◌then◌else◌}
 use Rattle.hu_kind.specs.Record.{has, value_of}
 use Rattle.hu_kind.specs.Database.{utility, support}
-use Rattle.hu_kind.specs.declared.entry.Entry.{Entry}
-use Rattle.hu_kind.proofs.lemmas.Members.{Member}
 use Rattle.hu_totals.specs.Ranked.{Ranking}
 use Rattle.hu_average.specs.declared.totals.RankTotal.{RankTotal}
 use Rattle.hu_average.specs.Bound.{average_bound}
-use Rattle.hu_average.specs.Best.{BestOf, offered}
 
 -- a total of these numbers
 abbrev pub total_with : ℤ → ℕ → ℤ → RankTotal
@@ -47,9 +44,3 @@ total_of records rank = total_with (utility records (rank ∷ [])) (support reco
 pub record AreTotals (r : Ranking) (totals : List RankTotal) : Type 0 where
   pub len : length totals ≡ length r.items
   pub each : (rank : ℕ) → total_at totals rank ≡ total_of r.records rank
-
--- entries that have a property were offered
-pub record Offers (old : BestOf) (P : Entry → Type 0) (new : BestOf) : Type 0 where
-  pub entries : List Entry
-  pub each : (e : Entry) → Member e entries → P e
-  pub is : new ≡ offered old entries

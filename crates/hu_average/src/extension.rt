@@ -4,8 +4,8 @@ ghost use Rattle.std.specs.Prelude.{◌≡◌, ◌≤◌, ◌<◌, ℕ, List, []
 ghost use Rattle.hu_totals.specs.Ranked.{IsRanking};
 ghost use Rattle.hu_search.specs.Growth.{rank_entry, Grows};
 ghost use Rattle.hu_average.specs.Bound.{greatest, IsSomeList};
-ghost use Rattle.hu_average.specs.Best.{offered, IsKept};
-ghost use Rattle.hu_average.specs.Totals.{total_of, AreTotals, Offers};
+ghost use Rattle.hu_average.specs.Best.{offered, IsKept, Offers};
+ghost use Rattle.hu_average.specs.Totals.{total_of, AreTotals};
 ghost use Rattle.hu_average.specs.Extension.{IsExtension, AreExtensions, AreEnough, AreJoined, AreLonger, TakesOpen, entries_of, ranks_of};
 
 use crate::best::Best;

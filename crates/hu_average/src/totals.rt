@@ -14,7 +14,7 @@ use hu_totals::{Dense, Ranked};
 use std::alloc::Global;
 
 /// What the records say of a rank.
-#[derive(Clone, Copy, Debug, PartialEq, Eq)]
+#[derive(Clone, Copy)]
 pub(crate) struct RankTotal {
     /// The sum of its values.
     pub utility: i128,
