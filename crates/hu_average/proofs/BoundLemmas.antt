@@ -83,7 +83,7 @@ greatest-next [] i d within = absurd (omega arith)
 greatest-next (cell ∷ cells) zero d within = refl
 greatest-next (cell ∷ cells) (suc i) d within = let rest = greatest-next cells i d (omega arith) in omega (arith, ints, clamps, rest)
 
-greatest-within : (cells : List (ℕ × ℤ)) → greatest cells ≤ℤ pos (absolute_of cells)
+pub greatest-within : (cells : List (ℕ × ℤ)) → greatest cells ≤ℤ pos (absolute_of cells)
 greatest-within [] = omega (arith, ints)
 greatest-within (cell ∷ cells) =
     let rest = greatest-within cells in

@@ -112,6 +112,21 @@ bounded-out b r rules part whole bound law out all up occurs some =
     let same : (bound *ℤ pos (length whole)) ≡ (bound *ℤ pos (length (rank_entry r whole).key)) = ap (λ n. bound *ℤ pos n) (sym key) in
     out (rank_entry r whole) (omega (arith, key, some), omega (arith, ints, under, one, same))
 
+-- a rank whose bound is left out is passed over
+pub singles-skip : (b : BestOf) (r : Ranking) → IsRanking r → (singles : List Extension) (z : ℕ) (bound : ℤ) → AreSingles b r z singles
+    → BoundsAverage r.records (z ∷ []) bound → ((x : Entry) → IsAtMost (bound, 1) x → IsLeftOut b x) → AreSingles b r (z + 1) singles
+singles-skip b r rules singles z bound was law out = record {
+  picked = record { each = was.picked.each; ascending = was.picked.ascending; closed = λ y low. by y (cases_lt y z) low };
+  below = each-weaker (λ x. x < z) (λ x. x < z + 1) (ranks_of singles) (λ x low. omega (arith, low)) was.below;
+}
+  where
+    shut : IsClosedBy b r [] z
+    shut more up occurs m = bounded-out b r rules (z ∷ []) more bound law out (Contains-from_member z more m, tt) up occurs (some-member z more m)
+
+    by : (y : ℕ) → (y < z) ⊎ (z ≤ y) → y < z + 1 → Member y (ranks_of singles) ⊎ IsClosedBy b r [] y
+    by y (inl under) low = was.picked.closed y under
+    by y (inr over) low = let same : z ≡ y = omega (arith, over, low) in inr (subst (IsClosedBy b r []) same shut)
+
 -- ---- joined extensions
 
 -- of later extensions the first were joined

@@ -62,6 +62,12 @@ pub record Covers (old : BestOf) (P : Entry → Type 0) (new : BestOf) : Type 0 
   pub rest : (e : Entry) → P e → Member e entries ⊎ IsLeftOut new e
   pub is : new ≡ offered old entries
 
+-- entries that have a property were offered
+pub record Offers (old : BestOf) (P : Entry → Type 0) (new : BestOf) : Type 0 where
+  pub entries : List Entry
+  pub each : (e : Entry) → Member e entries → P e
+  pub is : new ≡ offered old entries
+
 -- what is true of a collector by average: its least average is at least 1, and what it holds is kept
 pub record IsRight (best : BestOf) : Type 0 where
   pub least : pos 1 ≤ℤ best.least

@@ -7,6 +7,7 @@ use Rattle.hu_average.specs.Order.{average_cmp}
 use Rattle.hu_average.specs.Answer.{average_answer}
 use Rattle.hu_average.specs.Text.{average_text}
 use Rattle.hu_average.specs.Bound.{average_bound}
+use Rattle.hu_average.specs.Totals.{total_of, total_with}
 
 -- base A at 14 for each item: 31 over 2 comes before 30 over 2 and 15 over 1, which tie
 pub averages_at_14 : average_text (average_answer base_a (pos 14) None) ≡
@@ -51,3 +52,7 @@ bound_of_item_4 = refl
 -- the same by ranks: 2 is the rank of item 4 at 30
 pub bound_of_rank_2 : average_bound (ranked (pos 30) base_a).records (2 ∷ []) ≡ pos 23
 bound_of_rank_2 = refl
+
+-- the total of item 1 there: it earns -10 and 4, in two records whose greatest values are 3 and 6
+pub total_of_signed_1 : total_of signed 1 ≡ total_with (negsuc 5) 2 (pos 9)
+total_of_signed_1 = refl

@@ -1,15 +1,17 @@
 //! Sets of ranks with one later rank more.
 
-ghost use Rattle.std.specs.Prelude.{◌≡◌, ◌≤◌, ℕ, List, [], ◌∷◌, ◌++◌, map, length, option_copied, IfOk, OnOk};
+ghost use Rattle.std.specs.Prelude.{◌≡◌, ◌≤◌, ◌<◌, ℕ, List, [], ◌∷◌, ◌++◌, map, length, option_copied, IfOk, OnOk};
 ghost use Rattle.hu_totals.specs.Ranked.{IsRanking};
-ghost use Rattle.hu_search.specs.Growth.{rank_entry};
+ghost use Rattle.hu_search.specs.Growth.{rank_entry, Grows};
 ghost use Rattle.hu_average.specs.Bound.{greatest, IsSomeList};
-ghost use Rattle.hu_average.specs.Best.{offered, IsKept};
+ghost use Rattle.hu_average.specs.Best.{offered, IsKept, Offers};
+ghost use Rattle.hu_average.specs.Totals.{total_of, AreTotals};
 ghost use Rattle.hu_average.specs.Extension.{IsExtension, AreExtensions, AreEnough, AreJoined, AreLonger, TakesOpen, entries_of, ranks_of};
 
 use crate::best::Best;
 use crate::bounds::bound_by;
 use crate::order::Average;
+use crate::totals::RankTotal;
 use hu_kind::{Entry, NoMemory};
 use hu_list::UtilityList;
 use hu_search::key_of;
@@ -24,20 +26,26 @@ pub(crate) struct Extension {
     pub bound: i128,
 }
 
-/// The extensions of the empty set. It takes a pass over the records for each rank.
+/// The extensions of the empty set. It takes a pass over the records for each rank whose bound isn't left out.
 pub(crate) fn singles(
     alloc: Global,
     ranked: &Ranked,
     values: &[i128],
+    totals: &[RankTotal],
     best: &Best,
 ) -> Result<Vec<Extension>, NoMemory>
     requires rules { IsRanking ranked.now }
     requires values { values.now ≡ map greatest ranked.now.records }
+    requires totals { AreTotals ranked.now totals.now }
     ensures extensions { IfOk result (λ singles. AreExtensions ranked.now [] singles.items) }
     ensures enough { IfOk result (λ singles. AreEnough best.now ranked.now [] (ranks_of singles.items)) }
 {
     let mut singles = Vec::new(alloc);
     for rank in 0..ranked.len() {
+        let total = totals[rank as usize];
+        if best.leaves_out(Average::whole(total.bound)) {
+            continue;
+        }
         let list = UtilityList::build(alloc, ranked, rank)?;
         push_open(ranked, values, best, &mut singles, rank, list)?;
     }
@@ -140,5 +148,47 @@ fn offer_extension(
         key: key_of(alloc, ranked, ranks, extension.rank)?,
         utility,
         support: extension.list.nodes().len() as u64,
+    })
+}
+
+/// Offers the sets of single ranks that occur. No key is built for one that is left out.
+pub(crate) fn offer_singles(
+    alloc: Global,
+    ranked: &Ranked,
+    totals: &[RankTotal],
+    best: &mut Best,
+) -> Result<(), NoMemory>
+    requires rules { IsRanking ranked.now }
+    requires totals { AreTotals ranked.now totals.now }
+    requires kept { IsKept best.old }
+    ensures { OnOk result (Offers best.old (Grows ranked.now []) best.new) }
+{
+    for rank in 0..ranked.len() {
+        offer_single(alloc, ranked, rank, totals[rank as usize], best)?;
+    }
+    Ok(())
+}
+
+/// Offers the set of a single rank, where some record holds it, unless it is left out.
+fn offer_single(
+    alloc: Global,
+    ranked: &Ranked,
+    rank: u32,
+    total: RankTotal,
+    best: &mut Best,
+) -> Result<(), NoMemory>
+    requires rules { IsRanking ranked.now }
+    requires within { rank < length ranked.now.items }
+    requires total { total ≡ total_of ranked.now.records rank }
+    requires kept { IsKept best.old }
+    ensures { OnOk result (Offers best.old (Grows ranked.now []) best.new) }
+{
+    if total.support == 0 || best.leaves_out(Average::whole(total.utility)) {
+        return Ok(());
+    }
+    best.offer(Entry {
+        key: key_of(alloc, ranked, &[], rank)?,
+        utility: total.utility,
+        support: total.support,
     })
 }

@@ -2,7 +2,8 @@
 //!
 //! [`mine_plain`] tries every itemset, and [`mine`] searches utility lists and leaves out what [`bound`] shows to be too low; both
 //! give the same entries in the order [`cmp_average`], which [`write_averages`] writes. The order stands in `specs/Order.antt`, the
-//! answer in `specs/Answer.antt`, its text in `specs/Text.antt`, the bound in `specs/Bound.antt`. The crate stands on hu_kind,
+//! answer in `specs/Answer.antt`, its text in `specs/Text.antt`, the bound in `specs/Bound.antt`. What single items earn is summed
+//! in one pass, `specs/Totals.antt`, so that most of them are left out before they get a list. The crate stands on hu_kind,
 //! hu_io, hu_base, hu_collect, hu_totals, hu_search, hu_list, hu_plain and hu_report, its proofs on hu_answer and hu_lengths too.
 //! After Hong, Lee and Wang (2009).
 #![tactic(auto)]
@@ -15,6 +16,7 @@ mod order;
 mod plain;
 mod search;
 mod text;
+mod totals;
 
 pub use bounds::bound;
 pub use order::{cmp_average, reaches};

@@ -11,8 +11,9 @@ ghost use Rattle.hu_average.specs.Extension.{AreExtensions, AreEnough, AreJoined
 
 use crate::best::Best;
 use crate::bounds::greatest_values;
-use crate::extension::{Extension, joined, offer_extensions, singles};
+use crate::extension::{Extension, joined, offer_extensions, offer_singles, singles};
 use crate::order::Average;
+use crate::totals::rank_totals;
 use hu_kind::{Entry, NoMemory};
 use hu_list::UtilityList;
 use hu_totals::Ranked;
@@ -21,9 +22,9 @@ use std::alloc::Global;
 /// The itemsets of the ranked records that earn at least `least` for each of their items, by average, and the first k of them
 /// where there is a `top`. It searches utility lists: the sets with one later rank more than a set are offered before one of them
 /// is entered, and what holds a set is left out only where the set's [`bound`](crate::bound) is below the minimum, or below the
-/// k-th average of that moment. A set's bound is taken once, in one pass over its list. It takes a pass over the records for each
-/// rank, and then a merge of lists for each set that is tried; the lists along one branch are held. After HUI-Miner (Liu and Qu,
-/// 2012) and Hong, Lee and Wang (2009).
+/// k-th average of that moment. It takes one pass over the records for what all single items earn and for their bounds, then one
+/// for each item that isn't left out once all single items were offered, and a merge of lists for each set that is tried; the
+/// lists along one branch are held. After HUI-Miner (Liu and Qu, 2012) and Hong, Lee and Wang (2009).
 pub fn mine(
     alloc: Global,
     ranked: &Ranked,
@@ -35,8 +36,10 @@ pub fn mine(
     ensures { IfOk result (λ entries. entries.items ≡ average_answer (unranked ranked.now) least top) }
 {
     let values = greatest_values(alloc, ranked)?;
+    let totals = rank_totals(alloc, ranked, &values)?;
     let mut best = Best::new(alloc, least, top);
-    let singles = singles(alloc, ranked, &values, &best)?;
+    offer_singles(alloc, ranked, &totals, &mut best)?;
+    let singles = singles(alloc, ranked, &values, &totals, &best)?;
     search(
         alloc,
         ranked,
