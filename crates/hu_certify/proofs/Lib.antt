@@ -5,3 +5,6 @@ mod TextLemmas
 mod NodeLemmas
 mod TreeLemmas
 mod RootLemmas
+mod AcceptLemmas
+mod ReadLemmas
+mod LawLemmas

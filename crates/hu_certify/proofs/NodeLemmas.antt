@@ -81,7 +81,7 @@ narrowed-skip (r ∷ rs) item later from rank prefix low =
     let here = grown-skip from rank item later r (values_of prefix r) low in
     elim (cases_Bool (holds prefix r)) [ inl e ↦ simp e (λ j. here j ++ ih j) | inr e ↦ simp e ih ]
 
-narrowed-first : (records : List (List (ℕ × ℤ))) (item : ℕ) (later : List ℕ) (from : ℕ) (prefix : List ℕ)
+pub narrowed-first : (records : List (List (ℕ × ℤ))) (item : ℕ) (later : List ℕ) (from : ℕ) (prefix : List ℕ)
     → narrowed from (spots_with records (item ∷ later) from prefix) ≡ spots_with records later (from + 1) (prefix ++ item ∷ [])
 narrowed-first [] item later from prefix = refl
 narrowed-first (r ∷ rs) item later from prefix =

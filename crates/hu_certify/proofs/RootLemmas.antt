@@ -27,17 +27,17 @@ use Rattle.hu_certify.specs.Text.{certificate_order, certificate_text, lines_tex
 use Rattle.hu_certify.proofs.WeighedLemmas.{Once-certificate_order, all_by_weight-item_totals}
 
 -- the spots of the empty prefix
-abbrev first_spots : List ℕ → List (List (ℕ × ℤ)) → List SpotOf
+abbrev pub first_spots : List ℕ → List (List (ℕ × ℤ)) → List SpotOf
 first_spots order records = map {B = SpotOf} (λ cells. (cells, pos 0)) (map (cells_from 0 order) records)
 
-first_spots-at : (order : List ℕ) (records : List (List (ℕ × ℤ))) → first_spots order records ≡ spots_at records order 0 []
+pub first_spots-at : (order : List ℕ) (records : List (List (ℕ × ℤ))) → first_spots order records ≡ spots_at records order 0 []
 first_spots-at order [] = refl
 first_spots-at order (r ∷ rs) = ap (λ more. (cells_from 0 order r, pos 0) ∷ more) (first_spots-at order rs)
 
-ascending : (records : List (List (ℕ × ℤ))) → AllByRecursion IsRecord records → AllByRecursion (λ r. Ascend (items_in r)) records
+pub ascending : (records : List (List (ℕ × ℤ))) → AllByRecursion IsRecord records → AllByRecursion (λ r. Ascend (items_in r)) records
 ascending records rules = each-weaker IsRecord (λ r. Ascend (items_in r)) records Ascend-record rules
 
-sizes : (order : List ℕ) (records : List (List (ℕ × ℤ))) → Once order → AllByRecursion (λ r. Ascend (items_in r)) records → sum_by size_of (first_spots order records) ≤ sum_by absolute_of records
+pub sizes : (order : List ℕ) (records : List (List (ℕ × ℤ))) → Once order → AllByRecursion (λ r. Ascend (items_in r)) records → sum_by size_of (first_spots order records) ≤ sum_by absolute_of records
 sizes order [] once up = omega arith
 sizes order (r ∷ rs) once up =
     omega (

@@ -3,3 +3,4 @@ pub mod Ordered
 pub mod Spots
 pub mod Written
 pub mod Worked
+pub mod Laws

@@ -64,3 +64,8 @@ fn an_item_that_costs(rt: HostRuntime) -> Result<(), Fail> {
     );
     Ok(())
 }
+
+#[test]
+fn the_law() {
+    laws::law_of_certificate_texts();
+}
