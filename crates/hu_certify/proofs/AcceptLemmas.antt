@@ -18,7 +18,11 @@ use Rattle.hu_certify.specs.Text.{children_of, child_bound, is_opened, line_of, 
 
 -- what a line says of a prefix and its children
 abbrev pub said_from : ℤ → List ℕ → ℤ → List (ℕ × ℤ) → Said
-said_from least prefix earned cs = record { prefix = prefix; utility = earned; tokens = map (λ child. record { item = record { 0 = child.0 }; bound = cond (int_lt child.1 least) (Some child.1) None }) cs }
+said_from least prefix earned cs = record {
+  prefix = prefix;
+  utility = earned;
+  tokens = map (λ child. record { item = record { 0 = child.0 }; bound = cond (int_lt child.1 least) (Some child.1) None }) cs;
+}
 
 abbrev pub said_line : List (List (ℕ × ℤ)) → ℤ → List ℕ → List ℕ → Said
 said_line records least prefix later = said_from least prefix (utility records prefix) (children_of records prefix later)
@@ -39,17 +43,20 @@ other_from_once : (item : ℕ) (later : List ℕ) (x : ℕ) → Once (item ∷ l
 other_from_once item later x once m = ne_eqb x item (λ e. once.0 (subst (λ y. Member y later) e m))
 
 module _ (records : List (List (ℕ × ℤ))) (least : ℤ) (prefix : List ℕ) where
-  each-later : (P : ℕ → Type 0) (later : List ℕ) → ((x : ℕ) → Member x later → P x) → AllByRecursion P (token_items (said_line records least prefix later).tokens)
+  each-later : (P : ℕ → Type 0) (later : List ℕ) → ((x : ℕ) → Member x later → P x)
+      → AllByRecursion P (token_items (said_line records least prefix later).tokens)
   each-later P [] h = tt
   each-later P (item ∷ later) h =
       let ih = each-later P later (λ x m. h x (inr m)) in
       elim (cases_Bool (stands_with records prefix item)) [ inl e ↦ simp e (h item (inl refl), ih) | inr e ↦ simp e ih ]
 
-  skip-child : (item : ℕ) (later : List ℕ) (said : Said) → AllByRecursion (λ x. eqb x item ≡ false) (token_items said.tokens) → wrong_child (item ∷ later) said.tokens ≡ wrong_child later said.tokens
-  skip-child item later said = elim said.tokens as (λ ts. AllByRecursion (λ x. eqb x item ≡ false) (token_items ts) → wrong_child (item ∷ later) ts ≡ wrong_child later ts) [
-    | [] ↦ λ all. refl
-    | t ∷ ts ↦ λ all. let here = all.0 in rw here refl
-  ]
+  skip-child : (item : ℕ) (later : List ℕ) (said : Said) → AllByRecursion (λ x. eqb x item ≡ false) (token_items said.tokens)
+      → wrong_child (item ∷ later) said.tokens ≡ wrong_child later said.tokens
+  skip-child item later said = elim said.tokens as (λ ts. AllByRecursion (λ x. eqb x item ≡ false) (token_items ts)
+      → wrong_child (item ∷ later) ts ≡ wrong_child later ts) [
+        | [] ↦ λ all. refl
+        | t ∷ ts ↦ λ all. let here = all.0 in rw here refl
+      ]
 
   right-children : (later : List ℕ) → Once later → wrong_child later (said_line records least prefix later).tokens ≡ None
   right-children [] once = refl
@@ -58,7 +65,8 @@ module _ (records : List (List (ℕ × ℤ))) (least : ℤ) (prefix : List ℕ) 
       let same : eqb item item ≡ true = eq-eqb item item refl in
       elim (cases_Bool (stands_with records prefix item)) [
         | inl e ↦ simp (e, same) ih
-        | inr e ↦ simp e (skip-child item later (said_line records least prefix later) (each-later (λ x. eqb x item ≡ false) later (λ x m. other_from_once item later x once m)) ∙ ih)
+        | inr e ↦ simp e (skip-child item later (said_line records least prefix later)
+            (each-later (λ x. eqb x item ≡ false) later (λ x m. other_from_once item later x once m)) ∙ ih)
       ]
 
   or-true : (b : Bool) → (b || true) ≡ true
@@ -69,7 +77,8 @@ module _ (records : List (List (ℕ × ℤ))) (least : ℤ) (prefix : List ℕ) 
   and-false true = refl
   and-false false = refl
 
-  named-child : (later : List ℕ) (x : ℕ) → Member x later → stands_with records prefix x ≡ true → any_in (said_line records least prefix later).tokens (λ token. eqb x token.item.0) ≡ true
+  named-child : (later : List ℕ) (x : ℕ) → Member x later → stands_with records prefix x ≡ true
+      → any_in (said_line records least prefix later).tokens (λ token. eqb x token.item.0) ≡ true
   named-child [] x m h = absurd m
   named-child (item ∷ later) x (inl e) h =
       let stands : stands_with records prefix item ≡ true = subst (λ y. stands_with records prefix y ≡ true) (sym e) h in
@@ -89,7 +98,8 @@ module _ (records : List (List (ℕ × ℤ))) (least : ℤ) (prefix : List ℕ) 
   none-left : (later : List ℕ) → left_out records (record { prefix = prefix; later = later }) (said_line records least prefix later).tokens ≡ None
   none-left later = none-such _ later each
     where
-      each : (x : ℕ) → Member x later → (not (any_in (said_line records least prefix later).tokens (λ token. eqb x token.item.0)) && stands_with records prefix x) ≡ false
+      each : (x : ℕ) → Member x later → (not (any_in (said_line records least prefix later).tokens (λ token. eqb x token.item.0)) && stands_with records
+          prefix x) ≡ false
       each x m = elim (cases_Bool (stands_with records prefix x)) [
         | inl e ↦ ap (λ b. not b && stands_with records prefix x) (named-child later x m e)
         | inr e ↦ rw e (and-false (not (any_in (said_line records least prefix later).tokens (λ token. eqb x token.item.0))))
@@ -99,7 +109,8 @@ module _ (records : List (List (ℕ × ℤ))) (least : ℤ) (prefix : List ℕ) 
   after-front : (front : List ℕ) (x : ℕ) (rest : List ℕ) → Once (front ++ x ∷ rest) → after x (front ++ x ∷ rest) ≡ rest
   after-front [] x rest once = let same : eqb x x ≡ true = eq-eqb x x refl in rw same refl
   after-front (y ∷ front) x rest once =
-      let other : eqb x y ≡ false = ne_eqb x y (λ e. once.0 (subst (λ z. Member z (front ++ x ∷ rest)) e (Member-append_right x front (x ∷ rest) (inl refl)))) in
+      let other : eqb x y ≡ false = ne_eqb x y (λ e. once.0
+      (subst (λ z. Member z (front ++ x ∷ rest)) e (Member-append_right x front (x ∷ rest) (inl refl)))) in
       rw other (after-front front x rest once.1)
 
   first-none : {A : Type 0} (o : Option A) (os : List (Option A)) → o ≡ None → first_some os ≡ None → first_some (o ∷ os) ≡ None
@@ -116,9 +127,11 @@ module _ (records : List (List (ℕ × ℤ))) (least : ℤ) (prefix : List ℕ) 
   right-bounds line full front (item ∷ later) e once =
       let ih = right-bounds line full (front ++ item ∷ []) later (e ∙ sym (append_assoc front (item ∷ []) later)) once in
       let rest : after item full ≡ later = ap (after item) e ∙ after-front front item later (subst Once e once) in
-      let bound : child_bound records prefix item later ≡ cut_bound records (prefix ++ item ∷ []) (after item full) = ap (cut_bound records (prefix ++ item ∷ [])) (sym rest) in
+      let bound : child_bound records prefix item later ≡ cut_bound records (prefix ++ item ∷ [])
+      (after item full) = ap (cut_bound records (prefix ++ item ∷ [])) (sym rest) in
       elim (cases_Bool (stands_with records prefix item)) [
-        | inl h ↦ simp h (first-none _ _ (right-bound line item (child_bound records prefix item later) (cut_bound records (prefix ++ item ∷ []) (after item full)) (int_lt (child_bound records prefix item later) least) bound) ih)
+        | inl h ↦ simp h (first-none _ _ (right-bound line item (child_bound records prefix item later)
+            (cut_bound records (prefix ++ item ∷ []) (after item full)) (int_lt (child_bound records prefix item later) least) bound) ih)
         | inr h ↦ simp h ih
       ]
 
@@ -164,7 +177,8 @@ module _ (records : List (List (ℕ × ℤ))) (least : ℤ) (prefix : List ℕ) 
         | inr h ↦ simp h ih
       ]
 
-  pub opened-by : (later : List ℕ) → Once later → opened_by (record { prefix = prefix; later = later }) (Some (said_line records least prefix later)) ≡ nodes_below records least prefix later
+  pub opened-by : (later : List ℕ) → Once later → opened_by (record { prefix = prefix; later = later })
+      (Some (said_line records least prefix later)) ≡ nodes_below records least prefix later
   opened-by later once = opened-nodes later [] later refl once
 
 -- ---- the walk over the lines
@@ -173,9 +187,11 @@ module _ (records : List (List (ℕ × ℤ))) (least : ℤ) (prefix : List ℕ) 
 abbrev pub Reads : List (List (ℕ × ℤ)) → ℤ → List ℕ → List ℕ → Type 0
 Reads records least prefix later = said_of (line_of records least prefix later) ≡ Some (said_line records least prefix later)
 
-module _ (records : List (List (ℕ × ℤ))) (least : ℤ) (fine : List ℕ → List ℕ → Type 0) (reads : (prefix later : List ℕ) → fine prefix later → Reads records least prefix later)
+module _ (records : List (List (ℕ × ℤ))) (least : ℤ) (fine : List ℕ → List ℕ → Type 0)
+    (reads : (prefix later : List ℕ) → fine prefix later → Reads records least prefix later)
     (once : (prefix later : List ℕ) → fine prefix later → Once later)
-    (deeper : (prefix later : List ℕ) (item : ℕ) → fine prefix (item ∷ later) → fine (prefix ++ item ∷ []) later) (further : (prefix later : List ℕ) (item : ℕ) → fine prefix (item ∷ later) → fine prefix later) where
+    (deeper : (prefix later : List ℕ) (item : ℕ) → fine prefix (item ∷ later) → fine (prefix ++ item ∷ []) later)
+    (further : (prefix later : List ℕ) (item : ℕ) → fine prefix (item ∷ later) → fine prefix later) where
   -- a line and what follows it
   step : (line : ℕ) (prefix later : List ℕ) (nodes : List Node) (rest : List (List ℕ)) → 0 < length rest → fine prefix later
       → walk records least (line + 1) (nodes_below records least prefix later ++ nodes) rest ≡ None
@@ -183,9 +199,11 @@ module _ (records : List (List (ℕ × ℤ))) (least : ℤ) (fine : List ℕ →
   step line prefix later nodes [] some is h = absurd (omega (arith, some))
   step line prefix later nodes (next ∷ rest) some is h =
       let read = reads prefix later is in
-      let right = ap (line_fault records least line (record { prefix = prefix; later = later })) read ∙ no-fault records least prefix line later (once prefix later is) in
+      let right = ap (line_fault records least line (record { prefix = prefix; later = later })) read
+      ∙ no-fault records least prefix line later (once prefix later is) in
       let opens = ap (opened_by (record { prefix = prefix; later = later })) read ∙ opened-by records least prefix later (once prefix later is) in
-      let goes : walk records least (line + 1) (opened_by (record { prefix = prefix; later = later }) (said_of (line_of records least prefix later)) ++ nodes) (next ∷ rest) ≡ None =
+      let goes : walk records least (line + 1) (opened_by (record { prefix = prefix; later = later }) (said_of (line_of records least prefix later))
+      ++ nodes) (next ∷ rest) ≡ None =
       ap (λ ns. walk records least (line + 1) (ns ++ nodes) (next ∷ rest)) opens ∙ h in
       first-none records least prefix _ _ right (first-none records least prefix _ _ goes refl)
 
@@ -193,33 +211,41 @@ module _ (records : List (List (ℕ × ℤ))) (least : ℤ) (fine : List ℕ →
   more_lines [] ys some = some
   more_lines (x ∷ xs) ys some = omega arith
 
-  pub walk-below : (later prefix : List ℕ) (nodes : List Node) (rest : List (List ℕ)) → 0 < length rest → fine prefix later → ((line : ℕ) → walk records least line nodes rest ≡ None)
+  pub walk-below : (later prefix : List ℕ) (nodes : List Node) (rest : List (List ℕ)) → 0 < length rest → fine prefix later
+      → ((line : ℕ) → walk records least line nodes rest ≡ None)
       → (line : ℕ) → walk records least line (nodes_below records least prefix later ++ nodes) (lines_below records least prefix later ++ rest) ≡ None
   walk-below [] prefix nodes rest some is h line = h line
   walk-below (item ∷ later) prefix nodes rest some is h line =
       let after = walk-below later prefix nodes rest some (further prefix later item is) h in
       let below = nodes_below records least prefix later ++ nodes in
       let lines = lines_below records least prefix later ++ rest in
-      let inner = walk-below later (prefix ++ item ∷ []) below lines (more_lines (lines_below records least prefix later) rest some) (deeper prefix later item is) after in
+      let inner = walk-below later (prefix ++ item ∷ []) below lines (more_lines (lines_below records least prefix later) rest some)
+      (deeper prefix later item is) after in
       let first = step line (prefix ++ item ∷ []) later below (lines_below records least (prefix ++ item ∷ []) later ++ lines)
-      (more_lines (lines_below records least (prefix ++ item ∷ []) later) lines (more_lines (lines_below records least prefix later) rest some)) (deeper prefix later item is) (inner (line + 1)) in
+      (more_lines (lines_below records least (prefix ++ item ∷ []) later) lines (more_lines (lines_below records least prefix later) rest some))
+      (deeper prefix later item is) (inner (line + 1)) in
       by (is_opened records least prefix item later) first (after line)
     where
       by : (b : Bool)
           → walk records least line (record { prefix = prefix ++ item ∷ []; later = later } ∷ (nodes_below records least prefix later ++ nodes))
-          (line_of records least (prefix ++ item ∷ []) later ∷ (lines_below records least (prefix ++ item ∷ []) later ++ (lines_below records least prefix later ++ rest))) ≡ None
+          (line_of records least (prefix ++ item ∷ [])
+          later ∷ (lines_below records least (prefix ++ item ∷ []) later ++ (lines_below records least prefix later ++ rest))) ≡ None
           → walk records least line (nodes_below records least prefix later ++ nodes) (lines_below records least prefix later ++ rest) ≡ None
-          → walk records least line ((cond b (record { prefix = prefix ++ item ∷ []; later = later } ∷ []) [] ++ nodes_below records least prefix later) ++ nodes)
-          ((cond b (line_of records least (prefix ++ item ∷ []) later ∷ lines_below records least (prefix ++ item ∷ []) later) [] ++ lines_below records least prefix later) ++ rest) ≡ None
+          → walk records least line ((cond b (record { prefix = prefix ++ item ∷ []; later = later } ∷ []) [] ++ nodes_below records least prefix later)
+          ++ nodes)
+          ((cond b (line_of records least (prefix ++ item ∷ []) later ∷ lines_below records least (prefix ++ item ∷ []) later) []
+          ++ lines_below records least prefix later) ++ rest) ≡ None
       by true first after =
-          ap (λ ls. walk records least line (record { prefix = prefix ++ item ∷ []; later = later } ∷ (nodes_below records least prefix later ++ nodes)) (line_of records least (prefix ++ item ∷ []) later ∷ ls))
+          ap (λ ls. walk records least line (record { prefix = prefix ++ item ∷ []; later = later } ∷ (nodes_below records least prefix later ++ nodes))
+          (line_of records least (prefix ++ item ∷ []) later ∷ ls))
           (append_assoc (lines_below records least (prefix ++ item ∷ []) later) (lines_below records least prefix later) rest)
           ∙ first
       by false first after = after
 
   -- all lines of prefixes, to the end of the text
   pub walk-all : (line : ℕ) (order : List ℕ) → fine [] order
-      → walk records least line (record { prefix = []; later = order } ∷ []) ((line_of records least [] order ∷ lines_below records least [] order) ++ [] ∷ []) ≡ None
+      → walk records least line (record { prefix = []; later = order } ∷ [])
+      ((line_of records least [] order ∷ lines_below records least [] order) ++ [] ∷ []) ≡ None
   walk-all line order is =
       step line [] order [] (lines_below records least [] order ++ [] ∷ []) (more_lines (lines_below records least [] order) ([] ∷ []) (omega arith)) is
       (walk-below order [] [] ([] ∷ []) (omega arith) is (λ n. refl) (line + 1))

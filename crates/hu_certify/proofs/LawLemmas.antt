@@ -51,14 +51,16 @@ most-size (s ∷ ss) =
     let gained = gain-within s.0 in
     (omega (arith, ints, ih.0, least), omega (arith, ints, ih.0, ih.1, least, within, gained, sum_by-cons size_of s ss))
 
-fewer-cells : (from item : ℕ) (later : List ℕ) (cells : List (ℕ × ℤ)) → absolute_of (cells_from (from + 1) later cells) ≤ absolute_of (cells_from from (item ∷ later) cells)
+fewer-cells : (from item : ℕ) (later : List ℕ) (cells : List (ℕ × ℤ))
+    → absolute_of (cells_from (from + 1) later cells) ≤ absolute_of (cells_from from (item ∷ later) cells)
 fewer-cells from item later cells =
     elim (cases_Bool (has item cells)) [
       | inl h ↦ simp h (omega (arith, sum_by-cons (λ (c : ℕ × ℤ). unsigned_abs c.1) (from, value_of item cells) (cells_from (from + 1) later cells)))
       | inr h ↦ simp h (omega arith)
     ]
 
-fewer-sizes : (records : List (List (ℕ × ℤ))) (from item : ℕ) (later prefix : List ℕ) → sum_by size_of (spots_with records later (from + 1) prefix) ≤ sum_by size_of (spots_with records (item ∷ later) from prefix)
+fewer-sizes : (records : List (List (ℕ × ℤ))) (from item : ℕ) (later prefix : List ℕ)
+    → sum_by size_of (spots_with records later (from + 1) prefix) ≤ sum_by size_of (spots_with records (item ∷ later) from prefix)
 fewer-sizes [] from item later prefix = omega arith
 fewer-sizes (r ∷ rs) from item later prefix =
     let ih = fewer-sizes rs from item later prefix in
@@ -83,7 +85,8 @@ deeper records prefix later item is = record {
   laters = is.laters.1;
   once = is.once.1;
   rank = is.rank + 1;
-  room = subst HasRoom (narrowed-first records item later is.rank prefix) (HasRoom-narrowed is.rank (spots_with records (item ∷ later) is.rank prefix) is.room);
+  room = subst HasRoom (narrowed-first records item later is.rank prefix)
+      (HasRoom-narrowed is.rank (spots_with records (item ∷ later) is.rank prefix) is.room);
   up = is.up;
 }
 
@@ -101,7 +104,8 @@ utility-fits : (records : List (List (ℕ × ℤ))) (prefix later : List ℕ) �
 utility-fits records prefix later is =
     omega (arith, is.room, earned-size (spots_with records later is.rank prefix), ap unsigned_abs (earned-with records later is.rank prefix))
 
-children-fine : (records : List (List (ℕ × ℤ))) (prefix later : List ℕ) → IsFine records prefix later → AllByRecursion IsChild (children_of records prefix later)
+children-fine : (records : List (List (ℕ × ℤ))) (prefix later : List ℕ) → IsFine records prefix later
+    → AllByRecursion IsChild (children_of records prefix later)
 children-fine records prefix [] is = tt
 children-fine records prefix (item ∷ later) is =
     let ih = children-fine records prefix later (further records prefix later item is) in
@@ -115,13 +119,16 @@ children-fine records prefix (item ∷ later) is =
 
 reads : (records : List (List (ℕ × ℤ))) (least : ℤ) (prefix later : List ℕ) → IsFine records prefix later → Reads records least prefix later
 reads records least prefix later is =
-    line-read least prefix (utility records prefix) (children_of records prefix later) is.items (utility-fits records prefix later is) (children-fine records prefix later is)
+    line-read least prefix (utility records prefix) (children_of records prefix later) is.items (utility-fits records prefix later is)
+    (children-fine records prefix later is)
 
 feedless : (records : List (List (ℕ × ℤ))) (least : ℤ) (prefix later : List ℕ) → IsFine records prefix later → Lacks 10 (line_of records least prefix later)
 feedless records least prefix later is =
-    line-no_feed least prefix (utility records prefix) (children_of records prefix later) is.items (utility-fits records prefix later is) (children-fine records prefix later is)
+    line-no_feed least prefix (utility records prefix) (children_of records prefix later) is.items (utility-fits records prefix later is)
+    (children-fine records prefix later is)
 
-below-feedless : (records : List (List (ℕ × ℤ))) (least : ℤ) (prefix later : List ℕ) → IsFine records prefix later → AllByRecursion (Lacks 10) (lines_below records least prefix later)
+below-feedless : (records : List (List (ℕ × ℤ))) (least : ℤ) (prefix later : List ℕ) → IsFine records prefix later
+    → AllByRecursion (Lacks 10) (lines_below records least prefix later)
 below-feedless records least prefix [] is = tt
 below-feedless records least prefix (item ∷ later) is =
     let below = deeper records prefix later item is in
@@ -130,9 +137,11 @@ below-feedless records least prefix (item ∷ later) is =
     let rest = below-feedless records least prefix later (further records prefix later item is) in
     by (is_opened records least prefix item later) here inner rest
   where
-    by : (b : Bool) → Lacks 10 (line_of records least (prefix ++ item ∷ []) later) → AllByRecursion (Lacks 10) (lines_below records least (prefix ++ item ∷ []) later)
+    by : (b : Bool) → Lacks 10 (line_of records least (prefix ++ item ∷ []) later)
+        → AllByRecursion (Lacks 10) (lines_below records least (prefix ++ item ∷ []) later)
         → AllByRecursion (Lacks 10) (lines_below records least prefix later)
-        → AllByRecursion (Lacks 10) (cond b (line_of records least (prefix ++ item ∷ []) later ∷ lines_below records least (prefix ++ item ∷ []) later) [] ++ lines_below records least prefix later)
+        → AllByRecursion (Lacks 10) (cond b (line_of records least (prefix ++ item ∷ []) later ∷ lines_below records least (prefix ++ item ∷ []) later) []
+        ++ lines_below records least prefix later)
     by true here inner rest =
         (here, each-append (Lacks 10) (lines_below records least (prefix ++ item ∷ []) later) (lines_below records least prefix later) inner rest)
     by false here inner rest = rest
@@ -164,13 +173,15 @@ right-order : (records : List (List (ℕ × ℤ))) → is_order records (certifi
 right-order records =
     let again = ranked-again records in
     let same : bytes_eq (ranking nat_cmp (certificate_order records)) (items_of records) ≡ true = (bytes_eq-Decides _ _).1 again in
-    let count : length (certificate_order records) ≡ length (items_of records) = sym (length-ranking (certificate_order records) (Once-certificate_order records)) ∙ ap length again in
+    let count : length (certificate_order records) ≡ length (items_of records) = sym
+    (length-ranking (certificate_order records) (Once-certificate_order records)) ∙ ap length again in
     let equal : eqb (length (certificate_order records)) (length (items_of records)) ≡ true = eq-eqb _ _ count in
     rw (same, equal) refl
 
 small-items : (records : List (List (ℕ × ℤ))) → AllByRecursion IsRecord records → AllByRecursion IsItem (flat_map items_in records)
 small-items [] rules = tt
-small-items (r ∷ rs) rules = each-append IsItem (items_in r) (flat_map items_in rs) (each r (each-from_all (λ (cell : ℕ × ℤ). cell.0 ≤ 2147483647) r rules.0.itemset.in_range)) (small-items rs rules.1)
+small-items (r ∷ rs) rules = each-append IsItem (items_in r) (flat_map items_in rs)
+    (each r (each-from_all (λ (cell : ℕ × ℤ). cell.0 ≤ 2147483647) r rules.0.itemset.in_range)) (small-items rs rules.1)
   where
     each : (cells : List (ℕ × ℤ)) → AllByRecursion (λ cell. cell.0 ≤ 2147483647) cells → AllByRecursion IsItem (items_in cells)
     each [] h = tt
@@ -180,11 +191,13 @@ small-order : (records : List (List (ℕ × ℤ))) → AllByRecursion IsRecord r
 small-order records rules =
     let all = flat_map items_in records in
     by_members IsItem (certificate_order records)
-    (λ z m. at_member IsItem z all (small-items records rules) (Member-from_ranking nat_cmp z all (Member-from_ranking (by_twu records) z (items_of records) m)))
+    (λ z m. at_member IsItem z all (small-items records rules)
+    (Member-from_ranking nat_cmp z all (Member-from_ranking (by_twu records) z (items_of records) m)))
 
 -- ---- the whole text
 
-root-fine : (records : List (List (ℕ × ℤ))) → AllByRecursion IsRecord records → sum_by absolute_of records < 2 ^ 127 → IsFine records [] (certificate_order records)
+root-fine : (records : List (List (ℕ × ℤ))) → AllByRecursion IsRecord records → sum_by absolute_of records < 2 ^ 127
+    → IsFine records [] (certificate_order records)
 root-fine records rules fits =
     let order = certificate_order records in
     let once = Once-certificate_order records in
@@ -198,8 +211,10 @@ root-fine records rules fits =
       up = up;
     }
 
-from-lines : (records : List (List (ℕ × ℤ))) (least : ℤ) (order : List ℕ) (lines : List (List ℕ)) → minimum_of (minimum_line least) ≡ Some least → order_of (order_line order) ≡ Some order
-    → is_order records order ≡ true → 0 < length lines → walk records least 3 (root order ∷ []) lines ≡ None → from_minimum records least (minimum_line least ∷ order_line order ∷ lines) ≡ None
+from-lines : (records : List (List (ℕ × ℤ))) (least : ℤ) (order : List ℕ) (lines : List (List ℕ)) → minimum_of (minimum_line least) ≡ Some least
+    → order_of (order_line order) ≡ Some order
+    → is_order records order ≡ true → 0 < length lines → walk records least 3 (root order ∷ []) lines ≡ None
+    → from_minimum records least (minimum_line least ∷ order_line order ∷ lines) ≡ None
 from-lines records least order [] first second right some walked = absurd (omega (arith, some))
 from-lines records least order (line ∷ lines) first second right some walked =
     let same : int_eq least least ≡ true = (Decides-int_eq least least).1 refl in
@@ -219,5 +234,6 @@ accepted records least is =
     (minimum-no_feed least is.fits, (order-no_feed order fine.laters, (feedless records least [] order fine, below-feedless records least [] order fine))) in
     let cut = pieces-lines (minimum_line least ∷ order_line order ∷ below) feeds in
     let walked = walk-all records least (IsFine records) (reads records least) (λ prefix later f. f.once) (deeper records) (further records) 3 order fine in
-    let judged = from-lines records least order (below ++ [] ∷ []) (minimum-read least is.positive is.fits) (order-read order fine.laters) (right-order records) (omega arith) walked in
+    let judged = from-lines records least order (below ++ [] ∷ []) (minimum-read least is.positive is.fits) (order-read order fine.laters)
+    (right-order records) (omega arith) walked in
     rw short (ap (from_minimum records least) cut ∙ judged)

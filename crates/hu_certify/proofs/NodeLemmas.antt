@@ -27,10 +27,12 @@ spots_with records later from prefix = map (λ r. (cells_from from later r, valu
 
 -- ---- a record's cells by rank
 
-ranks_above : (from : ℕ) (later : List ℕ) (cells : List (ℕ × ℤ)) (rank : ℕ) → rank < from → AllByRecursion (λ other. rank < other) (items_in (cells_from from later cells))
+ranks_above : (from : ℕ) (later : List ℕ) (cells : List (ℕ × ℤ)) (rank : ℕ) → rank < from
+    → AllByRecursion (λ other. rank < other) (items_in (cells_from from later cells))
 ranks_above from later cells rank low = each (cells_from from later cells) (ranks_from from later cells)
   where
-    each : (cs : List (ℕ × ℤ)) → AllByRecursion (λ cell. (from ≤ cell.0) × (cell.0 < from + length later)) cs → AllByRecursion (λ other. rank < other) (items_in cs)
+    each : (cs : List (ℕ × ℤ)) → AllByRecursion (λ cell. (from ≤ cell.0) × (cell.0 < from + length later)) cs
+        → AllByRecursion (λ other. rank < other) (items_in cs)
     each [] all = tt
     each (c ∷ cs) all = (omega (arith, all.0.0), each cs all.1)
 
@@ -46,7 +48,8 @@ grown-first : (from item : ℕ) (later : List ℕ) (cells : List (ℕ × ℤ)) (
     → grown from (cells_from from (item ∷ later) cells, own) ≡ cond (has item cells) ((cells_from (from + 1) later cells, own +ℤ value_of item cells) ∷ []) []
 grown-first from item later cells own =
     let same : eqb from from ≡ true = eq-eqb from from refl in
-    let gone : has from (cells_from (from + 1) later cells) ≡ false = has-below from (cells_from (from + 1) later cells) (ranks_above (from + 1) later cells from (omega arith)) in
+    let gone : has from (cells_from (from + 1) later cells) ≡ false = has-below from (cells_from (from + 1) later cells)
+    (ranks_above (from + 1) later cells from (omega arith)) in
     elim (cases_Bool (has item cells)) [ inl h ↦ simp (h, same) | inr h ↦ simp (h, gone) ]
 
 -- ---- a prefix with an item more
@@ -89,14 +92,18 @@ narrowed-first (r ∷ rs) item later from prefix =
     let here = grown-first from item later r (values_of prefix r) in
     let h = holds-one prefix item r in
     elim (cases_Bool (holds prefix r)) [
-      | inl e ↦ simp (h, e) (by (has item r) (grown from (cells_from from (item ∷ later) r, values_of prefix r)) (narrowed from (spots_with rs (item ∷ later) from prefix)) (filter (holds (prefix ++ item ∷ [])) rs) here ih)
+      | inl e ↦ simp (h, e) (by (has item r) (grown from (cells_from from (item ∷ later) r, values_of prefix r))
+          (narrowed from (spots_with rs (item ∷ later) from prefix)) (filter (holds (prefix ++ item ∷ [])) rs) here ih)
       | inr e ↦ simp (h, e) ih
     ]
   where
-    by : (b : Bool) (one more : List SpotOf) (held : List (List (ℕ × ℤ))) → one ≡ cond b ((cells_from (from + 1) later r, values_of prefix r +ℤ value_of item r) ∷ []) []
+    by : (b : Bool) (one more : List SpotOf) (held : List (List (ℕ × ℤ)))
+        → one ≡ cond b ((cells_from (from + 1) later r, values_of prefix r +ℤ value_of item r) ∷ []) []
         → more ≡ map (λ c. (cells_from (from + 1) later c, values_of (prefix ++ item ∷ []) c)) held
         → one ++ more ≡ map (λ c. (cells_from (from + 1) later c, values_of (prefix ++ item ∷ []) c)) (cond b (r ∷ held) held)
-    by true one more held a m = (λ j. a j ++ m j) ∙ ap (λ v. (cells_from (from + 1) later r, v) ∷ map (λ c. (cells_from (from + 1) later c, values_of (prefix ++ item ∷ []) c)) held) (sym (values-one prefix item r))
+    by true one more held a m = (λ j. a j ++ m j) ∙ ap (λ v.
+        (cells_from (from + 1) later r, v) ∷ map (λ c. (cells_from (from + 1) later c, values_of (prefix ++ item ∷ []) c)) held)
+        (sym (values-one prefix item r))
     by false one more held a m = λ j. a j ++ m j
 
 -- at any rank
@@ -117,7 +124,8 @@ narrowed-at records order (suc n) from rank prefix e within =
 
 -- ---- what the prefix earns and may earn
 
-pub earned-with : (records : List (List (ℕ × ℤ))) (later : List ℕ) (from : ℕ) (prefix : List ℕ) → earned (spots_with records later from prefix) ≡ utility records prefix
+pub earned-with : (records : List (List (ℕ × ℤ))) (later : List ℕ) (from : ℕ) (prefix : List ℕ)
+    → earned (spots_with records later from prefix) ≡ utility records prefix
 earned-with [] later from prefix = refl
 earned-with (r ∷ rs) later from prefix =
     let ih = earned-with rs later from prefix in
@@ -156,7 +164,8 @@ later_gain-first item later (cell ∷ cells) out up = elim (cases_eq item cell.0
       simp (here, back) (omega (arith, ints))
 ]
 
-gain-from : (from : ℕ) (later : List ℕ) (cells : List (ℕ × ℤ)) → Once later → Ascend (items_in cells) → gain (cells_from from later cells) ≡ later_gain later cells
+gain-from : (from : ℕ) (later : List ℕ) (cells : List (ℕ × ℤ)) → Once later → Ascend (items_in cells)
+    → gain (cells_from from later cells) ≡ later_gain later cells
 gain-from from [] cells once up = none cells
   where
     none : (cs : List (ℕ × ℤ)) → pos 0 ≡ later_gain [] cs
@@ -189,7 +198,8 @@ ranks-with [] later from prefix rank low = tt
 ranks-with (r ∷ rs) later from prefix rank low =
     let ih = ranks-with rs later from prefix rank low in
     elim (cases_Bool (holds prefix r)) [
-      | inl e ↦ simp e (each-append' (λ other. rank < other) (items_in (cells_from from later r)) (ranks_in (spots_with rs later from prefix)) (ranks_above from later r rank low) ih)
+      | inl e ↦ simp e (each-append' (λ other. rank < other) (items_in (cells_from from later r)) (ranks_in (spots_with rs later from prefix))
+          (ranks_above from later r rank low) ih)
       | inr e ↦ simp e ih
     ]
   where
@@ -204,7 +214,8 @@ record IsStep (stands : Bool) (from : ℕ) (more less : List ℕ) : Type 0 where
   first : stands ≡ true → Member from more
 
 ranks-step : (records : List (List (ℕ × ℤ))) (item : ℕ) (later : List ℕ) (from : ℕ) (prefix : List ℕ)
-    → IsStep (stands_with records prefix item) from (ranks_in (spots_with records (item ∷ later) from prefix)) (ranks_in (spots_with records later (from + 1) prefix))
+    → IsStep (stands_with records prefix item) from (ranks_in (spots_with records (item ∷ later) from prefix))
+    (ranks_in (spots_with records later (from + 1) prefix))
 ranks-step [] item later from prefix = record { to = λ z m. absurd m; back = λ z m. m; first = λ e. cc }
 ranks-step (r ∷ rs) item later from prefix =
     let ih = ranks-step rs item later from prefix in
@@ -223,7 +234,8 @@ ranks-step (r ∷ rs) item later from prefix =
     with_first : (more less rest : List ℕ) (b : Bool) → IsStep b from more less → IsStep true from (from ∷ (rest ++ more)) (rest ++ less)
     with_first more less rest b is = record {
       to = λ z m. to' z m;
-      back = λ z m. inr (elim (Member-append_cases z rest less m) [ inl n ↦ Member-append_left z rest more n | inr n ↦ Member-append_right z rest more (is.back z n) ]);
+      back = λ z m. inr (elim (Member-append_cases z rest less m)
+          [ inl n ↦ Member-append_left z rest more n | inr n ↦ Member-append_right z rest more (is.back z n) ]);
       first = λ e. inl refl;
     }
       where
@@ -238,7 +250,8 @@ ranks-step (r ∷ rs) item later from prefix =
     without : (more less rest : List ℕ) (b : Bool) → IsStep b from more less → IsStep b from (rest ++ more) (rest ++ less)
     without more less rest b is = record {
       to = λ z m. to' z (Member-append_cases z rest more m);
-      back = λ z m. elim (Member-append_cases z rest less m) [ inl n ↦ Member-append_left z rest more n | inr n ↦ Member-append_right z rest more (is.back z n) ];
+      back = λ z m. elim (Member-append_cases z rest less m)
+          [ inl n ↦ Member-append_left z rest more n | inr n ↦ Member-append_right z rest more (is.back z n) ];
       first = λ e. Member-append_right from rest more (is.first e);
     }
       where
@@ -277,7 +290,8 @@ standing-step : (records : List (List (ℕ × ℤ))) (item : ℕ) (later : List 
     → standing (spots_with records (item ∷ later) from prefix)
     ≡ cond (stands_with records prefix item) (from ∷ []) [] ++ standing (spots_with records later (from + 1) prefix)
 standing-step records item later from prefix =
-    ranking-step (stands_with records prefix item) from (ranks_in (spots_with records (item ∷ later) from prefix)) (ranks_in (spots_with records later (from + 1) prefix))
+    ranking-step (stands_with records prefix item) from (ranks_in (spots_with records (item ∷ later) from prefix))
+    (ranks_in (spots_with records later (from + 1) prefix))
     (ranks-step records item later from prefix) (standing-above records later (from + 1) prefix from (omega arith))
 
 -- ---- the children
@@ -286,9 +300,11 @@ map-same : {A B : Type 0} (f g : A → B) (xs : List A) → ((x : A) → Member 
 map-same f g [] same = refl
 map-same f g (x ∷ xs) same = λ j. same x (inl refl) j ∷ map-same f g xs (λ y m. same y (inr m)) j
 
-children-step : (records : List (List (ℕ × ℤ))) (item : ℕ) (later : List ℕ) (from : ℕ) (prefix : List ℕ) → Once (item ∷ later) → AllByRecursion (λ r. Ascend (items_in r)) records
+children-step : (records : List (List (ℕ × ℤ))) (item : ℕ) (later : List ℕ) (from : ℕ) (prefix : List ℕ) → Once (item ∷ later)
+    → AllByRecursion (λ r. Ascend (items_in r)) records
     → children_at (spots_with records (item ∷ later) from prefix)
-    ≡ cond (stands_with records prefix item) ((from, cut_bound records (prefix ++ item ∷ []) later) ∷ []) [] ++ children_at (spots_with records later (from + 1) prefix)
+    ≡ cond (stands_with records prefix item) ((from, cut_bound records (prefix ++ item ∷ []) later) ∷ []) []
+    ++ children_at (spots_with records later (from + 1) prefix)
 children-step records item later from prefix once up =
     let spots = spots_with records (item ∷ later) from prefix in
     let less = spots_with records later (from + 1) prefix in
@@ -297,7 +313,8 @@ children-step records item later from prefix once up =
     let rest : map (child_at spots) (standing less) ≡ map (child_at less) (standing less) =
     map-same (child_at spots) (child_at less) (standing less)
     (λ rank m. ap (λ narrow. (rank, most narrow))
-    (narrowed-skip records item later from rank prefix (at_member (λ y. from < y) rank (standing less) (standing-above records later (from + 1) prefix from (omega arith)) m))) in
+    (narrowed-skip records item later from rank prefix
+    (at_member (λ y. from < y) rank (standing less) (standing-above records later (from + 1) prefix from (omega arith)) m))) in
     ap (map (child_at spots)) (standing-step records item later from prefix)
     ∙ by (stands_with records prefix item) bound rest
   where
@@ -323,7 +340,8 @@ no_children records from prefix = ap (λ ranks. map (child_at (spots_with record
     no_ranks (r ∷ rs) = elim (cases_Bool (holds prefix r)) [ inl e ↦ simp e (no_ranks rs) | inr e ↦ simp e (no_ranks rs) ]
 
 -- they are those of the definition
-pub children-with : (records : List (List (ℕ × ℤ))) (order later : List ℕ) (from : ℕ) (prefix : List ℕ) → drop from order ≡ later → Once later → AllByRecursion (λ r. Ascend (items_in r)) records
+pub children-with : (records : List (List (ℕ × ℤ))) (order later : List ℕ) (from : ℕ) (prefix : List ℕ) → drop from order ≡ later → Once later
+    → AllByRecursion (λ r. Ascend (items_in r)) records
     → named order (children_at (spots_with records later from prefix)) ≡ children_of records prefix later
 children-with records order [] from prefix e once up = rw (no_children records from prefix) refl
 children-with records order (item ∷ later) from prefix e once up =
@@ -333,12 +351,14 @@ children-with records order (item ∷ later) from prefix e once up =
     ∙ by (stands_with records prefix item) (children_at (spots_with records later (from + 1) prefix)) (children_of records prefix later) heads.0 ih
   where
     by : (b : Bool) (less : List (ℕ × ℤ)) (rest : List (ℕ × ℤ)) → item_at order from ≡ item → named order less ≡ rest
-        → named order (cond b ((from, cut_bound records (prefix ++ item ∷ []) later) ∷ []) [] ++ less) ≡ cond b ((item, cut_bound records (prefix ++ item ∷ []) later) ∷ []) [] ++ rest
+        → named order (cond b ((from, cut_bound records (prefix ++ item ∷ []) later) ∷ []) [] ++ less) ≡ cond b
+        ((item, cut_bound records (prefix ++ item ∷ []) later) ∷ []) [] ++ rest
     by true less rest is ih = λ j. (is j, cut_bound records (prefix ++ item ∷ []) later) ∷ ih j
     by false less rest is ih = ih
 
 -- and so are the lines of those that are opened
-pub lines-with : (records : List (List (ℕ × ℤ))) (least : ℤ) (order later : List ℕ) (from : ℕ) (prefix : List ℕ) → drop from order ≡ later → Once later → AllByRecursion (λ r. Ascend (items_in r)) records
+pub lines-with : (records : List (List (ℕ × ℤ))) (least : ℤ) (order later : List ℕ) (from : ℕ) (prefix : List ℕ) → drop from order ≡ later → Once later
+    → AllByRecursion (λ r. Ascend (items_in r)) records
     → opened_lines records least order prefix (children_at (spots_with records later from prefix)) ≡ lines_below records least prefix later
 lines-with records least order [] from prefix e once up = rw (no_children records from prefix) refl
 lines-with records least order (item ∷ later) from prefix e once up =
@@ -350,7 +370,8 @@ lines-with records least order (item ∷ later) from prefix e once up =
     by : (b : Bool) (less : List (ℕ × ℤ)) → item_at order from ≡ item → drop (from + 1) order ≡ later
         → opened_lines records least order prefix less ≡ lines_below records least prefix later
         → opened_lines records least order prefix (cond b ((from, cut_bound records (prefix ++ item ∷ []) later) ∷ []) [] ++ less)
-        ≡ cond (b && int_le least (cut_bound records (prefix ++ item ∷ []) later)) (lines_from records least (prefix ++ item ∷ []) later) [] ++ lines_below records least prefix later
+        ≡ cond (b && int_le least (cut_bound records (prefix ++ item ∷ []) later)) (lines_from records least (prefix ++ item ∷ []) later) []
+        ++ lines_below records least prefix later
     by true less is rest ih =
         λ j. cond (int_le least (cut_bound records (prefix ++ item ∷ []) later)) (lines_from records least (prefix ++ is j ∷ []) (rest j)) [] ++ ih j
     by false less is rest ih = ih

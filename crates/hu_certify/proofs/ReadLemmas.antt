@@ -45,11 +45,13 @@ not_minus b h = grind (arith, nat_tests)
 not_zero : (n : ℕ) (ds : List ℕ) → digits_value 10 ds ≡ suc n → has_idle_zero ds ≡ false → (slice_index ds 0 == 48) ≡ false
 not_zero n [] value idle = refl
 not_zero n (d ∷ []) value idle = elim (cases_Bool (d == 48)) [
-  | inl h ↦ let same = eqb-true d 48 h in let none : digits_value 10 (48 ∷ []) ≡ suc n = subst (λ c. digits_value 10 (c ∷ []) ≡ suc n) same value in absurd (omega (arith, none))
+  | inl h ↦ let same = eqb-true d 48 h in let none : digits_value 10 (48 ∷ []) ≡ suc n = subst (λ c. digits_value 10 (c ∷ []) ≡ suc n) same value in absurd
+      (omega (arith, none))
   | inr h ↦ h
 ]
 not_zero n (d ∷ e ∷ es) value idle = elim (cases_Bool (d == 48)) [
-  | inl h ↦ let long : nat_lt 1 (length (d ∷ e ∷ es)) ≡ true = grind (arith, nat_tests) in let both : has_idle_zero (d ∷ e ∷ es) ≡ true = rw (h, long) refl in let f : true ≡ false = sym both ∙ idle in cc
+  | inl h ↦ let long : nat_lt 1 (length (d ∷ e ∷ es)) ≡ true = grind (arith, nat_tests) in let both : has_idle_zero
+      (d ∷ e ∷ es) ≡ true = rw (h, long) refl in let f : true ≡ false = sym both ∙ idle in cc
   | inr h ↦ h
 ]
 
@@ -108,7 +110,8 @@ pub tokens-read : (least : ℤ) (prefix : List ℕ) (earned : ℤ) (children : L
     → each token_of (map (token_text least) children) ≡ Some (said_from least prefix earned children).tokens
 tokens-read least prefix earned [] all = refl
 tokens-read least prefix earned (c ∷ cs) all =
-    more-read _ _ _ _ (ap token_from (token-split c.0 c.1 (int_lt c.1 least) all.0) ∙ token-read c.0 c.1 (int_lt c.1 least) all.0) (tokens-read least prefix earned cs all.1)
+    more-read _ _ _ _ (ap token_from (token-split c.0 c.1 (int_lt c.1 least) all.0) ∙ token-read c.0 c.1 (int_lt c.1 least) all.0)
+    (tokens-read least prefix earned cs all.1)
 
 pub items-read : (items : List ℕ) → AllByRecursion IsItem items → each plain_item (map decimal items) ≡ Some items
 items-read [] all = refl
@@ -143,13 +146,16 @@ words-joined (x ∷ xs) all = words-some (join_with_byte 32 (x ∷ xs)) (some-jo
 Lacks-joined : (byte : ℕ) (texts : List (List ℕ)) → (32 == byte) ≡ false → AllByRecursion (Lacks byte) texts → Lacks byte (join_with_byte 32 texts)
 Lacks-joined byte [] other all = tt
 Lacks-joined byte (x ∷ []) other all = all.0
-Lacks-joined byte (x ∷ y ∷ ys) other all = each-append (λ b. (b == byte) ≡ false) x (32 ∷ join_with_byte 32 (y ∷ ys)) all.0 (other, Lacks-joined byte (y ∷ ys) other all.1)
+Lacks-joined byte (x ∷ y ∷ ys) other all = each-append (λ b. (b == byte) ≡ false) x (32 ∷ join_with_byte 32 (y ∷ ys)) all.0
+    (other, Lacks-joined byte (y ∷ ys) other all.1)
 
-each-item : (P : List ℕ → Type 0) (items : List ℕ) → ((item : ℕ) → IsItem item → P (decimal item)) → AllByRecursion IsItem items → AllByRecursion P (map decimal items)
+each-item : (P : List ℕ → Type 0) (items : List ℕ) → ((item : ℕ) → IsItem item → P (decimal item)) → AllByRecursion IsItem items
+    → AllByRecursion P (map decimal items)
 each-item P [] f all = tt
 each-item P (i ∷ is) f all = (f i all.0, each-item P is f all.1)
 
-each-child : (P : List ℕ → Type 0) (least : ℤ) (children : List (ℕ × ℤ)) → ((child : ℕ × ℤ) → IsChild child → P (token_text least child)) → AllByRecursion IsChild children → AllByRecursion P (map (token_text least) children)
+each-child : (P : List ℕ → Type 0) (least : ℤ) (children : List (ℕ × ℤ)) → ((child : ℕ × ℤ) → IsChild child → P (token_text least child))
+    → AllByRecursion IsChild children → AllByRecursion P (map (token_text least) children)
 each-child P least [] f all = tt
 each-child P least (c ∷ cs) f all = (f c all.0, each-child P least cs f all.1)
 
@@ -160,7 +166,8 @@ record IsOther (byte : ℕ) : Type 0 where
 
 token-lacks : (byte : ℕ) (least : ℤ) (child : ℕ × ℤ) → IsOther byte → IsChild child → Lacks byte (token_text least child)
 token-lacks byte least child other is =
-    each-append (λ b. (b == byte) ≡ false) (decimal child.0) (bound_text least child.1) (other.lacks (decimal child.0) (written_item child.0 is.item)) (by (int_lt child.1 least))
+    each-append (λ b. (b == byte) ≡ false) (decimal child.0) (bound_text least child.1) (other.lacks (decimal child.0) (written_item child.0 is.item))
+    (by (int_lt child.1 least))
   where
     by : (b : Bool) → Lacks byte (cond b (61 ∷ signed_decimal child.1) [])
     by true = (other.sign, other.lacks (signed_decimal child.1) (written-signed_decimal child.1 is.fits))
@@ -183,28 +190,37 @@ token-word least child is = record {
 }
 
 -- the line of a prefix
-pub line-read : (least : ℤ) (prefix : List ℕ) (earned : ℤ) (children : List (ℕ × ℤ)) → AllByRecursion IsItem prefix → unsigned_abs earned < 2 ^ 127 → AllByRecursion IsChild children
+pub line-read : (least : ℤ) (prefix : List ℕ) (earned : ℤ) (children : List (ℕ × ℤ)) → AllByRecursion IsItem prefix → unsigned_abs earned < 2 ^ 127
+    → AllByRecursion IsChild children
     → said_of (prefix_text prefix ++ 58 ∷ signed_decimal earned ++ 58 ∷ tokens_text least children) ≡ Some (said_from least prefix earned children)
 line-read least prefix earned children items fits all =
     let colon : IsOther 58 = high 58 (omega arith) refl in
-    let p = split-whole (λ b. b == 58) (prefix_text prefix) (Lacks-joined 58 (map decimal prefix) refl (each-item (Lacks 58) prefix (λ i small. colon.lacks (decimal i) (written_item i small)) items)) in
+    let p = split-whole (λ b. b == 58) (prefix_text prefix)
+    (Lacks-joined 58 (map decimal prefix) refl (each-item (Lacks 58) prefix (λ i small. colon.lacks (decimal i) (written_item i small)) items)) in
     let u = split-whole (λ b. b == 58) (signed_decimal earned) (colon.lacks (signed_decimal earned) (written-signed_decimal earned fits)) in
-    let t = split-whole (λ b. b == 58) (tokens_text least children) (Lacks-joined 58 (map (token_text least) children) refl (each-child (Lacks 58) least children (λ c is. token-lacks 58 least c colon is) all)) in
+    let t = split-whole (λ b. b == 58) (tokens_text least children)
+    (Lacks-joined 58 (map (token_text least) children) refl (each-child (Lacks 58) least children (λ c is. token-lacks 58 least c colon is) all)) in
     let cut =
     slice_split-append (λ b. b == 58) (prefix_text prefix ++ 58 ∷ signed_decimal earned) 58 (tokens_text least children) refl
-    ∙ ap (λ ps. ps ++ slice_split (λ b. b == 58) (tokens_text least children)) (slice_split-append (λ b. b == 58) (prefix_text prefix) 58 (signed_decimal earned) refl)
+    ∙ ap (λ ps. ps ++ slice_split (λ b. b == 58) (tokens_text least children))
+    (slice_split-append (λ b. b == 58) (prefix_text prefix) 58 (signed_decimal earned) refl)
     ∙ (λ j. (p j ++ u j) ++ t j) in
-    let i = ap (each plain_item) (words-joined (map decimal prefix) (each-item IsWord prefix (λ i small. record { some = (written_item i small).some; lacks = (written_item i small).low 32 (omega arith) }) items)) ∙ items-read prefix items in
+    let i = ap (each plain_item) (words-joined (map decimal prefix)
+    (each-item IsWord prefix (λ i small. record { some = (written_item i small).some; lacks = (written_item i small).low 32 (omega arith) }) items))
+    ∙ items-read prefix items in
     let s = plain_signed-written earned fits in
-    let w = ap (each token_of) (words-joined (map (token_text least) children) (each-child IsWord least children (token-word least) all)) ∙ tokens-read least prefix earned children all in
+    let w = ap (each token_of) (words-joined (map (token_text least) children) (each-child IsWord least children (token-word least) all))
+    ∙ tokens-read least prefix earned children all in
     ap said_in cut ∙ (λ j. said_by (i j) (s j) (w j))
 
-pub line-no_feed : (least : ℤ) (prefix : List ℕ) (earned : ℤ) (children : List (ℕ × ℤ)) → AllByRecursion IsItem prefix → unsigned_abs earned < 2 ^ 127 → AllByRecursion IsChild children
+pub line-no_feed : (least : ℤ) (prefix : List ℕ) (earned : ℤ) (children : List (ℕ × ℤ)) → AllByRecursion IsItem prefix → unsigned_abs earned < 2 ^ 127
+    → AllByRecursion IsChild children
     → Lacks 10 (prefix_text prefix ++ 58 ∷ signed_decimal earned ++ 58 ∷ tokens_text least children)
 line-no_feed least prefix earned children items fits all =
     let P = λ (b : ℕ). (b == 10) ≡ false in
     let feed : IsOther 10 = low 10 (omega arith) refl in
-    let front = each-append P (prefix_text prefix) (58 ∷ signed_decimal earned) (Lacks-joined 10 (map decimal prefix) refl (each-item (Lacks 10) prefix (λ i small. feed.lacks (decimal i) (written_item i small)) items))
+    let front = each-append P (prefix_text prefix) (58 ∷ signed_decimal earned)
+    (Lacks-joined 10 (map decimal prefix) refl (each-item (Lacks 10) prefix (λ i small. feed.lacks (decimal i) (written_item i small)) items))
     (refl, feed.lacks (signed_decimal earned) (written-signed_decimal earned fits)) in
     each-append P (prefix_text prefix ++ 58 ∷ signed_decimal earned) (58 ∷ tokens_text least children) front
     (refl, Lacks-joined 10 (map (token_text least) children) refl (each-child (Lacks 10) least children (λ c is. token-lacks 10 least c feed is) all))
@@ -217,8 +233,10 @@ minimum-read least some fits = plain_bound least (omega (arith, ints)) fits
 pub minimum-no_feed : (least : ℤ) → unsigned_abs least < 2 ^ 127 → Lacks 10 (minimum_line least)
 minimum-no_feed least fits = (refl, (refl, (refl, (refl, (refl, (written-signed_decimal least fits).low 10 (omega arith))))))
 
-split-spaced : (item : ℕ) (items : List ℕ) → AllByRecursion IsItem (item ∷ items) → slice_split is_space (decimal item ++ spaced items) ≡ map decimal (item ∷ items)
-split-spaced item [] all = ap (slice_split is_space) (append-nil (decimal item)) ∙ split-whole is_space (decimal item) ((written_item item all.0).low 32 (omega arith))
+split-spaced : (item : ℕ) (items : List ℕ) → AllByRecursion IsItem (item ∷ items)
+    → slice_split is_space (decimal item ++ spaced items) ≡ map decimal (item ∷ items)
+split-spaced item [] all = ap (slice_split is_space) (append-nil (decimal item))
+    ∙ split-whole is_space (decimal item) ((written_item item all.0).low 32 (omega arith))
 split-spaced item (next ∷ items) all =
     let front = split-whole is_space (decimal item) ((written_item item all.0).low 32 (omega arith)) in
     slice_split-append is_space (decimal item) 32 (decimal next ++ spaced items) refl ∙ (λ j. front j ++ split-spaced next items all.1 j)
@@ -232,7 +250,8 @@ order-no_feed order all = (refl, (refl, (refl, (refl, (refl, spaced-lacks order 
   where
     spaced-lacks : (items : List ℕ) → AllByRecursion IsItem items → Lacks 10 (spaced items)
     spaced-lacks [] h = tt
-    spaced-lacks (i ∷ is) h = each-append (λ b. (b == 10) ≡ false) (32 ∷ decimal i) (spaced is) (refl, (written_item i h.0).low 10 (omega arith)) (spaced-lacks is h.1)
+    spaced-lacks (i ∷ is) h = each-append (λ b. (b == 10) ≡ false) (32 ∷ decimal i) (spaced is) (refl, (written_item i h.0).low 10 (omega arith))
+        (spaced-lacks is h.1)
 
 -- ---- all lines
 

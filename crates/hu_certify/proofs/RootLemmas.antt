@@ -37,7 +37,8 @@ first_spots-at order (r ∷ rs) = ap (λ more. (cells_from 0 order r, pos 0) ∷
 pub ascending : (records : List (List (ℕ × ℤ))) → AllByRecursion IsRecord records → AllByRecursion (λ r. Ascend (items_in r)) records
 ascending records rules = each-weaker IsRecord (λ r. Ascend (items_in r)) records Ascend-record rules
 
-pub sizes : (order : List ℕ) (records : List (List (ℕ × ℤ))) → Once order → AllByRecursion (λ r. Ascend (items_in r)) records → sum_by size_of (first_spots order records) ≤ sum_by absolute_of records
+pub sizes : (order : List ℕ) (records : List (List (ℕ × ℤ))) → Once order → AllByRecursion (λ r. Ascend (items_in r)) records
+    → sum_by size_of (first_spots order records) ≤ sum_by absolute_of records
 sizes order [] once up = omega arith
 sizes order (r ∷ rs) once up =
     omega (
@@ -50,7 +51,11 @@ sizes order (r ∷ rs) once up =
 
 ranks : (order : List ℕ) (records : List (List (ℕ × ℤ))) → AreRanks (length order) (first_spots order records)
 ranks order [] = tt
-ranks order (r ∷ rs) = (each-weaker (λ cell. (0 ≤ cell.0) × (cell.0 < 0 + length order)) (λ cell. cell.0 < length order) (cells_from 0 order r) (λ cell h. omega (arith, h.1)) (ranks_from 0 order r), ranks order rs)
+ranks order (r ∷ rs) = (
+  each-weaker (λ cell. (0 ≤ cell.0) × (cell.0 < 0 + length order)) (λ cell. cell.0 < length order) (cells_from 0 order r)
+      (λ cell h. omega (arith, h.1)) (ranks_from 0 order r),
+  ranks order rs,
+)
 
 -- what the text begins with
 pub record Begins (records : List (List (ℕ × ℤ))) (order : List ℕ) (ranked : List (Vec Dense Global)) (spots : List SpotOf) : Type 0 where
@@ -67,7 +72,8 @@ module _ (records : List (List (ℕ × ℤ))) (order : List ℕ) (dense : List (
   spots-first : spots ≡ first_spots order records
   spots-first = b.places ∙ again dense ∙ ap (λ (rs : List (List (ℕ × ℤ))). map {B = SpotOf} (λ cells. (cells, pos 0)) rs) b.over
     where
-      again : (ds : List (Vec Dense Global)) → map {B = SpotOf} (λ cells. (pairs_in cells, pos 0)) ds ≡ map {B = SpotOf} (λ cells. (cells, pos 0)) (map pairs_in ds)
+      again : (ds : List (Vec Dense Global)) → map {B = SpotOf} (λ cells. (pairs_in cells, pos 0)) ds ≡ map {B = SpotOf} (λ cells. (cells, pos 0))
+          (map pairs_in ds)
       again [] = refl
       again (d ∷ ds) = ap (λ more. (pairs_in d, pos 0) ∷ more) (again ds)
 
@@ -86,19 +92,24 @@ module _ (records : List (List (ℕ × ℤ))) (order : List ℕ) (dense : List (
   }
 
 -- the text after its two first lines
-pub begun : (least : ℤ) (order none first second : List ℕ) → none ≡ [] → first ≡ none ++ (minimum_line least ++ 10 ∷ []) → second ≡ first ++ (order_line order ++ 10 ∷ [])
+pub begun : (least : ℤ) (order none first second : List ℕ) → none ≡ [] → first ≡ none ++ (minimum_line least ++ 10 ∷ [])
+    → second ≡ first ++ (order_line order ++ 10 ∷ [])
     → second ≡ (minimum_line least ++ 10 ∷ []) ++ (order_line order ++ 10 ∷ [])
-begun least order none first second empty one two = two ∙ ap (λ t. t ++ (order_line order ++ 10 ∷ [])) (one ∙ ap (λ t. t ++ (minimum_line least ++ 10 ∷ [])) empty)
+begun least order none first second empty one two = two
+    ∙ ap (λ t. t ++ (order_line order ++ 10 ∷ [])) (one ∙ ap (λ t. t ++ (minimum_line least ++ 10 ∷ [])) empty)
 
-pub whole-text : (records : List (List (ℕ × ℤ))) (least : ℤ) (order before : List ℕ) → order ≡ certificate_order records → before ≡ (minimum_line least ++ 10 ∷ []) ++ (order_line order ++ 10 ∷ [])
+pub whole-text : (records : List (List (ℕ × ℤ))) (least : ℤ) (order before : List ℕ) → order ≡ certificate_order records
+    → before ≡ (minimum_line least ++ 10 ∷ []) ++ (order_line order ++ 10 ∷ [])
     → before ++ lines_text (prefix_lines records least) ≡ certificate_text records least
 whole-text records least order before same is =
     ap (λ t. t ++ lines_text (prefix_lines records least)) (is ∙ ap (λ items. (minimum_line least ++ 10 ∷ []) ++ (order_line items ++ 10 ∷ [])) same)
     ∙ append_assoc (minimum_line least ++ 10 ∷ []) (order_line (certificate_order records) ++ 10 ∷ []) (lines_text (prefix_lines records least))
 
 -- the steps before the first prefix
-pub made : (records stated : List (List (ℕ × ℤ))) (totals : List (ℕ × ItemTotal)) (keys slice : List Item) (dense seen : List (Vec Dense Global)) (places shown : List Place)
-    → totals ≡ item_totals records → numbers_of keys ≡ all_by_weight totals → slice ≡ keys → stated ≡ records → map pairs_in dense ≡ map (cells_from 0 (numbers_of keys)) stated → AllByRecursion IsRecord stated
+pub made : (records stated : List (List (ℕ × ℤ))) (totals : List (ℕ × ItemTotal)) (keys slice : List Item) (dense seen : List (Vec Dense Global))
+    (places shown : List Place)
+    → totals ≡ item_totals records → numbers_of keys ≡ all_by_weight totals → slice ≡ keys → stated ≡ records
+    → map pairs_in dense ≡ map (cells_from 0 (numbers_of keys)) stated → AllByRecursion IsRecord stated
     → seen ≡ dense → spots_of places ≡ map {B = SpotOf} (λ cells. (pairs_in cells, pos 0)) seen → shown ≡ places → sum_by absolute_of records < 2 ^ 127
     → Begins records (numbers_of slice) dense (spots_of shown)
 made records stated totals keys slice dense seen places shown counted weighed same is over rules read first second fits = record {
@@ -116,7 +127,8 @@ pub fault-is : {V : Type 0} (r : Result V CertFault) (fault : CertFault) → IsE
 fault-is (Ok x) fault is e = cc
 fault-is (Err f) fault is e = let same : f ≡ TooLong = cc in sym is ∙ same
 
-pub certificate-is : (records : List (List (ℕ × ℤ))) (least z : ℤ) (order stated none first second : List ℕ) → z ≡ least → order ≡ certificate_order records → stated ≡ order → none ≡ []
+pub certificate-is : (records : List (List (ℕ × ℤ))) (least z : ℤ) (order stated none first second : List ℕ) → z ≡ least → order ≡ certificate_order records
+    → stated ≡ order → none ≡ []
     → first ≡ none ++ (minimum_line z ++ 10 ∷ []) → second ≡ first ++ (order_line stated ++ 10 ∷ [])
     → second ++ lines_text (lines_from records z [] (drop 0 order)) ≡ certificate_text records least
 certificate-is records least z order stated none first second same ordered is empty one two =

@@ -36,14 +36,16 @@ pub IsCellAt-position : (rank : ℕ) (cells : List Dense) (at : ℕ) (d : Dense)
 IsCellAt-position rank [] at d e = cc
 IsCellAt-position rank (c ∷ cs) at d e = elim (cases_Bool (eqb rank c.rank)) [
   | inl h ↦ here h (e ∙ position-here (λ (cell : Dense). eqb rank cell.rank) c cs h)
-  | inr h ↦ later h (position (λ (cell : Dense). eqb rank cell.rank) cs) (λ k f. IsCellAt-position rank cs k d f) (e ∙ position-past (λ (cell : Dense). eqb rank cell.rank) c cs h)
+  | inr h ↦ later h (position (λ (cell : Dense). eqb rank cell.rank) cs) (λ k f. IsCellAt-position rank cs k d f)
+      (e ∙ position-past (λ (cell : Dense). eqb rank cell.rank) c cs h)
 ]
   where
     here : eqb rank c.rank ≡ true → ◌≡◌ {A = Option ℕ} (Some at) (Some 0) → IsCellAt rank (c ∷ cs) at d
     here h f =
         let first : at ≡ 0 = cc in
         let sizes = sum_by-cons (λ (cell : ℕ × ℤ). unsigned_abs cell.1) (dense_pair c) (map dense_pair cs) in
-        subst (λ k. IsCellAt rank (c ∷ cs) k d) (sym first) (record { within = omega arith; found = simp h; value = simp h; rest = simp h; size = omega (arith, sizes) })
+        subst (λ k. IsCellAt rank (c ∷ cs) k d) (sym first)
+        (record { within = omega arith; found = simp h; value = simp h; rest = simp h; size = omega (arith, sizes) })
 
     later : eqb rank c.rank ≡ false → (o : Option ℕ) → ((k : ℕ) → Some k ≡ o → IsCellAt rank cs k d) → Some at ≡ option_map suc o → IsCellAt rank (c ∷ cs) at d
     later h None ih f = cc
@@ -60,18 +62,22 @@ IsCellAt-position rank (c ∷ cs) at d e = elim (cases_Bool (eqb rank c.rank)) [
           size = omega (arith, sizes, is.size);
         })
 
-pub absent-position : (rank : ℕ) (cells : List Dense) → ◌≡◌ {A = Option ℕ} None (position (λ cell. eqb rank cell.rank) cells) → has rank (map dense_pair cells) ≡ false
+pub absent-position : (rank : ℕ) (cells : List Dense) → ◌≡◌ {A = Option ℕ} None (position (λ cell. eqb rank cell.rank) cells)
+    → has rank (map dense_pair cells) ≡ false
 absent-position rank [] e = refl
 absent-position rank (c ∷ cs) e = elim (cases_Bool (eqb rank c.rank)) [
   | inl h ↦ let some = e ∙ position-here (λ (cell : Dense). eqb rank cell.rank) c cs h in cc
-  | inr h ↦ later h (position (λ (cell : Dense). eqb rank cell.rank) cs) (λ f. absent-position rank cs f) (e ∙ position-past (λ (cell : Dense). eqb rank cell.rank) c cs h)
+  | inr h ↦ later h (position (λ (cell : Dense). eqb rank cell.rank) cs) (λ f. absent-position rank cs f)
+      (e ∙ position-past (λ (cell : Dense). eqb rank cell.rank) c cs h)
 ]
   where
-    later : eqb rank c.rank ≡ false → (o : Option ℕ) → (None ≡ o → has rank (map dense_pair cs) ≡ false) → None ≡ option_map suc o → has rank (map dense_pair (c ∷ cs)) ≡ false
+    later : eqb rank c.rank ≡ false → (o : Option ℕ) → (None ≡ o → has rank (map dense_pair cs) ≡ false) → None ≡ option_map suc o
+        → has rank (map dense_pair (c ∷ cs)) ≡ false
     later h None ih f = simp h (ih refl)
     later h (Some k) ih f = cc
 
-pub grown-some : (rank : ℕ) (spot : SpotOf) (rest : List (ℕ × ℤ)) (value own : ℤ) → has rank spot.0 ≡ true → past rank spot.0 ≡ rest → value_of rank spot.0 ≡ value → own ≡ spot.1 +ℤ value
+pub grown-some : (rank : ℕ) (spot : SpotOf) (rest : List (ℕ × ℤ)) (value own : ℤ) → has rank spot.0 ≡ true → past rank spot.0 ≡ rest
+    → value_of rank spot.0 ≡ value → own ≡ spot.1 +ℤ value
     → (rest, own) ∷ [] ≡ grown rank spot
 grown-some rank spot rest value own found is told sum = rw (found, is, told, sum) refl
 
@@ -80,28 +86,33 @@ grown-none rank spot gone = rw gone refl
 
 -- ---- steps
 
-pub spots-drop : (places : List Place) (i : ℕ) (d : Place) → i < length places → spots_of (drop i places) ≡ spot_of (get_or places i d) ∷ spots_of (drop (i + 1) places)
+pub spots-drop : (places : List Place) (i : ℕ) (d : Place) → i < length places
+    → spots_of (drop i places) ≡ spot_of (get_or places i d) ∷ spots_of (drop (i + 1) places)
 spots-drop places i d within = ap spots_of (drop_more places i d within)
 
-pub spots-take : (places : List Place) (i : ℕ) (d : Place) → i < length places → spots_of (take (i + 1) places) ≡ spots_of (take i places) ++ spot_of (get_or places i d) ∷ []
+pub spots-take : (places : List Place) (i : ℕ) (d : Place) → i < length places
+    → spots_of (take (i + 1) places) ≡ spots_of (take i places) ++ spot_of (get_or places i d) ∷ []
 spots-take places i d within = ap spots_of (take_more places i d within) ∙ map-append spot_of (take i places) (get_or places i d ∷ [])
 
 pub sizes-drop : (places : List Place) (i : ℕ) (d : Place) → i < length places
     → sum_by size_of (spots_of (drop i places)) ≡ size_of (spot_of (get_or places i d)) + sum_by size_of (spots_of (drop (i + 1) places))
-sizes-drop places i d within = ap (sum_by size_of) (spots-drop places i d within) ∙ sum_by-cons size_of (spot_of (get_or places i d)) (spots_of (drop (i + 1) places))
+sizes-drop places i d within = ap (sum_by size_of) (spots-drop places i d within)
+    ∙ sum_by-cons size_of (spot_of (get_or places i d)) (spots_of (drop (i + 1) places))
 
 pub size-within : (places : List Place) (i : ℕ) (d : Place) → i < length places → size_of (spot_of (get_or places i d)) ≤ sum_by size_of (spots_of places)
 size-within [] i d within = absurd (omega arith)
 size-within (p ∷ ps) zero d within = omega (arith, sum_by-cons size_of (spot_of p) (spots_of ps))
 size-within (p ∷ ps) (suc i) d within = omega (arith, sum_by-cons size_of (spot_of p) (spots_of ps), size-within ps i d (omega arith))
 
-pub dense-drop : (cells : List Dense) (i : ℕ) (d : Dense) → i < length cells → map dense_pair (drop i cells) ≡ dense_pair (get_or cells i d) ∷ map dense_pair (drop (i + 1) cells)
+pub dense-drop : (cells : List Dense) (i : ℕ) (d : Dense) → i < length cells
+    → map dense_pair (drop i cells) ≡ dense_pair (get_or cells i d) ∷ map dense_pair (drop (i + 1) cells)
 dense-drop cells i d within = ap (map dense_pair) (drop_more cells i d within)
 
 pub dense-sizes : (cells : List Dense) (i : ℕ) (d : Dense) → i < length cells
     → absolute_of (map dense_pair (drop i cells)) ≡ unsigned_abs (get_or cells i d).value + absolute_of (map dense_pair (drop (i + 1) cells))
 dense-sizes cells i d within =
-    ap absolute_of (dense-drop cells i d within) ∙ sum_by-cons (λ (cell : ℕ × ℤ). unsigned_abs cell.1) (dense_pair (get_or cells i d)) (map dense_pair (drop (i + 1) cells))
+    ap absolute_of (dense-drop cells i d within) ∙ sum_by-cons (λ (cell : ℕ × ℤ). unsigned_abs cell.1) (dense_pair (get_or cells i d))
+    (map dense_pair (drop (i + 1) cells))
 
 pub dense-gains : (cells : List Dense) (i : ℕ) (d : Dense) → i < length cells
     → gain (map dense_pair (drop i cells)) ≡ positive_part (get_or cells i d).value +ℤ gain (map dense_pair (drop (i + 1) cells))

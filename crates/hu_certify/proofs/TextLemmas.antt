@@ -31,7 +31,8 @@ joined-more f children i d within =
 abbrev child_text : ℤ → List ℕ → Child → List ℕ
 child_text least order child = token_text least (item_at order child.rank, child.bound)
 
-mapped : (least : ℤ) (order : List ℕ) (children : List Child) → map (token_text least) (named order (map rank_pair children)) ≡ map (child_text least order) children
+mapped : (least : ℤ) (order : List ℕ) (children : List Child)
+    → map (token_text least) (named order (map rank_pair children)) ≡ map (child_text least order) children
 mapped least order [] = refl
 mapped least order (c ∷ cs) = ap (λ more. child_text least order c ∷ more) (mapped least order cs)
 
@@ -44,7 +45,8 @@ tokens-more least order children i d within =
     ∙ ap (λ texts. join_with_byte 32 texts ++ (gap i ++ child_text least order (get_or children i d))) (sym (mapped least order (take i children)))
 
 -- one token more
-pub token-pushed : (least : ℤ) (items : List Item) (children : List Child) (i : ℕ) (d : Child) (e : Item) (first now gapped after token : List ℕ) → i < length children
+pub token-pushed : (least : ℤ) (items : List Item) (children : List Child) (i : ℕ) (d : Child) (e : Item) (first now gapped after token : List ℕ)
+    → i < length children
     → (get_or children i d).rank < length items
     → now ≡ first ++ tokens_text least (named (numbers_of items) (map rank_pair (take i children))) → gapped ≡ now ++ gap i → after ≡ gapped ++ token
     → token ≡ token_text least ((get_or items (get_or children i d).rank e).0, (get_or children i d).bound)
@@ -61,7 +63,8 @@ token-pushed least items children i d e first now gapped after token within in_i
     ∙ ap (λ more. first ++ more) (sym (tokens-more least (numbers_of items) children i d within))
 
 -- a line after its six parts
-pub line-built : (old a u t s1 s2 s3 s4 s5 s6 : List ℕ) → s1 ≡ old ++ a → s2 ≡ s1 ++ 58 ∷ [] → s3 ≡ s2 ++ u → s4 ≡ s3 ++ 58 ∷ [] → s5 ≡ s4 ++ t → s6 ≡ s5 ++ 10 ∷ []
+pub line-built : (old a u t s1 s2 s3 s4 s5 s6 : List ℕ) → s1 ≡ old ++ a → s2 ≡ s1 ++ 58 ∷ [] → s3 ≡ s2 ++ u → s4 ≡ s3 ++ 58 ∷ [] → s5 ≡ s4 ++ t
+    → s6 ≡ s5 ++ 10 ∷ []
     → s6 ≡ old ++ ((a ++ 58 ∷ u ++ 58 ∷ t) ++ 10 ∷ [])
 line-built old a u t s1 s2 s3 s4 s5 s6 e1 e2 e3 e4 e5 e6 =
     let all : s6 ≡ (((((old ++ a) ++ 58 ∷ []) ++ u) ++ 58 ∷ []) ++ t) ++ 10 ∷ [] = cc in

@@ -40,31 +40,38 @@ Once-drop (suc from) (x ∷ xs) once = Once-drop from xs once.1
 
 -- ---- the line of a prefix, and those below it
 
-module _ (records : List (List (ℕ × ℤ))) (order : List ℕ) (from : ℕ) (prefix written : List ℕ) (spots : List SpotOf) (is : IsNode records order from prefix written spots) where
+module _ (records : List (List (ℕ × ℤ))) (order : List ℕ) (from : ℕ) (prefix written : List ℕ) (spots : List SpotOf)
+    (is : IsNode records order from prefix written spots) where
   once_later : Once (drop from order)
   once_later = Once-drop from order (Once-from_distinct order is.once)
 
-  pub line-node : (least : ℤ) → drop 1 written ++ 58 ∷ signed_decimal (earned spots) ++ 58 ∷ tokens_text least (named order (children_at spots)) ≡ line_of records least prefix (drop from order)
+  pub line-node : (least : ℤ) → drop 1 written ++ 58 ∷ signed_decimal (earned spots)
+      ++ 58 ∷ tokens_text least (named order (children_at spots)) ≡ line_of records least prefix (drop from order)
   line-node least =
       let shown = ap (drop 1) is.spaces ∙ without_space prefix in
       let sum = ap earned is.holds ∙ earned-with records (drop from order) from prefix in
-      let children = ap (λ ss. named order (children_at ss)) is.holds ∙ children-with records order (drop from order) from prefix refl once_later is.ascending in
+      let children = ap (λ ss. named order (children_at ss)) is.holds
+      ∙ children-with records order (drop from order) from prefix refl once_later is.ascending in
       λ j. shown j ++ 58 ∷ signed_decimal (sum j) ++ 58 ∷ tokens_text least (children j)
 
   pub below-node : (least : ℤ) → opened_lines records least order prefix (children_at spots) ≡ lines_below records least prefix (drop from order)
   below-node least =
-      ap (λ ss. opened_lines records least order prefix (children_at ss)) is.holds ∙ lines-with records least order (drop from order) from prefix refl once_later is.ascending
+      ap (λ ss. opened_lines records least order prefix (children_at ss)) is.holds
+      ∙ lines-with records least order (drop from order) from prefix refl once_later is.ascending
 
-  ranks-within : (rs : List (List (ℕ × ℤ))) (later : List ℕ) → AllByRecursion (λ rank. (from ≤ rank) × (rank < from + length later)) (ranks_in (spots_with rs later from prefix))
+  ranks-within : (rs : List (List (ℕ × ℤ))) (later : List ℕ)
+      → AllByRecursion (λ rank. (from ≤ rank) × (rank < from + length later)) (ranks_in (spots_with rs later from prefix))
   ranks-within [] later = tt
   ranks-within (r ∷ rs) later =
       let ih = ranks-within rs later in
       elim (cases_Bool (holds prefix r)) [
-        | inl e ↦ simp e (each-append (λ rank. (from ≤ rank) × (rank < from + length later)) (items_in (cells_from from later r)) (ranks_in (spots_with rs later from prefix)) (each (cells_from from later r) (ranks_from from later r)) ih)
+        | inl e ↦ simp e (each-append (λ rank. (from ≤ rank) × (rank < from + length later)) (items_in (cells_from from later r))
+            (ranks_in (spots_with rs later from prefix)) (each (cells_from from later r) (ranks_from from later r)) ih)
         | inr e ↦ simp e ih
       ]
     where
-      each : (cs : List (ℕ × ℤ)) → AllByRecursion (λ cell. (from ≤ cell.0) × (cell.0 < from + length later)) cs → AllByRecursion (λ rank. (from ≤ rank) × (rank < from + length later)) (items_in cs)
+      each : (cs : List (ℕ × ℤ)) → AllByRecursion (λ cell. (from ≤ cell.0) × (cell.0 < from + length later)) cs
+          → AllByRecursion (λ rank. (from ≤ rank) × (rank < from + length later)) (items_in cs)
       each [] all = tt
       each (c ∷ cs) all = (all.0, each cs all.1)
 
@@ -72,10 +79,12 @@ module _ (records : List (List (ℕ × ℤ))) (order : List ℕ) (from : ℕ) (p
       → IsNode records order (rank + 1) (prefix ++ item_at order rank ∷ []) (written ++ spaced (item_at order rank ∷ [])) (narrowed rank spots)
   child-node rank m =
       let member = subst (λ ss. Member rank (ranks_in ss)) is.holds (Member-from_ranking nat_cmp rank (ranks_in spots) m) in
-      let within = at_member (λ k. (from ≤ k) × (k < from + length (drop from order))) rank (ranks_in (spots_with records (drop from order) from prefix)) (ranks-within records (drop from order)) member in
+      let within = at_member (λ k. (from ≤ k) × (k < from + length (drop from order))) rank (ranks_in (spots_with records (drop from order) from prefix))
+      (ranks-within records (drop from order)) member in
       let fits : rank < length order = omega (arith, length-drop from order, within.0, within.1) in
       record {
-        spaces = ap (λ w. w ++ spaced (item_at order rank ∷ [])) is.spaces ∙ sym (flat_map-append (λ item. 32 ∷ decimal item) prefix (item_at order rank ∷ []));
+        spaces = ap (λ w. w ++ spaced (item_at order rank ∷ [])) is.spaces
+            ∙ sym (flat_map-append (λ item. 32 ∷ decimal item) prefix (item_at order rank ∷ []));
         holds = ap (narrowed rank) is.holds ∙ narrowed-at records order (rank - from) from rank prefix (omega (arith, within.0)) fits;
         once = is.once;
         ascending = is.ascending;
@@ -99,7 +108,8 @@ Member-rank [] i d within = absurd (omega arith)
 Member-rank (c ∷ cs) zero d within = inl refl
 Member-rank (c ∷ cs) (suc i) d within = inr (Member-rank cs i d (omega arith))
 
-pub rank-stands : (children : List Child) (spots : List SpotOf) (i : ℕ) (d : Child) → map rank_pair children ≡ children_at spots → i < length children → Member (get_or children i d).rank (standing spots)
+pub rank-stands : (children : List Child) (spots : List SpotOf) (i : ℕ) (d : Child) → map rank_pair children ≡ children_at spots → i < length children
+    → Member (get_or children i d).rank (standing spots)
 rank-stands children spots i d e within = subst (Member (get_or children i d).rank) (ranks-of children spots e) (Member-rank children i d within)
 
 each-ranks : (n : ℕ) (spots : List SpotOf) → AreRanks n spots → AllByRecursion (λ rank. rank < n) (ranks_in spots)
@@ -113,8 +123,11 @@ each-ranks n (s ∷ ss) all = each-append (λ rank. rank < n) (items_in s.0) (ra
 pub standing-below : (n : ℕ) (spots : List SpotOf) (rank : ℕ) → AreRanks n spots → Member rank (standing spots) → rank < n
 standing-below n spots rank all m = at_member (λ k. k < n) rank (ranks_in spots) (each-ranks n spots all) (Member-from_ranking nat_cmp rank (ranks_in spots) m)
 
-pub children-below : (n : ℕ) (children : List Child) (spots : List SpotOf) → AreRanks n spots → map rank_pair children ≡ children_at spots → AllByRecursion (λ child. child.rank < n) children
-children-below n children spots all e = back children (subst (AllByRecursion (λ rank. rank < n)) (sym (ranks-of children spots e)) (by_members (λ rank. rank < n) (standing spots) (λ rank m. standing-below n spots rank all m)))
+pub children-below : (n : ℕ) (children : List Child) (spots : List SpotOf) → AreRanks n spots → map rank_pair children ≡ children_at spots
+    → AllByRecursion (λ child. child.rank < n) children
+children-below n children spots all e = back children
+    (subst (AllByRecursion (λ rank. rank < n)) (sym (ranks-of children spots e))
+    (by_members (λ rank. rank < n) (standing spots) (λ rank m. standing-below n spots rank all m)))
   where
     back : (cs : List Child) → AllByRecursion (λ rank. rank < n) (map (λ child. child.rank) cs) → AllByRecursion (λ child. child.rank < n) cs
     back [] h = tt
@@ -182,22 +195,26 @@ lines-append : (xs ys : List (List ℕ)) → lines_text (xs ++ ys) ≡ lines_tex
 lines-append xs ys = flat_map-append (λ line. line ++ 10 ∷ []) xs ys
 
 -- after the lines of a child
-pub text-more : (old now after line : List ℕ) (done one whole : List (List ℕ)) → now ≡ old ++ lines_text (line ∷ done) → after ≡ now ++ lines_text one → whole ≡ done ++ one
+pub text-more : (old now after line : List ℕ) (done one whole : List (List ℕ)) → now ≡ old ++ lines_text (line ∷ done) → after ≡ now ++ lines_text one
+    → whole ≡ done ++ one
     → after ≡ old ++ lines_text (line ∷ whole)
 text-more old now after line done one whole so_far is all =
     is ∙ ap (λ t. t ++ lines_text one) so_far ∙ append_assoc old (lines_text (line ∷ done)) (lines_text one)
     ∙ ap (λ t. old ++ t) (sym (lines-append (line ∷ done) one)) ∙ ap (λ ls. old ++ lines_text (line ∷ ls)) (sym all)
 
 -- where those of a child make the text too long
-pub text-long : (old now line : List ℕ) (done one more whole : List (List ℕ)) → now ≡ old ++ lines_text (line ∷ done) → 268435456 < length (now ++ lines_text one) → whole ≡ (done ++ one) ++ more
+pub text-long : (old now line : List ℕ) (done one more whole : List (List ℕ)) → now ≡ old ++ lines_text (line ∷ done)
+    → 268435456 < length (now ++ lines_text one) → whole ≡ (done ++ one) ++ more
     → 268435456 < length (old ++ lines_text (line ∷ whole))
 text-long old now line done one more whole so_far long all =
     let part = text-more old now (now ++ lines_text one) line done one (done ++ one) so_far refl refl in
     let same : old ++ lines_text (line ∷ whole) ≡ (old ++ lines_text (line ∷ (done ++ one))) ++ lines_text more =
-    ap (λ ls. old ++ lines_text (line ∷ ls)) all ∙ ap (λ t. old ++ t) (lines-append (line ∷ (done ++ one)) more) ∙ sym (append_assoc old (lines_text (line ∷ (done ++ one))) (lines_text more)) in
+    ap (λ ls. old ++ lines_text (line ∷ ls)) all ∙ ap (λ t. old ++ t) (lines-append (line ∷ (done ++ one)) more)
+    ∙ sym (append_assoc old (lines_text (line ∷ (done ++ one))) (lines_text more)) in
     omega (arith, ap length part, ap length same, length-append (old ++ lines_text (line ∷ (done ++ one))) (lines_text more), long)
 
-pub line-long : (old line : List ℕ) (more : List (List ℕ)) → 268435456 < length (old ++ (line ++ 10 ∷ [])) → 268435456 < length (old ++ lines_text (line ∷ more))
+pub line-long : (old line : List ℕ) (more : List (List ℕ)) → 268435456 < length (old ++ (line ++ 10 ∷ []))
+    → 268435456 < length (old ++ lines_text (line ∷ more))
 line-long old line more long =
     omega (arith, long, ap length (sym (append_assoc old (line ++ 10 ∷ []) (lines_text more))), length-append (old ++ (line ++ 10 ∷ [])) (lines_text more))
 
@@ -212,13 +229,16 @@ pub opened-more : (records : List (List (ℕ × ℤ))) (least : ℤ) (order pref
     ≡ opened_lines records least order prefix (map rank_pair (take i children)) ++ lines_of_child records least order prefix (rank_pair (get_or children i d))
 opened-more records least order prefix children i d within =
     let one = rank_pair (get_or children i d) in
-    ap (opened_lines records least order prefix) (ap (map rank_pair) (take_more children i d within) ∙ map-append rank_pair (take i children) (get_or children i d ∷ []))
+    ap (opened_lines records least order prefix) (ap (map rank_pair) (take_more children i d within)
+    ∙ map-append rank_pair (take i children) (get_or children i d ∷ []))
     ∙ flat_map-append (lines_of_child records least order prefix) (map rank_pair (take i children)) (one ∷ [])
-    ∙ ap (λ more. opened_lines records least order prefix (map rank_pair (take i children)) ++ more) (append-nil (lines_of_child records least order prefix one))
+    ∙ ap (λ more. opened_lines records least order prefix (map rank_pair (take i children)) ++ more)
+    (append-nil (lines_of_child records least order prefix one))
 
 pub opened-all : (records : List (List (ℕ × ℤ))) (least : ℤ) (order prefix : List ℕ) (children : List Child) (i : ℕ) (d : Child) → i < length children
     → opened_lines records least order prefix (map rank_pair children)
-    ≡ (opened_lines records least order prefix (map rank_pair (take i children)) ++ lines_of_child records least order prefix (rank_pair (get_or children i d)))
+    ≡ (opened_lines records least order prefix (map rank_pair (take i children))
+    ++ lines_of_child records least order prefix (rank_pair (get_or children i d)))
     ++ opened_lines records least order prefix (map rank_pair (drop (i + 1) children))
 opened-all records least order prefix children i d within =
     let front = map rank_pair (take (i + 1) children) in
@@ -230,12 +250,14 @@ opened-all records least order prefix children i d within =
 
 -- ---- an answer that tells a fault
 
-pub Writes-err : (old new piece : List ℕ) (r : Result (Unit {0}) CertFault) (fault : CertFault) → IsErrAnd r (λ e. e ≡ fault) → (fault ≡ TooLong → 268435456 < length (old ++ piece)) → Writes old new piece r
+pub Writes-err : (old new piece : List ℕ) (r : Result (Unit {0}) CertFault) (fault : CertFault) → IsErrAnd r (λ e. e ≡ fault)
+    → (fault ≡ TooLong → 268435456 < length (old ++ piece)) → Writes old new piece r
 Writes-err old new piece (Ok x) fault is long = absurd is
 Writes-err old new piece (Err e) fault is long = λ h. long (sym is ∙ h)
 
 -- the line that is written of a prefix
-pub line-written : (records : List (List (ℕ × ℤ))) (order : List ℕ) (from : ℕ) (prefix written : List ℕ) (spots : List SpotOf) (least sum : ℤ) (shown : List ℕ) (children : List Child)
+pub line-written : (records : List (List (ℕ × ℤ))) (order : List ℕ) (from : ℕ) (prefix written : List ℕ) (spots : List SpotOf) (least sum : ℤ)
+    (shown : List ℕ) (children : List Child)
     → IsNode records order from prefix written spots → shown ≡ written → sum ≡ earned spots → map rank_pair children ≡ children_at spots
     → drop 1 shown ++ 58 ∷ signed_decimal sum ++ 58 ∷ tokens_text least (named order (map rank_pair children)) ≡ line_of records least prefix (drop from order)
 line-written records order from prefix written spots least sum shown children is same earns told =
@@ -249,48 +271,61 @@ abbrev pub SoFar : List (List (ℕ × ℤ)) → ℤ → List ℕ → ℕ → Lis
 SoFar records least order from path children old now =
     now ≡ old ++ lines_text (line_of records least path (drop from order) ∷ opened_lines records least order path (map rank_pair children))
 
-pub node-of_child : (records : List (List (ℕ × ℤ))) (order : List ℕ) (from : ℕ) (path written : List ℕ) (spots : List SpotOf) (rank item : ℕ) (before written' : List ℕ) (spots' : List SpotOf)
-    → IsNode records order from path written spots → Member rank (standing spots) → item ≡ item_at order rank → before ≡ written → written' ≡ before ++ spaced (item ∷ []) → spots' ≡ narrowed rank spots
+pub node-of_child : (records : List (List (ℕ × ℤ))) (order : List ℕ) (from : ℕ) (path written : List ℕ) (spots : List SpotOf) (rank item : ℕ)
+    (before written' : List ℕ) (spots' : List SpotOf)
+    → IsNode records order from path written spots → Member rank (standing spots) → item ≡ item_at order rank → before ≡ written
+    → written' ≡ before ++ spaced (item ∷ []) → spots' ≡ narrowed rank spots
     → IsNode records order (rank + 1) (path ++ item_at order rank ∷ []) written' spots'
 node-of_child records order from path written spots rank item before written' spots' is m same was shown narrow =
     let child = child-node records order from path written spots is rank m in
     let text : written' ≡ written ++ spaced (item_at order rank ∷ []) = shown ∙ (λ j. was j ++ spaced (same j ∷ [])) in
     record { spaces = text ∙ child.spaces; holds = narrow ∙ child.holds; once = child.once; ascending = child.ascending }
 
-pub so_far-opened : (records : List (List (ℕ × ℤ))) (least : ℤ) (order : List ℕ) (from : ℕ) (path : List ℕ) (children : List Child) (i : ℕ) (d : Child) (old now after : List ℕ) → i < length children
+pub so_far-opened : (records : List (List (ℕ × ℤ))) (least : ℤ) (order : List ℕ) (from : ℕ) (path : List ℕ) (children : List Child) (i : ℕ) (d : Child)
+    (old now after : List ℕ) → i < length children
     → SoFar records least order from path (take i children) old now → int_le least (get_or children i d).bound ≡ true
-    → after ≡ now ++ lines_text (lines_from records least (path ++ item_at order (get_or children i d).rank ∷ []) (drop ((get_or children i d).rank + 1) order))
+    → after ≡ now ++ lines_text (lines_from records least (path ++ item_at order (get_or children i d).rank ∷ [])
+    (drop ((get_or children i d).rank + 1) order))
     → SoFar records least order from path (take (i + 1) children) old after
 so_far-opened records least order from path children i d old now after within so_far reached is =
     let child = get_or children i d in
     let one = lines_from records least (path ++ item_at order child.rank ∷ []) (drop (child.rank + 1) order) in
-    let more = opened-more records least order path children i d within ∙ ap (λ b. opened_lines records least order path (map rank_pair (take i children)) ++ cond b one []) reached in
+    let more = opened-more records least order path children i d within
+    ∙ ap (λ b. opened_lines records least order path (map rank_pair (take i children)) ++ cond b one []) reached in
     text-more old now after (line_of records least path (drop from order)) (opened_lines records least order path (map rank_pair (take i children))) one
     (opened_lines records least order path (map rank_pair (take (i + 1) children))) so_far is more
 
-pub so_far-cut : (records : List (List (ℕ × ℤ))) (least : ℤ) (order : List ℕ) (from : ℕ) (path : List ℕ) (children : List Child) (i : ℕ) (d : Child) (old now : List ℕ) → i < length children
-    → SoFar records least order from path (take i children) old now → int_le least (get_or children i d).bound ≡ false → SoFar records least order from path (take (i + 1) children) old now
+pub so_far-cut : (records : List (List (ℕ × ℤ))) (least : ℤ) (order : List ℕ) (from : ℕ) (path : List ℕ) (children : List Child) (i : ℕ) (d : Child)
+    (old now : List ℕ) → i < length children
+    → SoFar records least order from path (take i children) old now → int_le least (get_or children i d).bound ≡ false
+    → SoFar records least order from path (take (i + 1) children) old now
 so_far-cut records least order from path children i d old now within so_far low =
     let child = get_or children i d in
     let one = lines_from records least (path ++ item_at order child.rank ∷ []) (drop (child.rank + 1) order) in
-    let more = opened-more records least order path children i d within ∙ ap (λ b. opened_lines records least order path (map rank_pair (take i children)) ++ cond b one []) low ∙ append-nil (opened_lines records least order path (map rank_pair (take i children))) in
+    let more = opened-more records least order path children i d within
+    ∙ ap (λ b. opened_lines records least order path (map rank_pair (take i children)) ++ cond b one []) low
+    ∙ append-nil (opened_lines records least order path (map rank_pair (take i children))) in
     so_far ∙ ap (λ ls. old ++ lines_text (line_of records least path (drop from order) ∷ ls)) (sym more)
 
-pub so_far-long : (records : List (List (ℕ × ℤ))) (order : List ℕ) (from : ℕ) (path written : List ℕ) (spots : List SpotOf) (least : ℤ) (children : List Child) (i : ℕ) (d : Child) (old now : List ℕ)
+pub so_far-long : (records : List (List (ℕ × ℤ))) (order : List ℕ) (from : ℕ) (path written : List ℕ) (spots : List SpotOf) (least : ℤ)
+    (children : List Child) (i : ℕ) (d : Child) (old now : List ℕ)
     → IsNode records order from path written spots → map rank_pair children ≡ children_at spots → i < length children
     → SoFar records least order from path (take i children) old now → int_le least (get_or children i d).bound ≡ true
-    → 268435456 < length (now ++ lines_text (lines_from records least (path ++ item_at order (get_or children i d).rank ∷ []) (drop ((get_or children i d).rank + 1) order)))
+    → 268435456 < length (now ++ lines_text (lines_from records least (path ++ item_at order (get_or children i d).rank ∷ [])
+    (drop ((get_or children i d).rank + 1) order)))
     → 268435456 < length (old ++ lines_text (lines_from records least path (drop from order)))
 so_far-long records order from path written spots least children i d old now is told within so_far reached long =
     let child = get_or children i d in
     let one = lines_from records least (path ++ item_at order child.rank ∷ []) (drop (child.rank + 1) order) in
     let done = opened_lines records least order path (map rank_pair (take i children)) in
     let more = opened_lines records least order path (map rank_pair (drop (i + 1) children)) in
-    let all = sym (below-node records order from path written spots is least) ∙ ap (opened_lines records least order path) (sym told) ∙ opened-all records least order path children i d within
+    let all = sym (below-node records order from path written spots is least) ∙ ap (opened_lines records least order path) (sym told)
+    ∙ opened-all records least order path children i d within
     ∙ ap (λ b. (done ++ cond b one []) ++ more) reached in
     text-long old now (line_of records least path (drop from order)) done one more (lines_below records least path (drop from order)) so_far long all
 
-pub so_far-whole : (records : List (List (ℕ × ℤ))) (order : List ℕ) (from : ℕ) (path written : List ℕ) (spots : List SpotOf) (least : ℤ) (children : List Child) (i : ℕ) (old now : List ℕ)
+pub so_far-whole : (records : List (List (ℕ × ℤ))) (order : List ℕ) (from : ℕ) (path written : List ℕ) (spots : List SpotOf) (least : ℤ)
+    (children : List Child) (i : ℕ) (old now : List ℕ)
     → IsNode records order from path written spots → map rank_pair children ≡ children_at spots → length children ≤ i
     → SoFar records least order from path (take i children) old now → now ≡ old ++ lines_text (lines_from records least path (drop from order))
 so_far-whole records order from path written spots least children i old now is told past so_far =

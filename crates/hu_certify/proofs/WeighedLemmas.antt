@@ -52,7 +52,8 @@ pub weigh-step : (totals : List (ℕ × ItemTotal)) (i : ℕ) (before after more
 weigh-step totals i before after more within so_far is one =
     is ∙ (λ j. so_far j ++ one j)
     ∙ sym (map-append (weigh Gain) (take i totals) (option_to_list (slice_get totals i)))
-    ∙ ap (map (weigh Gain)) (ap (λ last. take i totals ++ option_to_list last) (slice_get-get_or totals i no_entry within) ∙ sym (take_more totals i no_entry within))
+    ∙ ap (map (weigh Gain)) (ap (λ last. take i totals ++ option_to_list last) (slice_get-get_or totals i no_entry within)
+    ∙ sym (take_more totals i no_entry within))
 
 -- ---- items put into a set one after another
 
@@ -65,7 +66,8 @@ numbers_apart (x ∷ xs) d = (each xs d.0, numbers_apart xs d.1)
     each [] all = tt
     each (y ∷ ys) all = (all.0, each ys all.1)
 
-add_all : (done items : List Item) → AllByRecursion (λ item. list_any (same_item item) done ≡ false) items → IsDistinct same_item items → insert_all same_item done items ≡ done ++ items
+add_all : (done items : List Item) → AllByRecursion (λ item. list_any (same_item item) done ≡ false) items → IsDistinct same_item items
+    → insert_all same_item done items ≡ done ++ items
 unfolding IsDistinct
 add_all done [] fresh d = sym (append-nil done)
 add_all done (x ∷ xs) fresh d =
@@ -91,14 +93,16 @@ add_all-none : (items : List Item) → IsDistinct eqb (numbers_of items) → ins
 add_all-none items d = add_all [] items (none_fresh items) (numbers_apart items d)
 
 -- one item more
-pub add-step : (ws : List Weighed) (i : ℕ) (d : Weighed) (keys keys' : List Item) → i < length ws → keys ≡ insert_all same_item [] (map (λ one. one.item) (take i ws))
+pub add-step : (ws : List Weighed) (i : ℕ) (d : Weighed) (keys keys' : List Item) → i < length ws
+    → keys ≡ insert_all same_item [] (map (λ one. one.item) (take i ws))
     → keys' ≡ add_key same_item keys (get_or ws i d).item → keys' ≡ insert_all same_item [] (map (λ one. one.item) (take (i + 1) ws))
 add-step ws i d keys keys' within so_far is =
     let item = (get_or ws i d).item in
     is
     ∙ ap (λ ks. add_key same_item ks item) so_far
     ∙ sym (fold-append (add_key same_item) [] (map (λ (one : Weighed). one.item) (take i ws)) (item ∷ []))
-    ∙ ap (insert_all same_item []) (sym (map-append (λ (one : Weighed). one.item) (take i ws) (get_or ws i d ∷ [])) ∙ ap (map (λ (one : Weighed). one.item)) (sym (take_more ws i d within)))
+    ∙ ap (insert_all same_item []) (sym (map-append (λ (one : Weighed). one.item) (take i ws) (get_or ws i d ∷ []))
+    ∙ ap (map (λ (one : Weighed). one.item)) (sym (take_more ws i d within)))
 
 -- ---- weighed items sorted
 
@@ -121,7 +125,8 @@ no_weight = record { small = 0; twu = pos 0; item = 0 }
 abbrev pub nothing : Weighed
 nothing = record { twu = pos 0; item = record { 0 = 0 } }
 
-number_below : (ws : List Weighed) (n q : ℕ) → ((k : ℕ) → k < length ws → (get_or ws k nothing).item.0 < n) → list_any (eqb q) (map (λ (w : Weight). w.item) (map weight_of ws)) ≡ true → q < n
+number_below : (ws : List Weighed) (n q : ℕ) → ((k : ℕ) → k < length ws → (get_or ws k nothing).item.0 < n)
+    → list_any (eqb q) (map (λ (w : Weight). w.item) (map weight_of ws)) ≡ true → q < n
 number_below [] n q below any = cc
 number_below (w ∷ ws) n q below any = elim (or_cases (eqb q w.item.0) (list_any (eqb q) (map (λ (w : Weight). w.item) (map weight_of ws))) any) [
   | inl e ↦ let same = eqb-true q w.item.0 e in let first = below 0 (omega arith) in omega arith
@@ -132,7 +137,8 @@ keys-weights : (entries : List (ℕ × ItemTotal)) → map (λ (w : Weight). w.i
 keys-weights [] = refl
 keys-weights (e ∷ es) = ap (λ ks. e.0 ∷ ks) (keys-weights es)
 
-module _ (totals : List (ℕ × ItemTotal)) (weighed sorted : List Weighed) (apart : IsDistinct nat_eq (keys_of totals)) (is : map weight_of weighed ≡ map (weigh Gain) totals)
+module _ (totals : List (ℕ × ItemTotal)) (weighed sorted : List Weighed) (apart : IsDistinct nat_eq (keys_of totals))
+    (is : map weight_of weighed ≡ map (weigh Gain) totals)
     (moved : IsPermutation weighed sorted) (up : IsSorted (on weight_of weight_cmp) sorted) where
   moved_weights : IsPermutation (map weight_of weighed) (map weight_of sorted)
   moved_weights = IsPermutation-map weight_of weighed sorted moved
@@ -152,7 +158,8 @@ module _ (totals : List (ℕ × ItemTotal)) (weighed sorted : List Weighed) (apa
       let len : length ws ≡ length sorted = length-map sorted weight_of in
       let numbers : length (map (λ (w : Weight). w.item) ws) ≡ length ws = length-map ws (λ (w : Weight). w.item) in
       let here : get_or ws k no_weight ≡ weight_of (get_or sorted k nothing) = get_or-map weight_of sorted k nothing no_weight (omega arith) in
-      let next : get_or ws (k + 1) no_weight ≡ weight_of (get_or sorted (k + 1) nothing) = get_or-map weight_of sorted (k + 1) nothing no_weight (omega arith) in
+      let next : get_or ws (k + 1) no_weight ≡ weight_of (get_or sorted (k + 1) nothing) = get_or-map weight_of sorted (k + 1) nothing no_weight
+      (omega arith) in
       let upto = up k nothing (omega arith) (omega arith) in
       let upto' : is_lt (weight_cmp (get_or ws (k + 1) no_weight) (get_or ws k no_weight)) ≡ false = rw (here, next) upto in
       let differ = eqb-false _ _ (apart_from_distinct eqb (map (λ w. w.item) ws) k (k + 1) 0 apart_sorted (omega arith) (omega arith)) in
@@ -178,11 +185,13 @@ module _ (totals : List (ℕ × ItemTotal)) (weighed sorted : List Weighed) (apa
       ap numbers_of (put ∙ all) ∙ numbers-sorted sorted ∙ sorted-by_weight
 
   -- and it has at most as many as there are numbers
-  pub few-by_weight : (keys : List Item) → keys ≡ insert_all same_item [] (map (λ one. one.item) sorted) → ((k : ℕ) → k < length sorted → (get_or sorted k nothing).item.0 < 2 ^ 32) → length keys ≤ 2 ^ 32
+  pub few-by_weight : (keys : List Item) → keys ≡ insert_all same_item [] (map (λ one. one.item) sorted)
+      → ((k : ℕ) → k < length sorted → (get_or sorted k nothing).item.0 < 2 ^ 32) → length keys ≤ 2 ^ 32
   few-by_weight keys put below =
       let numbers = map (λ (w : Weight). w.item) (map weight_of sorted) in
       let all = add_all-none (map (λ one. one.item) sorted) (subst (IsDistinct eqb) (sym (numbers-sorted sorted)) apart_sorted) in
-      let same : length keys ≡ length numbers = sym (length-map keys (λ item. item.0)) ∙ ap (λ items. length (numbers_of items)) (put ∙ all) ∙ ap length (numbers-sorted sorted) in
+      let same : length keys ≡ length numbers = sym (length-map keys (λ item. item.0)) ∙ ap (λ items. length (numbers_of items)) (put ∙ all)
+      ∙ ap length (numbers-sorted sorted) in
       let few = length-le_from_distinct_below numbers (2 ^ 32) apart_sorted (λ q any. number_below sorted (2 ^ 32) q below any) in
       omega arith
 
@@ -205,7 +214,8 @@ all_pass records (x ∷ xs) = rw (reaches (twu records (x ∷ [])) (twu-least re
 all_totals_pass : (records : List (List (ℕ × ℤ))) (xs : List ℕ)
     → filter (λ (e : ℕ × ItemTotal). int_le (pos 0) e.1.twu) (map (λ item. (item, total_of records item)) xs) ≡ map (λ item. (item, total_of records item)) xs
 all_totals_pass records [] = refl
-all_totals_pass records (x ∷ xs) = rw (reaches (twu records (x ∷ [])) (twu-least records x)) (ap (λ ys. (x, total_of records x) ∷ ys) (all_totals_pass records xs))
+all_totals_pass records (x ∷ xs) = rw (reaches (twu records (x ∷ [])) (twu-least records x))
+    (ap (λ ys. (x, total_of records x) ∷ ys) (all_totals_pass records xs))
 
 pub all_by_weight-item_totals : (records : List (List (ℕ × ℤ))) → all_by_weight (item_totals records) ≡ certificate_order records
 all_by_weight-item_totals records =
@@ -214,4 +224,5 @@ all_by_weight-item_totals records =
     ∙ ap (ranking (by_twu records)) (all_pass records (items_of records))
 
 pub Once-certificate_order : (records : List (List (ℕ × ℤ))) → Once (certificate_order records)
-Once-certificate_order records = Once-from_sorted (by_twu records) (by_twu_total records) (certificate_order records) (sorted-ranking (by_twu records) (by_twu_total records) (items_of records))
+Once-certificate_order records = Once-from_sorted (by_twu records) (by_twu_total records) (certificate_order records)
+    (sorted-ranking (by_twu records) (by_twu_total records) (items_of records))

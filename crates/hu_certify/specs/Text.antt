@@ -21,7 +21,8 @@ child_bound records prefix item later = cut_bound records (prefix ++ item ∷ []
 abbrev pub children_of : List (List (ℕ × ℤ)) → List ℕ → List ℕ → List (ℕ × ℤ)
 children_of records prefix [] = []
 children_of records prefix (item ∷ later) =
-    (if stands_with records prefix item then (item, child_bound records prefix item later) ∷ [] else [])
+    (if stands_with records prefix item then
+    (item, child_bound records prefix item later) ∷ [] else [])
     ++ children_of records prefix later
 
 -- what is written of a bound: `=` (byte 61) and the bound where it is below the minimum
@@ -40,21 +41,27 @@ prefix_text prefix = join_with_byte 32 (map decimal prefix)
 abbrev pub tokens_text : ℤ → List (ℕ × ℤ) → List ℕ
 tokens_text least children = join_with_byte 32 (map (token_text least) children)
 
--- the line of a prefix that these items may follow, with `:` (byte 58) between its parts
+-- a line of three parts with `:` (byte 58) between: the text of items, what they earn, and tokens
+abbrev pub line_text : ℤ → List ℕ → ℤ → List (ℕ × ℤ) → List ℕ
+line_text least items earned children = items ++ 58 ∷ signed_decimal earned ++ 58 ∷ tokens_text least children
+
+-- the line of a prefix that these items may follow
 abbrev pub line_of : List (List (ℕ × ℤ)) → ℤ → List ℕ → List ℕ → List ℕ
 line_of records least prefix later =
-    prefix_text prefix ++ 58 ∷ signed_decimal (utility records prefix) ++ 58 ∷ tokens_text least (children_of records prefix later)
+    line_text least (prefix_text prefix) (utility records prefix) (children_of records prefix later)
 
 -- whether a prefix with an item more has a line of its own: they stand in some record, and the bound reaches the minimum
 abbrev pub is_opened : List (List (ℕ × ℤ)) → ℤ → List ℕ → ℕ → List ℕ → Bool
-is_opened records least prefix item later = stands_with records prefix item && int_le least (child_bound records prefix item later)
+is_opened records least prefix item later = stands_with records prefix item && int_le least
+    (child_bound records prefix item later)
 
 -- the lines below a prefix
 abbrev pub lines_below : List (List (ℕ × ℤ)) → ℤ → List ℕ → List ℕ → List (List ℕ)
 lines_below records least prefix [] = []
 lines_below records least prefix (item ∷ later) =
     (if is_opened records least prefix item later
-    then line_of records least (prefix ++ item ∷ []) later ∷ lines_below records least (prefix ++ item ∷ []) later
+    then line_of records least (prefix ++ item ∷ []) later ∷ lines_below records least
+    (prefix ++ item ∷ []) later
     else [])
     ++ lines_below records least prefix later
 
@@ -73,7 +80,8 @@ order_line order = codes "order" ++ spaced order
 -- the lines of prefixes: that of the empty one, and those below it
 abbrev pub prefix_lines : List (List (ℕ × ℤ)) → ℤ → List (List ℕ)
 prefix_lines records least =
-    line_of records least [] (certificate_order records) ∷ lines_below records least [] (certificate_order records)
+    line_of records least [] (certificate_order records) ∷ lines_below records least []
+    (certificate_order records)
 
 -- lines that each end with a line feed (byte 10)
 abbrev pub lines_text : List (List ℕ) → List ℕ
@@ -82,4 +90,5 @@ lines_text lines = flat_map (λ line. line ++ 10 ∷ []) lines
 -- the text of a certificate
 abbrev pub certificate_text : List (List (ℕ × ℤ)) → ℤ → List ℕ
 certificate_text records least =
-    lines_text (minimum_line least ∷ order_line (certificate_order records) ∷ prefix_lines records least)
+    lines_text (minimum_line least ∷ order_line
+    (certificate_order records) ∷ prefix_lines records least)

@@ -11,7 +11,8 @@ unfolding digits
 text_of_two = refl
 
 -- no record
-pub text_of_none : certificate_text [] (pos 5) ≡ lines (codes "cert 5" ∷ codes "order" ∷ codes ":0:" ∷ [])
+pub text_of_none : certificate_text [] (pos 5) ≡ lines
+    (codes "cert 5" ∷ codes "order" ∷ codes ":0:" ∷ [])
 unfolding digits
 text_of_none = refl
 

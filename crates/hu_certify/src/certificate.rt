@@ -19,12 +19,16 @@ use std::alloc::Global;
 /// The certificate of a base at a minimum: a text from which hu_proof's check finds that the answer of the task `items` over
 /// the base is whole. It is refused where it has more than 268,435,456 bytes.
 ///
-/// It is written depth first, and takes for each line a sort of what stands in the records of its prefix after that, and
-/// for each token two passes over these records. A prefix of so many items is so many calls deep.
+/// It is written depth first. Each line takes a sort of the cells that stand after its prefix in the records that hold it,
+/// and a pass over these cells for each of its tokens, and another where the token's line follows. The memory is that of
+/// the records over ranks, of the text, and of the places on the way from the empty prefix to the line that is written. A
+/// prefix of so many items is so many calls deep; no record has more than 4,096.
 pub fn certify(alloc: Global, base: &Base<Record>, least: i128) -> Result<Vec<u8>, CertFault>
-    ensures text { IfOk result (λ text. text.items ≡ certificate_text (records_of base.now) least) }
+    ensures text { IfOk result (λ text. text.items ≡ certificate_text
+        (records_of base.now) least) }
     ensures short { IfOk result (λ text. length text.items ≤ 268435456) }
-    ensures long { result ≡ Err CertFault.TooLong → 268435456 < length (certificate_text (records_of base.now) least) }
+    ensures long { result ≡ Err CertFault.TooLong
+        → 268435456 < length (certificate_text (records_of base.now) least) }
 {
     // This tells the proof that no sum overflows.
     let _sum = base.sum();
@@ -60,8 +64,11 @@ fn put_prefix(
     requires ranks { AreRanks (length items.now) (spots_of places.now) }
     ensures prefix { OnOk result (prefix.new.items ≡ prefix.old.items) }
     ensures short { OnOk result (length text.new.items ≤ 268435456) }
-    ensures text { (records : List (List (ℕ × ℤ))) (from : ℕ) (path : List ℕ) → IsNode records (numbers_of items.now) from path prefix.old.items (spots_of places.now)
-        → Writes text.old.items text.new.items (lines_text (lines_from records least path (drop from (numbers_of items.now)))) result }
+    ensures text { (records : List (List (ℕ × ℤ))) (from : ℕ) (path : List ℕ)
+        → IsNode records (numbers_of items.now) from path prefix.old.items (spots_of places.now)
+        → Writes text.old.items text.new.items
+        (lines_text (lines_from records least path (drop from (numbers_of items.now))))
+        result }
 {
     let children = children(alloc, places)?;
     put_line(text, prefix, earned(places), items, &children, least)?;

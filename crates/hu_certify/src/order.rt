@@ -65,7 +65,8 @@ fn weigh(alloc: Global, totals: &Totals) -> Result<Vec<Weighed>, NoMemory>
 
 /// The item at a place with what it is ordered by.
 fn weighed_at(totals: &Totals, index: usize) -> Option<Weighed>
-    ensures { option_to_list (option_map weight_of result) ≡ map (weigh Gain) (option_to_list (slice_get totals.now index)) }
+    ensures { option_to_list (option_map weight_of result) ≡ map (weigh Gain)
+        (option_to_list (slice_get totals.now index)) }
 {
     let (item, total) = totals.at(index)?;
     Some(Weighed {
@@ -82,7 +83,8 @@ pub(crate) fn ranked_records(
 ) -> Result<Vec<Vec<Dense>>, NoMemory>
     requires apart { IsDistinct nat_eq (numbers_of items.now.keys) }
     requires few { length items.now.keys ≤ 2 ^ 32 }
-    ensures value { IfOk result (λ ranked. map pairs_in ranked.items ≡ map (cells_from 0 (numbers_of items.now.keys)) records.now) }
+    ensures value { IfOk result (λ ranked. map pairs_in
+        ranked.items ≡ map (cells_from 0 (numbers_of items.now.keys)) records.now) }
     ensures rules { OnOk result (AllByRecursion IsRecord records.now) }
 {
     let mut ranked = Vec::with_capacity(alloc, records.len())?;
@@ -101,7 +103,8 @@ fn ranked_cells(
     requires apart { IsDistinct nat_eq (numbers_of items.now.keys) }
     requires few { length items.now.keys ≤ 2 ^ 32 }
     requires ascending { Ascend (items_in (pairs_of cells.now)) }
-    ensures { IfOk result (λ ranked. pairs_in ranked ≡ cells_from 0 (numbers_of items.now.keys) (pairs_of cells.now)) }
+    ensures { IfOk result (λ ranked. pairs_in ranked ≡ cells_from 0 (numbers_of items.now.keys)
+        (pairs_of cells.now)) }
 {
     let mut ranked = dense_cells(alloc, items, cells)?;
     ranked.sort_unstable_by_key(|cell| cell.rank);
@@ -115,7 +118,8 @@ fn dense_cells(
     cells: &[Cell],
 ) -> Result<Vec<Dense>, NoMemory>
     requires { length items.now.keys ≤ 2 ^ 32 }
-    ensures { IfOk result (λ dense. pairs_in dense ≡ dense_cells (numbers_of items.now.keys) (pairs_of cells.now)) }
+    ensures { IfOk result (λ dense. pairs_in dense ≡ dense_cells (numbers_of items.now.keys)
+        (pairs_of cells.now)) }
 {
     let mut dense = Vec::with_capacity(alloc, cells.len())?;
     for cell in cells {
@@ -129,7 +133,8 @@ fn dense_cells(
 /// A cell with the rank of its item, where that has one.
 fn dense_of(items: &IndexSet<Item>, cell: &Cell) -> Option<Dense>
     requires { length items.now.keys ≤ 2 ^ 32 }
-    ensures { option_to_list (option_map dense_pair result) ≡ dense_of (numbers_of items.now.keys) (pair_of cell.now) }
+    ensures { option_to_list (option_map dense_pair result) ≡ dense_of
+        (numbers_of items.now.keys) (pair_of cell.now) }
 {
     let rank = items.get_index_of(&cell.item)?;
     Some(Dense {

@@ -30,7 +30,8 @@ pub(crate) fn first_places(
     alloc: Global,
     records: &[Vec<Dense>],
 ) -> Result<Vec<Place<'_>>, NoMemory>
-    ensures { IfOk result (λ places. spots_of places.items ≡ map (λ cells. (pairs_in cells, pos 0)) records.now) }
+    ensures { IfOk result (λ places. spots_of
+        places.items ≡ map (λ cells. (pairs_in cells, pos 0)) records.now) }
 {
     let mut places = Vec::with_capacity(alloc, records.len())?;
     for record in records {
@@ -146,7 +147,8 @@ pub(crate) fn standing(alloc: Global, places: &[Place<'_>]) -> Result<Vec<u32>, 
 
 /// The ranks of cells.
 fn push_ranks(ranks: &mut Vec<u32>, cells: &[Dense]) -> Result<(), NoMemory>
-    ensures { OnOk result (ranks.new.items ≡ ranks.old.items ++ items_in (map dense_pair cells.now)) }
+    ensures { OnOk result (ranks.new.items ≡ ranks.old.items
+        ++ items_in (map dense_pair cells.now)) }
 {
     for cell in cells {
         ranks.push(cell.rank)?;
@@ -165,7 +167,8 @@ fn put_in_order(numbers: &mut Vec<u32>)
 /// The children of a prefix, by rank ascending. For each of them two passes over the prefix's places.
 pub(crate) fn children(alloc: Global, places: &[Place<'_>]) -> Result<Vec<Child>, NoMemory>
     requires { HasRoom (spots_of places.now) }
-    ensures { IfOk result (λ children. map rank_pair children.items ≡ children_at (spots_of places.now)) }
+    ensures { IfOk result (λ children. map rank_pair
+        children.items ≡ children_at (spots_of places.now)) }
 {
     let ranks = standing(alloc, places)?;
     let mut children = Vec::with_capacity(alloc, ranks.len())?;

@@ -1,6 +1,7 @@
 use super::*;
 use hu_base::Base;
 use hu_kind::{Cell, Item, NoMemory, Record};
+use hu_proof::check;
 use std::alloc::Global;
 use std::process::Abort;
 use std::test::Fail;
@@ -62,6 +63,22 @@ fn an_item_that_costs(rt: HostRuntime) -> Result<(), Fail> {
         text.as_slice(),
         b"cert 5\norder 2 1 3\n:0:2 1=4 3\n2:4:1 3\n2 1:2:3\n2 1 3:5:\n2 3:7:\n3:5:\n".as_slice()
     );
+    Ok(())
+}
+
+const BASE_A: [&[(u32, i128)]; 5] = [
+    &[(1, 5), (2, 10), (3, 1), (4, 6), (5, 3), (6, 5)],
+    &[(2, 8), (3, 3), (4, 6), (5, 3)],
+    &[(1, 5), (3, 1), (4, 2)],
+    &[(1, 10), (3, 6), (5, 6), (7, 5)],
+    &[(2, 4), (3, 2), (5, 3), (7, 2)],
+];
+
+#[test]
+fn accepted_with_the_answer(rt: HostRuntime) -> Result<(), Fail> {
+    let base = base_of(&rt, rt.alloc(), &BASE_A)?;
+    let text = certify(rt.alloc(), &base, 30)?;
+    assert_eq!(rt; check(rt.alloc(), &base, 30, &text)?.len(), 8);
     Ok(())
 }
 

@@ -4,8 +4,8 @@ ghost use Rattle.std.specs.Prelude.{◌≡◌, ℕ, ◌<◌, [], ◌∷◌, ◌+
 ghost use Rattle.std.specs.Fmt.{signed_decimal};
 ghost use Rattle.std.specs.List.{AllByRecursion};
 ghost use Rattle.hu_totals.specs.Weights.{numbers_of};
-ghost use Rattle.hu_certify.specs.Spots.{named, rank_pair};
-ghost use Rattle.hu_certify.specs.Text.{bound_text, minimum_line, order_line, spaced, token_text, tokens_text};
+ghost use Rattle.hu_certify.specs.Spots.{named_children};
+ghost use Rattle.hu_certify.specs.Text.{bound_text, line_text, minimum_line, order_line, spaced, token_text, tokens_text};
 ghost use Rattle.hu_certify.specs.Written.{gap, Writes};
 
 use crate::fault::CertFault;
@@ -28,7 +28,8 @@ pub(crate) fn push_minimum(text: &mut Vec<u8>, least: i128) -> Result<(), NoMemo
 
 /// Writes line 2.
 pub(crate) fn push_order(text: &mut Vec<u8>, items: &[Item]) -> Result<(), NoMemory>
-    ensures { OnOk result (text.new.items ≡ text.old.items ++ (order_line (numbers_of items.now) ++ 10 ∷ [])) }
+    ensures { OnOk result (text.new.items ≡ text.old.items
+        ++ (order_line (numbers_of items.now) ++ 10 ∷ [])) }
 {
     text.extend_from_slice(b"order")?;
     for item in items {
@@ -57,7 +58,7 @@ pub(crate) fn put_line(
 ) -> Result<(), CertFault>
     requires { AllByRecursion (λ child. child.rank < length items.now) children.now }
     ensures { Writes text.old.items text.new.items
-        ((drop 1 prefix.now ++ 58 ∷ signed_decimal utility ++ 58 ∷ tokens_text least (named (numbers_of items.now) (map rank_pair children.now))) ++ 10 ∷ []) result }
+        (line_text least (drop 1 prefix.now) utility (named_children items.now children.now) ++ 10 ∷ []) result }
 {
     push_line(text, prefix, utility, items, children, least)?;
     if text.len() > MOST_BYTES {
@@ -77,7 +78,7 @@ fn push_line(
 ) -> Result<(), NoMemory>
     requires { AllByRecursion (λ child. child.rank < length items.now) children.now }
     ensures { OnOk result (text.new.items ≡ text.old.items
-        ++ ((drop 1 prefix.now ++ 58 ∷ signed_decimal utility ++ 58 ∷ tokens_text least (named (numbers_of items.now) (map rank_pair children.now))) ++ 10 ∷ [])) }
+        ++ (line_text least (drop 1 prefix.now) utility (named_children items.now children.now) ++ 10 ∷ [])) }
 {
     text.extend_from_slice(without_first(prefix))?;
     text.push(b':')?;
@@ -103,7 +104,8 @@ fn push_tokens(
     least: i128,
 ) -> Result<(), NoMemory>
     requires { AllByRecursion (λ child. child.rank < length items.now) children.now }
-    ensures { OnOk result (text.new.items ≡ text.old.items ++ tokens_text least (named (numbers_of items.now) (map rank_pair children.now))) }
+    ensures { OnOk result (text.new.items ≡ text.old.items
+        ++ tokens_text least (named_children items.now children.now)) }
 {
     for (at, child) in children.iter().enumerate() {
         push_gap(text, at)?;

@@ -34,11 +34,13 @@ pub fn check(
     text: &[u8],
 ) -> Result<Vec<Entry>, CheckFault>
     requires { pos 1 ≤ℤ least }
-    ensures answer { IfOk result (λ entries. entries.items ≡ item_answer (records_of base.now) least None) }
+    ensures answer { IfOk result (λ entries. entries.items
+        ≡ item_answer (records_of base.now) least None) }
     ensures accepted { OnOk result (first_fault (records_of base.now) least text.now ≡ None) }
     ensures refused { IfErr result (λ fault. (fault ≡ CheckFault.NoMemory)
         ⊎ (first_fault (records_of base.now) least text.now ≡ Some fault)) }
-    ensures never_memory { first_fault (records_of base.now) least text.now ≢ Some CheckFault.NoMemory }
+    ensures never_memory { first_fault
+        (records_of base.now) least text.now ≢ Some CheckFault.NoMemory }
 {
     if text.len() > MOST_BYTES {
         return Err(CheckFault::TooLong);
@@ -56,7 +58,8 @@ fn check_text(
     requires least { pos 1 ≤ℤ least }
     requires small { length text.now ≤ 268435456 }
     ensures fault { Judges result (from_minimum (records_of base.now) least (pieces text.now)) }
-    ensures answer { IfOk result (λ entries. entries.items ≡ answer_of_lines (records_of base.now) least (drop 2 (pieces text.now))) }
+    ensures answer { IfOk result (λ entries. entries.items
+        ≡ answer_of_lines (records_of base.now) least (drop 2 (pieces text.now))) }
 {
     let Some((line, rest)) = cut(b'\n', text) else {
         return Err(CheckFault::NotOfForm { line: 1 });
@@ -100,7 +103,8 @@ fn check_order(
     requires least { pos 1 ≤ℤ least }
     requires small { length text.now ≤ 268435456 }
     ensures fault { Judges result (from_order (records_of base.now) least (pieces text.now)) }
-    ensures answer { IfOk result (λ entries. entries.items ≡ answer_of_lines (records_of base.now) least (drop 1 (pieces text.now))) }
+    ensures answer { IfOk result (λ entries. entries.items
+        ≡ answer_of_lines (records_of base.now) least (drop 1 (pieces text.now))) }
 {
     let Some((line, rest)) = cut(b'\n', text) else {
         return Err(CheckFault::NotOfForm { line: 2 });
@@ -121,8 +125,10 @@ fn check_walk(
 ) -> Result<Vec<Entry>, CheckFault>
     requires least { pos 1 ≤ℤ least }
     requires small { length text.now ≤ 268435456 }
-    ensures fault { Judges result (order_fault (records_of base.now) least (Some (numbers_of items.now)) (pieces text.now)) }
-    ensures answer { IfOk result (λ entries. entries.items ≡ answer_of_lines (records_of base.now) least (pieces text.now)) }
+    ensures fault { Judges result (order_fault (records_of base.now) least (Some
+        (numbers_of items.now)) (pieces text.now)) }
+    ensures answer { IfOk result (λ entries. entries.items
+        ≡ answer_of_lines (records_of base.now) least (pieces text.now)) }
 {
     if !is_order(alloc, base.records(), items)? {
         return Err(CheckFault::WrongOrder);

@@ -31,8 +31,10 @@ pub(crate) fn child_tokens(
     requires apart { Apart order.now }
     requires form { is_some (each token_of (words text.now)) ≡ true }
     ensures value { IfOk result (λ tokens. tokens.items ≡ told (each token_of (words text.now))) }
-    ensures later { IfOk result (λ tokens. Follows (drop from order.now) (token_items tokens.items)) }
-    ensures fault { Judges result (option_map (λ item. CheckFault.WrongChild line (record { 0 = item }))
+    ensures later { IfOk result (λ tokens. Follows (drop from order.now)
+        (token_items tokens.items)) }
+    ensures fault { Judges result (option_map
+        (λ item. CheckFault.WrongChild line (record { 0 = item }))
         (wrong_child (drop from order.now) (told (each token_of (words text.now))))) }
 {
     let mut tokens = Vec::new(alloc);
@@ -74,7 +76,8 @@ pub(crate) fn missing(
     places: &[Place<'_>],
 ) -> Option<Item>
     requires { Apart order.now }
-    ensures { option_map (λ item. item.0) result ≡ missing (drop from order.now) named.now (places_of places.now) }
+    ensures { option_map (λ item. item.0) result
+        ≡ missing (drop from order.now) named.now (places_of places.now) }
 {
     let mut low = order.len();
     for place in places {
@@ -126,8 +129,10 @@ pub(crate) fn check_bounds(
 ) -> Result<(), CheckFault>
     requires apart { Apart order.now }
     requires room { HasRoom (drop from order.now) (places_of places.now) }
-    requires later { AllByRecursion (λ token. IsOneOf token.item.0 (drop from order.now)) tokens.now }
-    ensures { Judges result (bound_faults line (drop from order.now) (places_of places.now) tokens.now) }
+    requires later { AllByRecursion
+        (λ token. IsOneOf token.item.0 (drop from order.now)) tokens.now }
+    ensures { Judges result (bound_faults line (drop from order.now)
+        (places_of places.now) tokens.now) }
 {
     for token in tokens {
         let Some(stated) = token.bound else {

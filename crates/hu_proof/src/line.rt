@@ -35,10 +35,12 @@ pub(crate) fn check_line(
 ) -> Result<Vec<Token>, CheckFault>
     requires apart { Apart order.now }
     requires room { HasRoom (drop node.now.from order.now) (places_of node.now.places.items) }
-    ensures fault { Judges result (line_fault_at least line (node_at order.now (numbers_of prefix.now) node.now.from)
+    ensures fault { Judges result (line_fault_at least line (node_at order.now
+        (numbers_of prefix.now) node.now.from)
         (places_of node.now.places.items) (said_of text.now)) }
     ensures tokens { IfOk result (λ tokens. SaysTokens text.now tokens.items) }
-    ensures later { IfOk result (λ tokens. Follows (drop node.now.from order.now) (token_items tokens.items)) }
+    ensures later { IfOk result (λ tokens. Follows (drop node.now.from order.now)
+        (token_items tokens.items)) }
 {
     let Some(said) = line_of(text) else {
         return Err(CheckFault::NotOfForm { line });
@@ -92,7 +94,8 @@ fn check_missing(
 ) -> Result<(), CheckFault>
     requires apart { Apart order.now }
     requires once { Apart (token_items tokens.now) }
-    ensures { Judges result (missing_fault line (drop node.now.from order.now) (token_items tokens.now)
+    ensures { Judges result (missing_fault line (drop node.now.from order.now)
+        (token_items tokens.now)
         (places_of node.now.places.items)) }
 {
     let named = Order::of(alloc, &items_of(alloc, tokens)?)?;

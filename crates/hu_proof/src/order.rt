@@ -23,7 +23,8 @@ use std::marker::Model;
 
 /// The items that line 2 states, where it is of its form.
 pub(crate) fn stated_order(alloc: Global, line: &[u8]) -> Result<Option<Vec<Item>>, NoMemory>
-    ensures { IfOk result (λ stated. option_map (λ items. numbers_of items.items) stated ≡ order_of line.now) }
+    ensures { IfOk result (λ stated. option_map (λ items. numbers_of items.items) stated
+        ≡ order_of line.now) }
 {
     match line.strip_prefix(b"order") {
         Some(rest) => spaced_items(alloc, rest),
@@ -33,7 +34,8 @@ pub(crate) fn stated_order(alloc: Global, line: &[u8]) -> Result<Option<Vec<Item
 
 /// Items that each have a space in front.
 fn spaced_items(alloc: Global, text: &[u8]) -> Result<Option<Vec<Item>>, NoMemory>
-    ensures { IfOk result (λ stated. option_map (λ items. numbers_of items.items) stated ≡ spaced_items text.now) }
+    ensures { IfOk result (λ stated. option_map (λ items. numbers_of items.items) stated
+        ≡ spaced_items text.now) }
 {
     match text.split_first() {
         None => Ok(Some(Vec::new(alloc))),
@@ -44,7 +46,8 @@ fn spaced_items(alloc: Global, text: &[u8]) -> Result<Option<Vec<Item>>, NoMemor
 
 /// Items with one space between.
 fn items_of(alloc: Global, text: &[u8]) -> Result<Option<Vec<Item>>, NoMemory>
-    ensures { IfOk result (λ stated. option_map (λ items. numbers_of items.items) stated ≡ each plain_item (slice_split is_space text.now)) }
+    ensures { IfOk result (λ stated. option_map (λ items. numbers_of items.items) stated
+        ≡ each plain_item (slice_split is_space text.now)) }
 {
     let mut items = Vec::new(alloc);
     let mut left = Some(text);

@@ -38,7 +38,8 @@ pub(crate) fn narrowed<'a>(
     item: Item,
 ) -> Result<Vec<Place<'a>>, NoMemory>
     requires { (later : List ℕ) × HasRoom later (places_of places.now) × IsOneOf item.0 later }
-    ensures { IfOk result (λ narrow. places_of narrow.items ≡ narrowed item.0 (places_of places.now)) }
+    ensures { IfOk result (λ narrow. places_of narrow.items
+        ≡ narrowed item.0 (places_of places.now)) }
 {
     let mut narrow = Vec::new(alloc);
     for place in places {
@@ -51,8 +52,10 @@ pub(crate) fn narrowed<'a>(
 
 /// A place with an item more, where the record has it.
 fn grown<'a>(place: &Place<'a>, item: Item) -> Option<Place<'a>>
-    requires { unsigned_abs place.now.own + unsigned_abs (value_of item.0 (pairs_of place.now.cells.now)) < 2 ^ 127 }
-    ensures { option_to_list (option_map place_of result) ≡ narrowed item.0 (place_of place.now ∷ []) }
+    requires { unsigned_abs place.now.own + unsigned_abs (value_of item.0
+        (pairs_of place.now.cells.now)) < 2 ^ 127 }
+    ensures { option_to_list (option_map place_of result)
+        ≡ narrowed item.0 (place_of place.now ∷ []) }
 {
     let value = value_at(place.cells, item)?;
     Some(Place {
@@ -88,7 +91,8 @@ pub(crate) fn earned(places: &[Place<'_>]) -> i128
 /// How many items of the order stand before an item, where at least so many do.
 pub(crate) fn later_rank(order: &Order, from: usize, item: Item) -> Option<usize>
     requires { Apart order.now }
-    ensures after { IfSome result (λ rank. after item.0 (drop from order.now) ≡ drop (rank + 1) order.now) }
+    ensures after { IfSome result (λ rank. after item.0 (drop from order.now)
+        ≡ drop (rank + 1) order.now) }
     ensures within { IfSome result (λ rank. rank < length order.now) }
     ensures small { IfSome result (λ rank. rank + 1 < 2 ^ 64) }
     ensures some { IfSome result (λ _. is_among item.0 (drop from order.now) ≡ true) }
@@ -116,7 +120,8 @@ fn later_gain(order: &Order, from: usize, cells: &[Cell]) -> i128
 /// A cell's value where that is above 0 and at least so many items of the order stand before its own, else 0.
 fn gain_of(order: &Order, from: usize, cell: &Cell) -> i128
     requires { Apart order.now }
-    ensures value { result ≡ (if is_among cell.now.item.0 (drop from order.now) then positive_part cell.now.value else pos 0) }
+    ensures value { result ≡ (if is_among cell.now.item.0
+        (drop from order.now) then positive_part cell.now.value else pos 0) }
     ensures within { unsigned_abs result ≤ unsigned_abs cell.now.value }
 {
     if later_rank(order, from, cell.item).is_some() {
@@ -129,7 +134,8 @@ fn gain_of(order: &Order, from: usize, cell: &Cell) -> i128
 /// The most that a prefix may earn in a record with an item and with those before which at least so many stand.
 fn share(order: &Order, from: usize, place: &Place<'_>, item: Item) -> i128
     requires apart { Apart order.now }
-    requires room { (later : List ℕ) × IsRoomy later (place_of place.now) × Stands later item.0 (drop from order.now) }
+    requires room { (later : List ℕ) × IsRoomy later (place_of place.now)
+        × Stands later item.0 (drop from order.now) }
     requires fits { absolute_of (pairs_of place.now.cells.now) < 2 ^ 127 }
     ensures value { result ≡ share item.0 (drop from order.now) (place_of place.now) }
     ensures within { unsigned_abs result ≤ absolute_of (pairs_of place.now.cells.now) }
@@ -151,7 +157,8 @@ fn positive_part(sum: i128) -> i128
 /// The most that a prefix may earn with an item and with those before which at least so many stand.
 pub(crate) fn shares(order: &Order, from: usize, places: &[Place<'_>], item: Item) -> i128
     requires apart { Apart order.now }
-    requires room { (later : List ℕ) × HasRoom later (places_of places.now) × Stands later item.0 (drop from order.now) }
+    requires room { (later : List ℕ) × HasRoom later (places_of places.now)
+        × Stands later item.0 (drop from order.now) }
     ensures { result ≡ shares item.0 (drop from order.now) (places_of places.now) }
 {
     let mut sum = 0;

@@ -37,7 +37,8 @@ pub(crate) fn line_of(text: &[u8]) -> Option<Line<'_>>
 
 /// The parts of a line that has just two `:`.
 fn parts_of(text: &[u8]) -> Option<(&[u8], &[u8], &[u8])>
-    ensures some { IfSome result (λ r. slice_split (λ b. b == 58) text.now ≡ r.0.now ∷ r.1.now ∷ r.2.now ∷ []) }
+    ensures some { IfSome result (λ r. slice_split (λ b. b == 58) text.now
+        ≡ r.0.now ∷ r.1.now ∷ r.2.now ∷ []) }
     ensures none { IfNone result (said_of text.now ≡ None) }
 {
     let (prefix, rest) = cut(b':', text)?;

@@ -39,9 +39,11 @@ pub(crate) fn next<'a>(
     path: &mut Vec<Item>,
     waiting: &mut Vec<Waiting<'a>>,
 ) -> Result<Option<Opened<'a>>, NoMemory>
-    ensures some { IfOk result (λ next. IfSome next (λ node. Steps (numbers_of path.old.items) (stack_of waiting.old.items)
+    ensures some { IfOk result (λ next. IfSome next
+        (λ node. Steps (numbers_of path.old.items) (stack_of waiting.old.items)
         (numbers_of path.new.items) (stack_of waiting.new.items) node.from (places_of node.places.items))) }
-    ensures none { IfOk result (λ next. IfNone next ((stack_of waiting.old.items ≡ []) × (stack_of waiting.new.items ≡ []))) }
+    ensures none { IfOk result (λ next. IfNone next ((stack_of waiting.old.items
+        ≡ []) × (stack_of waiting.new.items ≡ []))) }
 {
     let Some(Waiting { depth, item, node }) = waiting.pop() else {
         return Ok(None);
@@ -63,7 +65,8 @@ pub(crate) fn push_children<'a>(
     requires apart { Apart order.now }
     requires room { HasRoom (drop node.now.from order.now) (places_of node.now.places.items) }
     requires later { Follows (drop node.now.from order.now) (token_items tokens.now) }
-    ensures { OnOk result (PushesChildren order.now depth node.now.from (places_of node.now.places.items) tokens.now
+    ensures { OnOk result (PushesChildren order.now depth node.now.from
+        (places_of node.now.places.items) tokens.now
         (stack_of waiting.old.items) (stack_of waiting.new.items)) }
 {
     let mut i = tokens.len();
@@ -86,7 +89,8 @@ fn push_child<'a>(
     requires apart { Apart order.now }
     requires room { HasRoom (drop node.now.from order.now) (places_of node.now.places.items) }
     requires later { IsOneOf token.now.item.0 (drop node.now.from order.now) }
-    ensures { OnOk result (PushesChildren order.now depth node.now.from (places_of node.now.places.items) (token.now ∷ [])
+    ensures { OnOk result (PushesChildren order.now depth node.now.from
+        (places_of node.now.places.items) (token.now ∷ [])
         (stack_of waiting.old.items) (stack_of waiting.new.items)) }
 {
     if token.bound.is_none() {
@@ -109,8 +113,10 @@ fn child_node<'a>(
     requires apart { Apart order.now }
     requires room { HasRoom (drop node.now.from order.now) (places_of node.now.places.items) }
     requires later { IsOneOf item.0 (drop node.now.from order.now) }
-    ensures places { IfOk result (λ child. places_of child.places.items ≡ narrowed item.0 (places_of node.now.places.items)) }
-    ensures after { IfOk result (λ child. drop child.from order.now ≡ after item.0 (drop node.now.from order.now)) }
+    ensures places { IfOk result (λ child. places_of child.places.items
+        ≡ narrowed item.0 (places_of node.now.places.items)) }
+    ensures after { IfOk result (λ child. drop child.from order.now
+        ≡ after item.0 (drop node.now.from order.now)) }
 {
     let Some(rank) = later_rank(order, node.from, item) else {
         unreachable!()
@@ -149,12 +155,15 @@ fn visit<'a>(
 ) -> Result<(), CheckFault>
     requires apart { Apart order.now }
     requires room { HasRoom (drop node.now.from order.now) (places_of node.now.places.items) }
-    ensures fault { Judges result (line_fault_at least line (node_at order.now (numbers_of path.now) node.now.from)
+    ensures fault { Judges result (line_fault_at least line (node_at order.now
+        (numbers_of path.now) node.now.from)
         (places_of node.now.places.items) (said_of text.now)) }
-    ensures pushed { OnOk result ((tokens : List Token) × SaysTokens text.now tokens × Follows (drop node.now.from order.now) (token_items tokens)
+    ensures pushed { OnOk result ((tokens : List Token) × SaysTokens text.now tokens
+        × Follows (drop node.now.from order.now) (token_items tokens)
         × PushesChildren order.now (length path.now) node.now.from (places_of node.now.places.items) tokens
         (stack_of waiting.old.items) (stack_of waiting.new.items)) }
-    ensures found { OnOk result (⟦<All as Collect>⟧.state found.new ≡ offered (⟦<All as Collect>⟧.state found.old)
+    ensures found { OnOk result (⟦<All as Collect>⟧.state found.new
+        ≡ offered (⟦<All as Collect>⟧.state found.old)
         (entry_at (numbers_of path.now) (places_of node.now.places.items) ∷ [])) }
 {
     let tokens = check_line(alloc, order, least, line, path, node, text)?;
@@ -166,7 +175,8 @@ fn visit<'a>(
 /// Offers the entry of the path.
 fn offer(alloc: Global, path: &[Item], node: &Opened<'_>, found: &mut All) -> Result<(), NoMemory>
     requires { (later : List ℕ) × HasRoom later (places_of node.now.places.items) }
-    ensures { Takes (⟦<All as Collect>⟧.state found.old) (entry_at (numbers_of path.now) (places_of node.now.places.items) ∷ [])
+    ensures { Takes (⟦<All as Collect>⟧.state found.old) (entry_at (numbers_of path.now)
+        (places_of node.now.places.items) ∷ [])
         (⟦<All as Collect>⟧.state found.new) result }
 {
     found.offer(Entry {
@@ -189,8 +199,10 @@ pub(crate) fn walk(
     requires apart { Apart order.now }
     requires least { pos 1 ≤ℤ least }
     requires small { length text.now ≤ 268435456 }
-    ensures fault { Judges result (walk (records_of base.now) least 3 (root order.now ∷ []) (pieces text.now)) }
-    ensures answer { IfOk result (λ entries. entries.items ≡ answer_of_lines (records_of base.now) least (pieces text.now)) }
+    ensures fault { Judges result (walk (records_of base.now) least 3 (root order.now ∷ [])
+        (pieces text.now)) }
+    ensures answer { IfOk result (λ entries. entries.items
+        ≡ answer_of_lines (records_of base.now) least (pieces text.now)) }
 {
     // This tells the proof that no sum overflows.
     let _sum = base.sum();
@@ -229,7 +241,8 @@ pub(crate) fn walk(
 /// The node of the empty prefix.
 fn root(alloc: Global, records: &[Record]) -> Result<Opened<'_>, NoMemory>
     ensures from { IfOk result (λ node. node.from ≡ 0) }
-    ensures places { IfOk result (λ node. places_of node.places.items ≡ map (λ r. (r, pos 0)) records.now) }
+    ensures places { IfOk result (λ node. places_of node.places.items
+        ≡ map (λ r. (r, pos 0)) records.now) }
 {
     Ok(Opened {
         from: 0,

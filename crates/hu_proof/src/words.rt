@@ -7,7 +7,8 @@ ghost use Rattle.hu_proof.specs.Words.{words_left};
 
 /// What stands before the first such byte of a text, and what after it.
 pub(crate) fn cut(byte: u8, text: &[u8]) -> Option<(&[u8], &[u8])>
-    ensures found { IfSome result (λ r. slice_split (λ b. b == byte) text.now ≡ r.0.now ∷ slice_split (λ b. b == byte) r.1.now) }
+    ensures found { IfSome result (λ r. slice_split (λ b. b == byte) text.now
+        ≡ r.0.now ∷ slice_split (λ b. b == byte) r.1.now) }
     ensures shorter { IfSome result (λ r. length r.1.now < length text.now) }
     ensures none { IfNone result (slice_split (λ b. b == byte) text.now ≡ text.now ∷ []) }
 {

@@ -36,10 +36,15 @@ returns-in_err-put_line-clause-text t c = λ records from path is.
     let spots = spots_of c.args.places.now in
     let sum : to_z w128 (of_z w128 c.earned.result) ≡ earned spots = omega (arith, ints, c.earned.ensures) in
     let told : map rank_pair c.deref-2.result.now ≡ children_at spots = ap (map rank_pair) c.deref-2.ensures.value ∙ c.in_ok-children.ensures in
-    let line = line-written records (numbers_of c.args.items.now) from path c.args.prefix.now.items spots c.args.least _ c.deref.result.now c.deref-2.result.now is c.deref.ensures.value sum told in
+    let line = line-written records (numbers_of c.args.items.now) from path c.args.prefix.now.items spots c.args.least _ c.deref.result.now
+    c.deref-2.result.now is c.deref.ensures.value sum told in
     let long = rw (to_z-of_z w128 c.args.least c.ranges.least) at c.in_err-put_line.ensures in
-    Writes-err c.args.text.now.items c.put_line.new.text.items (lines_text (lines_from records c.args.least path (drop from (numbers_of c.args.items.now)))) c.from_residual-in_err-put_line.result c.in_err-put_line.field-0.0 c.from_residual-in_err-put_line.ensures.1
-    (λ h. line-long c.args.text.now.items (line_of records c.args.least path (drop from (numbers_of c.args.items.now))) (lines_below records c.args.least path (drop from (numbers_of c.args.items.now))) (subst (λ text. 268435456 < length (c.args.text.now.items ++ (text ++ 10 ∷ []))) line (long h)))
+    Writes-err c.args.text.now.items c.put_line.new.text.items
+    (lines_text (lines_from records c.args.least path (drop from (numbers_of c.args.items.now)))) c.from_residual-in_err-put_line.result
+    c.in_err-put_line.field-0.0 c.from_residual-in_err-put_line.ensures.1
+    (λ h. line-long c.args.text.now.items (line_of records c.args.least path (drop from (numbers_of c.args.items.now)))
+    (lines_below records c.args.least path (drop from (numbers_of c.args.items.now)))
+    (subst (λ text. 268435456 < length (c.args.text.now.items ++ (text ++ 10 ∷ []))) line (long h)))
 
 pub children-init : goal.children-init
 children-init t c = record {
@@ -49,13 +54,16 @@ children-init t c = record {
       let spots = spots_of c.args.places.now in
       let sum : to_z w128 (of_z w128 c.earned.result) ≡ earned spots = omega (arith, ints, c.earned.ensures) in
       let told : map rank_pair c.deref-2.result.now ≡ children_at spots = ap (map rank_pair) c.deref-2.ensures.value ∙ c.in_ok-children.ensures in
-      let line = line-written records (numbers_of c.args.items.now) from path c.args.prefix.now.items spots (to_z w128 (of_z w128 c.args.least)) _ c.deref.result.now c.deref-2.result.now is c.deref.ensures.value sum told in
-      c.in_ok-put_line.ensures.0 ∙ ap (λ text. c.args.text.now.items ++ (text ++ 10 ∷ [])) line ∙ ap (λ text. c.args.text.now.items ++ text) (sym (append-nil _));
+      let line = line-written records (numbers_of c.args.items.now) from path c.args.prefix.now.items spots
+      (to_z w128 (of_z w128 c.args.least)) _ c.deref.result.now c.deref-2.result.now is c.deref.ensures.value sum told in
+      c.in_ok-put_line.ensures.0 ∙ ap (λ text. c.args.text.now.items ++ (text ++ 10 ∷ [])) line
+      ∙ ap (λ text. c.args.text.now.items ++ text) (sym (append-nil _));
 }
 
 pub bounds-items-child : goal.bounds-items-child
 bounds-items-child t c =
-    let told : map rank_pair c.deref-child-items.result.now ≡ children_at (spots_of c.args.places.now) = ap (map rank_pair) c.deref-child-items.ensures.value ∙ c.in_ok-children.ensures in
+    let told : map rank_pair c.deref-child-items.result.now ≡ children_at (spots_of c.args.places.now) = ap (map rank_pair) c.deref-child-items.ensures.value
+    ∙ c.in_ok-children.ensures in
     standing-below (length c.args.items.now) (spots_of c.args.places.now) _ c.requires.ranks
     (rank-stands c.deref-child-items.result.now (spots_of c.args.places.now) c.children.child-index no_child told c.children-test.true)
 
@@ -63,10 +71,13 @@ pub put_prefix-requires : goal.put_prefix-requires
 put_prefix-requires t c =
     let spots = spots_of c.args.places.now in
     let child = get_or c.deref-child-items.result.now c.children.child-index no_child in
-    let told : map rank_pair c.deref-child-items.result.now ≡ children_at spots = ap (map rank_pair) c.deref-child-items.ensures.value ∙ c.in_ok-children.ensures in
+    let told : map rank_pair c.deref-child-items.result.now ≡ children_at spots = ap (map rank_pair) c.deref-child-items.ensures.value
+    ∙ c.in_ok-children.ensures in
     let stands = rank-stands c.deref-child-items.result.now spots c.children.child-index no_child told c.children-test.true in
-    let narrow : spots_of c.deref-then-child-least.result.now ≡ narrowed child.rank spots = ap spots_of c.deref-then-child-least.ensures.value ∙ c.in_ok-narrow.ensures in
-    let smaller : cells_left (spots_of c.deref-then-child-least.result.now) < cells_left spots = subst (λ ss. cells_left ss < cells_left spots) (sym narrow) (fewer child.rank spots stands) in
+    let narrow : spots_of c.deref-then-child-least.result.now ≡ narrowed child.rank spots = ap spots_of c.deref-then-child-least.ensures.value
+    ∙ c.in_ok-narrow.ensures in
+    let smaller : cells_left (spots_of c.deref-then-child-least.result.now) < cells_left spots = subst (λ ss. cells_left ss < cells_left spots) (sym narrow)
+    (fewer child.rank spots stands) in
     let room : HasRoom (spots_of c.deref-then-child-least.result.now) = subst HasRoom (sym narrow) (HasRoom-narrowed child.rank spots c.requires.room) in
     let ranks : AreRanks (length c.args.items.now) (spots_of c.deref-then-child-least.result.now) =
     subst (AreRanks (length c.args.items.now)) (sym narrow) (AreRanks-narrowed (length c.args.items.now) child.rank spots c.requires.ranks) in
@@ -85,17 +96,24 @@ returns-in_err-put_prefix-clause-text t c = λ records from path is.
     let so_far : SoFar records least order from path (take i children) old c.children.text.items = c.children.invariant.text records from path is in
     let stands = rank-stands children spots i no_child told c.children-test.true in
     let below = standing-below (length c.args.items.now) spots child.rank c.requires.ranks stands in
-    let node : IsNode records order (child.rank + 1) (path ++ item_at order child.rank ∷ []) c.push_spaced.new.text.items (spots_of c.deref-then-child-least.result.now) =
-    node-of_child records order from path c.args.prefix.now.items spots child.rank (get_or c.args.items.now child.rank no_item).0 c.children.prefix.items c.push_spaced.new.text.items (spots_of c.deref-then-child-least.result.now)
-    is stands (sym (item-at c.args.items.now child.rank no_item below)) c.children.invariant.prefix c.in_ok-push_spaced.ensures (ap spots_of c.deref-then-child-least.ensures.value ∙ c.in_ok-narrow.ensures) in
-    let long : c.in_err-put_prefix.field-0.0 ≡ TooLong → 268435456 < length (c.children.text.items ++ lines_text (lines_from records least (path ++ item_at order child.rank ∷ []) (drop (child.rank + 1) order))) =
+    let node : IsNode records order (child.rank + 1) (path ++ item_at order child.rank ∷ []) c.push_spaced.new.text.items
+    (spots_of c.deref-then-child-least.result.now) =
+    node-of_child records order from path c.args.prefix.now.items spots child.rank
+    (get_or c.args.items.now child.rank no_item).0 c.children.prefix.items c.push_spaced.new.text.items (spots_of c.deref-then-child-least.result.now)
+    is stands (sym (item-at c.args.items.now child.rank no_item below)) c.children.invariant.prefix c.in_ok-push_spaced.ensures
+    (ap spots_of c.deref-then-child-least.ensures.value ∙ c.in_ok-narrow.ensures) in
+    let long : c.in_err-put_prefix.field-0.0 ≡ TooLong
+    → 268435456 < length (c.children.text.items ++ lines_text
+    (lines_from records least (path ++ item_at order child.rank ∷ []) (drop (child.rank + 1) order))) =
     c.in_err-put_prefix.ensures.text records (child.rank + 1) (path ++ item_at order child.rank ∷ []) node in
     let fits : FitsSigned w128 child.bound = search rules in
     let opens : int_le least child.bound ≡ true = ap (int_le least) (sym (to_z-of_z w128 child.bound fits)) ∙ c.if-child-least.true in
-    Writes-err old c.put_prefix.new.text.items (lines_text (lines_from records c.args.least path (drop from order))) c.from_residual-in_err-put_prefix.result c.in_err-put_prefix.field-0.0
+    Writes-err old c.put_prefix.new.text.items (lines_text (lines_from records c.args.least path (drop from order))) c.from_residual-in_err-put_prefix.result
+    c.in_err-put_prefix.field-0.0
     c.from_residual-in_err-put_prefix.ensures.1
     (λ h. subst (λ z. 268435456 < length (old ++ lines_text (lines_from records z path (drop from order)))) (to_z-of_z w128 c.args.least c.ranges.least)
-    (so_far-long records order from path c.args.prefix.now.items spots least children i no_child old c.children.text.items is told c.children-test.true so_far opens (long h)))
+    (so_far-long records order from path c.args.prefix.now.items spots least children i no_child old c.children.text.items is told c.children-test.true
+    so_far opens (long h)))
 
 pub children-preserved : goal.children-preserved
 children-preserved t c =
@@ -115,18 +133,26 @@ children-preserved t c =
       | then-child-least+in_ok-narrow+in_ok-push_spaced+in_ok-put_prefix w ↦ record {
         prefix =
             ap (λ v. v.items) w.prefix-is
-            ∙ prefix-back c.children.prefix.items w.push_spaced.new.text.items w.put_prefix.new.prefix.items w.truncate.new.self.items (spaced ((get_or c.args.items.now child.rank no_item).0 ∷ [])) c.len-length.result
-            (omega (arith, c.len-length.ensures, c.args.prefix.now.ok, ap length c.children.invariant.prefix)) w.in_ok-push_spaced.ensures w.in_ok-put_prefix.ensures.prefix w.truncate.ensures.items
+            ∙ prefix-back c.children.prefix.items w.push_spaced.new.text.items w.put_prefix.new.prefix.items w.truncate.new.self.items
+            (spaced ((get_or c.args.items.now child.rank no_item).0 ∷ [])) c.len-length.result
+            (omega (arith, c.len-length.ensures, c.args.prefix.now.ok, ap length c.children.invariant.prefix)) w.in_ok-push_spaced.ensures
+            w.in_ok-put_prefix.ensures.prefix w.truncate.ensures.items
             ∙ c.children.invariant.prefix;
         short = subst (λ v. length v.items ≤ 268435456) (sym w.text-is) w.in_ok-put_prefix.ensures.short;
         text = λ records from path is.
             let so_far : SoFar records least order from path (take i children) old c.children.text.items = c.children.invariant.text records from path is in
-            let node : IsNode records order (child.rank + 1) (path ++ item_at order child.rank ∷ []) w.push_spaced.new.text.items (spots_of w.deref-then-child-least.result.now) =
-            node-of_child records order from path c.args.prefix.now.items spots child.rank (get_or c.args.items.now child.rank no_item).0 c.children.prefix.items w.push_spaced.new.text.items (spots_of w.deref-then-child-least.result.now)
-            is stands (sym (item-at c.args.items.now child.rank no_item below)) c.children.invariant.prefix w.in_ok-push_spaced.ensures (ap spots_of w.deref-then-child-least.ensures.value ∙ w.in_ok-narrow.ensures) in
-            let written : w.put_prefix.new.text.items ≡ c.children.text.items ++ lines_text (lines_from records least (path ++ item_at order child.rank ∷ []) (drop (child.rank + 1) order)) =
+            let node : IsNode records order (child.rank + 1) (path ++ item_at order child.rank ∷ []) w.push_spaced.new.text.items
+            (spots_of w.deref-then-child-least.result.now) =
+            node-of_child records order from path c.args.prefix.now.items spots child.rank
+            (get_or c.args.items.now child.rank no_item).0 c.children.prefix.items w.push_spaced.new.text.items
+            (spots_of w.deref-then-child-least.result.now)
+            is stands (sym (item-at c.args.items.now child.rank no_item below)) c.children.invariant.prefix w.in_ok-push_spaced.ensures
+            (ap spots_of w.deref-then-child-least.ensures.value ∙ w.in_ok-narrow.ensures) in
+            let written : w.put_prefix.new.text.items ≡ c.children.text.items
+            ++ lines_text (lines_from records least (path ++ item_at order child.rank ∷ []) (drop (child.rank + 1) order)) =
             (w.in_ok-put_prefix.ensures.text records (child.rank + 1) (path ++ item_at order child.rank ∷ []) node).0 in
-            so_far-opened records least order from path children i no_child old c.children.text.items c.if-child-least.text.items c.children-test.true so_far (bound ∙ w.if-child-least.true)
+            so_far-opened records least order from path children i no_child old c.children.text.items c.if-child-least.text.items c.children-test.true so_far
+            (bound ∙ w.if-child-least.true)
             (ap (λ v. v.items) w.text-is ∙ written);
       }
       | else-child-least w ↦ record {
@@ -134,7 +160,8 @@ children-preserved t c =
         short = subst (λ v. length v.items ≤ 268435456) (sym w.text-is) c.children.invariant.short;
         text = λ records from path is.
             let so_far : SoFar records least order from path (take i children) old c.children.text.items = c.children.invariant.text records from path is in
-            ap (λ v. v.items) w.text-is ∙ so_far-cut records least order from path children i no_child old c.children.text.items c.children-test.true so_far (bound ∙ w.if-child-least.false);
+            ap (λ v. v.items) w.text-is ∙ so_far-cut records least order from path children i no_child old c.children.text.items c.children-test.true so_far
+            (bound ∙ w.if-child-least.false);
       }
     ]
 
@@ -152,6 +179,10 @@ returns-clause-text t c = λ records from path is.
     let i = c.children.child-index in
     let old = c.args.text.now.items in
     let told : map rank_pair children ≡ children_at spots = ap (map rank_pair) c.deref-child-items.ensures.value ∙ c.in_ok-children.ensures in
-    let so_far : SoFar records (to_z w128 (of_z w128 c.args.least)) order from path (take i children) old c.children.text.items = c.children.invariant.text records from path is in
-    let same = subst (λ z. SoFar records z order from path (take i children) old c.children.text.items) (to_z-of_z w128 c.args.least c.ranges.least) so_far in
-    (so_far-whole records order from path c.args.prefix.now.items spots c.args.least children i old c.children.text.items is told c.children-test.false same, c.children.invariant.short)
+    let so_far : SoFar records (to_z w128 (of_z w128 c.args.least)) order from path
+    (take i children) old c.children.text.items = c.children.invariant.text records from path is in
+    let same =
+    subst (λ z. SoFar records z order from path (take i children) old c.children.text.items) (to_z-of_z w128 c.args.least c.ranges.least) so_far in (
+      so_far-whole records order from path c.args.prefix.now.items spots c.args.least children i old c.children.text.items is told c.children-test.false same,
+      c.children.invariant.short,
+    )

@@ -14,5 +14,6 @@ invariant-children l = record {
   short : length l.text.items ≤ 268435456;
   text : (records : List (List (ℕ × ℤ))) (from : ℕ) (path : List ℕ) → IsNode records (numbers_of l.items) from path l.fn.prefix.items (spots_of l.places)
       → l.text.items ≡ l.fn.text.items
-      ++ lines_text (line_of records l.least path (drop from (numbers_of l.items)) ∷ opened_lines records l.least (numbers_of l.items) path (map rank_pair (take l.child-index l.child-items)));
+      ++ lines_text (line_of records l.least path (drop from (numbers_of l.items)) ∷ opened_lines records l.least (numbers_of l.items) path
+      (map rank_pair (take l.child-index l.child-items)));
 }

@@ -26,4 +26,5 @@ returns c =
     let cells = c.args.place.now.rest.now in
     let is = IsCellAt-position c.args.rank cells c.in_ok-at.at no_cell c.in_ok-at.ensures in
     let rest = is.rest ∙ ap (map dense_pair) (sym (range_left cells (c.in_ok-at.at + 1))) in
-    grown-some c.args.rank (spot_of c.args.place.now) _ (get_or cells c.in_ok-at.at no_cell).value _ is.found rest is.value (omega (arith, ints, is.size, c.requires))
+    grown-some c.args.rank (spot_of c.args.place.now) _ (get_or cells c.in_ok-at.at no_cell).value _ is.found rest is.value
+    (omega (arith, ints, is.size, c.requires))

@@ -20,7 +20,9 @@ loop-place-preserved c =
     let more = narrowed-more c.args.rank places i no_place c.loop-place-test.true in
     let before = narrowed c.args.rank (spots_of (take i places)) in
     elim c.match-grown.branch [
-      | in-Some+in_ok-push w ↦ ap (λ v. spots_of v.items) w.narrow-is ∙ ap spots_of w.in_ok-push.ensures.items ∙ map-append spot_of c.loop-place.narrow.items (w.in-Some.one ∷ [])
+      | in-Some+in_ok-push w ↦ ap (λ v. spots_of v.items) w.narrow-is ∙ ap spots_of w.in_ok-push.ensures.items
+          ∙ map-append spot_of c.loop-place.narrow.items (w.in-Some.one ∷ [])
           ∙ ap (λ xs. xs ++ spot_of w.in-Some.one ∷ []) c.loop-place.invariant ∙ (ap (λ ys. before ++ ys) w.in-Some.ensures ∙ sym more)
-      | in_default w ↦ ap (λ v. spots_of v.items) w.narrow-is ∙ c.loop-place.invariant ∙ (sym (append-nil before) ∙ ap (λ ys. before ++ ys) w.in_default.ensures ∙ sym more)
+      | in_default w ↦ ap (λ v. spots_of v.items) w.narrow-is ∙ c.loop-place.invariant
+          ∙ (sym (append-nil before) ∙ ap (λ ys. before ++ ys) w.in_default.ensures ∙ sym more)
     ]

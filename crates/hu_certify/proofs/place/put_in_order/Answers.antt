@@ -2,4 +2,5 @@ use Rattle.hu_certify.proofs.OrderLemmas.{ranking-dedup}
 use Rattle.hu_certify.proofs.place.put_in_order.Goals as goal
 
 pub returns : goal.returns
-returns c = ranking-dedup c.args.numbers.now.items c.sort_unstable.new.self.items c.dedup.new.self.items c.sort_unstable.ensures.permutation c.sort_unstable.ensures.sorted c.dedup.ensures.filtered
+returns c = ranking-dedup c.args.numbers.now.items c.sort_unstable.new.self.items c.dedup.new.self.items c.sort_unstable.ensures.permutation
+    c.sort_unstable.ensures.sorted c.dedup.ensures.filtered

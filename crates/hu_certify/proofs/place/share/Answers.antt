@@ -14,9 +14,18 @@ returns-clause-value c =
     let own = c.args.place.now.own in
     let rest = map dense_pair c.args.place.now.rest.now in
     let within = gain-within rest in
-    let sum : to_z w128 (of_z w128 (to_z w128 (of_z w128 own) +ℤ to_z w128 (of_z w128 c.gain_of.result))) ≡ own +ℤ gain rest = omega (arith, ints, c.requires, c.gain_of.ensures) in
+    let sum : to_z w128 (of_z w128 (to_z w128 (of_z w128 own) +ℤ to_z w128 (of_z w128 c.gain_of.result))) ≡ own +ℤ gain rest = omega
+    (arith, ints, c.requires, c.gain_of.ensures) in
     let same : to_z w128 (of_z w128 c.positive_part.result) ≡ c.positive_part.result = omega (arith, ints) in
     same ∙ c.positive_part.ensures.value ∙ ap positive_part sum
 
 pub returns-clause-within : goal.returns-clause-within
-returns-clause-within c = omega (arith, ints, gain-within (map dense_pair c.args.place.now.rest.now), c.requires, c.positive_part.ensures.within, c.gain_of.ensures)
+returns-clause-within c = omega (
+  arith,
+  ints,
+  gain-within
+      (map dense_pair c.args.place.now.rest.now),
+  c.requires,
+  c.positive_part.ensures.within,
+  c.gain_of.ensures,
+)

@@ -17,5 +17,6 @@ loop-at-preserved c =
     let child = get_or children c.loop-at.at none in
     let fits : FitsSigned w128 child.bound = search rules in
     let within = each-get (λ (one : Child). one.rank < length items) children c.loop-at.at none c.requires c.loop-at-test.true in
-    token-pushed _ items children c.loop-at.at none gone _ _ _ _ _ c.loop-at-test.true within c.loop-at.invariant c.in_ok-push_gap.ensures c.in_ok-push_token.ensures
+    token-pushed _ items children c.loop-at.at none gone _ _ _ _ _ c.loop-at-test.true within c.loop-at.invariant c.in_ok-push_gap.ensures
+    c.in_ok-push_token.ensures
     (ap (λ b. token_text (to_z w128 (of_z w128 c.args.least)) ((get_or items child.rank gone).0, b)) (to_z-of_z w128 child.bound fits))
