@@ -123,6 +123,17 @@ fn certificates(rt: HostRuntime) -> Result<(), Fail> {
     Ok(())
 }
 
+#[test]
+fn a_certificate_too_long(rt: HostRuntime) -> Result<(), Fail> {
+    let words = words_of(rt.alloc(), "check", "5 cert f")?;
+    let text = vec![in rt.alloc(); b'0'; 268_435_457]?;
+    let mut files = MemoryFiles::new(rt.alloc());
+    files.add("f", RECORDS.as_bytes())?;
+    files.add("cert", &text)?;
+    let told = "hupm: cert:1: certificate too long\n";
+    ends(&rt, rt.alloc(), &words, &mut files, (6, "", told))
+}
+
 /// What a byte of a certificate is changed to.
 const BYTES: [u8; 16] = *b"0123456789 :=-\nx";
 
