@@ -4,7 +4,8 @@
 //! What it promises is the whole of the program, and stands in `specs/`: `Job` says what words ask for
 //! ([`read_words`]), `Ending` what a job comes to over the contents of its files, `Run` what a run makes of its
 //! streams by that. A job is a file of `jobs/`, which answers with its text or with what stops it. The crate stands on
-//! hu_input, which reads, on hu_mine, which mines, and on hu_report and hu_drill, which write.
+//! hu_input, which reads, on hu_mine, which mines, on hu_certify and hu_proof, which make and check certificates, and on
+//! hu_report, hu_average and hu_drill, which write.
 #![tactic(auto)]
 
 mod answer;
