@@ -20,13 +20,15 @@ pub record IsFoundSet (records : List (List (ℕ × ℤ))) (least : ℤ) (items 
   pub earns : least ≤ℤ utility records items
 
 -- an entry is that of a sequence: its key is the sequence, its utility and its support are the sequence's
-pub record IsSequenceEntryOf (records : List (List (List (ℕ × ℤ)))) (pattern : List (List ℕ)) (entry : Entry) : Type 0 where
+pub record IsSequenceEntryOf (records : List (List (List (ℕ × ℤ)))) (pattern : List (List ℕ))
+    (entry : Entry) : Type 0 where
   pub key : entry.key ≡ sequence_key pattern
   pub earned : entry.utility ≡ sequence_utility records pattern
   pub held_by : entry.support ≡ sequence_support records pattern
 
 -- a sequence is found: it has an itemset, each has an item and ascends, it occurs in some record, and it earns at least the minimum
-pub record IsFoundSequence (records : List (List (List (ℕ × ℤ)))) (least : ℤ) (pattern : List (List ℕ)) : Type 0 where
+pub record IsFoundSequence (records : List (List (List (ℕ × ℤ)))) (least : ℤ)
+    (pattern : List (List ℕ)) : Type 0 where
   pub some : 0 < length pattern
   pub filled : AllByRecursion (λ items. 0 < length items) pattern
   pub ascending : AllByRecursion Ascend pattern

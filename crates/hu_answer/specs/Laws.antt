@@ -1,5 +1,25 @@
 -- What holds of every answer.
-use Rattle.std.specs.Prelude.{true, is_some, ◌≡◌, ◌↔◌, ℕ, ◌+◌, ◌<◌, ◌≤◌, ℤ, ◌+ℤ◌, ◌≤ℤ◌, Option, None, Some, List, ◌++◌, length, get_or, take}
+use Rattle.std.specs.Prelude.{
+  true,
+  is_some,
+  ◌≡◌,
+  ◌↔◌,
+  ℕ,
+  ◌+◌,
+  ◌<◌,
+  ◌≤◌,
+  ℤ,
+  ◌+ℤ◌,
+  ◌≤ℤ◌,
+  Option,
+  None,
+  Some,
+  List,
+  ◌++◌,
+  length,
+  get_or,
+  take,
+}
 use Rattle.std.specs.List.{AllByRecursion, Contains}
 use Rattle.std.specs.List.Sorted.{IsPermutation}
 use Rattle.hu_kind.specs.declared.entry.Entry.{Entry}
@@ -21,13 +41,16 @@ IsItemAnswer = (records : List (List (ℕ × ℤ))) (least : ℤ) (entry : Entry
 abbrev pub IsClosedAnswer : Type 0
 IsClosedAnswer = (records : List (List (ℕ × ℤ))) (least : ℤ) (entry : Entry) →
     Contains (closed_answer records least None) entry ↔
-    ((items : List ℕ) × IsFoundSet records least items × IsClosedSet records items × IsEntryOf records items entry)
+    ((items : List ℕ) × IsFoundSet records least items × IsClosedSet records items
+    × IsEntryOf records items entry)
 
 -- and in the answer over sequences exactly where it is that of a sequence that is found
 abbrev pub IsSequenceAnswer : Type 0
-IsSequenceAnswer = (records : List (List (List (ℕ × ℤ)))) → AllByRecursion IsSequence records → (least : ℤ) (entry : Entry) →
+IsSequenceAnswer = (records : List (List (List (ℕ × ℤ)))) → AllByRecursion IsSequence records
+    → (least : ℤ) (entry : Entry) →
     Contains (sequence_answer records least None) entry ↔
-    ((pattern : List (List ℕ)) × IsFoundSequence records least pattern × IsSequenceEntryOf records pattern entry)
+    ((pattern : List (List ℕ)) × IsFoundSequence records least pattern
+    × IsSequenceEntryOf records pattern entry)
 
 -- each entry of an answer comes before those after it in the one order
 abbrev pub AnswerAscends : Type 0
@@ -43,7 +66,8 @@ StandsOnce = (least : ℤ) (top : Option ℕ) (patterns : List Entry) (i j : ℕ
 
 -- the answer cut after k is the first k of the whole answer
 abbrev pub IsFirstOfAnswer : Type 0
-IsFirstOfAnswer = (least : ℤ) (k : ℕ) (patterns : List Entry) → answer least (Some k) patterns ≡ take k (answer least None patterns)
+IsFirstOfAnswer = (least : ℤ) (k : ℕ) (patterns : List Entry) → answer least (Some k) patterns
+    ≡ take k (answer least None patterns)
 
 -- what the cut leaves out comes after all that it keeps
 abbrev pub OutsideComesAfter : Type 0
@@ -73,29 +97,34 @@ SupportsAdd = (first second : List (List (ℕ × ℤ))) (items : List ℕ) →
 
 -- the order of the records doesn't matter to the answer over itemsets
 abbrev pub ItemsInAnyOrder : Type 0
-ItemsInAnyOrder = (first second : List (List (ℕ × ℤ))) (least : ℤ) (top : Option ℕ) → IsPermutation first second →
+ItemsInAnyOrder = (first second : List (List (ℕ × ℤ))) (least : ℤ) (top : Option ℕ)
+    → IsPermutation first second →
     item_answer first least top ≡ item_answer second least top
 
 -- nor to that over closed itemsets
 abbrev pub ClosedInAnyOrder : Type 0
-ClosedInAnyOrder = (first second : List (List (ℕ × ℤ))) (least : ℤ) (top : Option ℕ) → IsPermutation first second →
+ClosedInAnyOrder = (first second : List (List (ℕ × ℤ))) (least : ℤ) (top : Option ℕ)
+    → IsPermutation first second →
     closed_answer first least top ≡ closed_answer second least top
 
 -- nor to that over sequences
 abbrev pub SequencesInAnyOrder : Type 0
-SequencesInAnyOrder = (first second : List (List (List (ℕ × ℤ)))) (least : ℤ) (top : Option ℕ) → IsPermutation first second →
+SequencesInAnyOrder = (first second : List (List (List (ℕ × ℤ)))) (least : ℤ) (top : Option ℕ)
+    → IsPermutation first second →
     sequence_answer first least top ≡ sequence_answer second least top
 
 -- a sequence has a best utility in a record exactly where it occurs there
 abbrev pub HasBestWhereItOccurs : Type 0
 HasBestWhereItOccurs = (pattern : List (List ℕ)) (elements : List (List (ℕ × ℤ))) →
-    (is_some (best_utility pattern elements) ≡ true) ↔ ((places : List ℕ) × (is_occurrence pattern elements places ≡ true))
+    (is_some (best_utility pattern elements) ≡ true)
+    ↔ ((places : List ℕ) × (is_occurrence pattern elements places ≡ true))
 
 -- and that is the greatest sum over its occurrences: one earns it, and none earns more
 abbrev pub BestIsReached : Type 0
 BestIsReached = (pattern : List (List ℕ)) (elements : List (List (ℕ × ℤ))) (best : ℤ) →
     best_utility pattern elements ≡ Some best →
-    (places : List ℕ) × (is_occurrence pattern elements places ≡ true) × (earned_at pattern elements places ≡ best)
+    (places : List ℕ) × (is_occurrence pattern elements places ≡ true)
+    × (earned_at pattern elements places ≡ best)
 
 abbrev pub NoneEarnsMore : Type 0
 NoneEarnsMore = (pattern : List (List ℕ)) (elements : List (List (ℕ × ℤ))) (best : ℤ) (places : List ℕ) →

@@ -13,7 +13,8 @@ abbrev pub are_held_at : List (List ℕ) → List (List (ℕ × ℤ)) → List �
 are_held_at [] elements [] = true
 are_held_at [] elements (k ∷ ks) = false
 are_held_at (p ∷ ps) elements [] = false
-are_held_at (p ∷ ps) elements (k ∷ ks) = (nat_lt k (length elements) && holds p (get_or elements k [])) && are_held_at ps elements ks
+are_held_at (p ∷ ps) elements (k ∷ ks) =
+    (nat_lt k (length elements) && holds p (get_or elements k [])) && are_held_at ps elements ks
 
 -- whether a sequence occurs at places of a record
 abbrev pub is_occurrence : List (List ℕ) → List (List (ℕ × ℤ)) → List ℕ → Bool

@@ -45,7 +45,14 @@ not_at_one_place = refl
 
 -- in base A {2, 5} is found at 30 and not at 32
 pub found_at_30 : IsFoundSet base_a (pos 30) (2 ∷ 5 ∷ [])
-found_at_30 = record { some = ltb-true 0 2 refl; ascending = ((ltb-true 2 5 refl, tt), (tt, tt)); held = ltb-true 0 3 refl; earns = record { le = tt } }
+found_at_30 =
+    record {
+      some = ltb-true 0 2 refl;
+      ascending = ((ltb-true 2 5 refl, tt), (tt, tt));
+      held =
+          ltb-true 0 3 refl;
+      earns = record { le = tt };
+    }
 
 pub not_found_at_32 : IsFoundSet base_a (pos 32) (2 ∷ 5 ∷ []) → ⊥
 not_found_at_32 found = found.earns.le
@@ -74,8 +81,10 @@ sequence_found_at_8 = record {
 pub sequence_not_found_at_9 : IsFoundSequence (later_is_greatest ∷ []) (pos 9) ((1 ∷ []) ∷ (2 ∷ []) ∷ []) → ⊥
 sequence_not_found_at_9 found = found.earns.le
 
-pub entry_of_sequence : IsSequenceEntryOf (later_is_greatest ∷ []) ((1 ∷ []) ∷ (2 ∷ []) ∷ []) (sequence_entry_of ((1 ∷ []) ∷ (2 ∷ []) ∷ []) 8 1)
+pub entry_of_sequence : IsSequenceEntryOf (later_is_greatest ∷ []) ((1 ∷ []) ∷ (2 ∷ []) ∷ [])
+    (sequence_entry_of ((1 ∷ []) ∷ (2 ∷ []) ∷ []) 8 1)
 entry_of_sequence = record { key = refl; earned = refl; held_by = refl }
 
-pub not_with_support_of_2 : IsSequenceEntryOf (later_is_greatest ∷ []) ((1 ∷ []) ∷ (2 ∷ []) ∷ []) (sequence_entry_of ((1 ∷ []) ∷ (2 ∷ []) ∷ []) 8 2) → ⊥
+pub not_with_support_of_2 : IsSequenceEntryOf (later_is_greatest ∷ []) ((1 ∷ []) ∷ (2 ∷ []) ∷ [])
+    (sequence_entry_of ((1 ∷ []) ∷ (2 ∷ []) ∷ []) 8 2) → ⊥
 not_with_support_of_2 is = subst (λ n. T (n == 2)) is.held_by tt

@@ -186,7 +186,8 @@ bound-within (cells ∷ records) set = by (holds set cells) (bound-within record
 
 support-within : (records : List (List (ℕ × ℤ))) (set : List ℕ) → support records set ≤ length records
 support-within [] set = omega arith
-support-within (cells ∷ records) set = let sum = sum_by-cons (λ c. cond (holds set c) 1 0) cells records in by (holds set cells) sum (support-within records set)
+support-within (cells ∷ records) set = let sum =
+    sum_by-cons (λ c. cond (holds set c) 1 0) cells records in by (holds set cells) sum (support-within records set)
   where
     by : (b : Bool) → support (cells ∷ records) set ≡ cond b 1 0 + support records set → support records set ≤ length records
         → support (cells ∷ records) set ≤ suc (length records)

@@ -11,7 +11,8 @@ use Rattle.hu_kind.specs.Database.{utility, support}
 use Rattle.hu_kind.specs.Order.{Ascend}
 use Rattle.hu_kind.proofs.lemmas.Ascending.{Ascend-across, Ascend-push}
 use Rattle.hu_kind.proofs.lemmas.Each.{each-append, each-weaker, each-drop, each-get, each-right}
-use Rattle.hu_kind.proofs.lemmas.Members.{Member, Member-append_left, Member-append_right, Member-append_cases, Member-map, Member-from_map, Member-from_contains, Contains-from_member}
+use Rattle.hu_kind.proofs.lemmas.Members.{Member, Member-append_left, Member-append_right, Member-append_cases}
+use Rattle.hu_kind.proofs.lemmas.Members.{Member-map, Member-from_map, Member-from_contains, Contains-from_member}
 use Rattle.hu_kind.proofs.lemmas.Occurring.{at_member, by_members}
 use Rattle.hu_totals.specs.Ranked.{Ranking, IsRanking}
 use Rattle.hu_search.specs.Growth.{rank_entry, Grows, InTable}
@@ -27,7 +28,9 @@ use Rattle.hu_average.specs.Best.{BestOf, offered, IsKept, IsLeftOut, IsAtMost, 
 use Rattle.hu_average.specs.Extension.{IsExtension, ranks_of, AreExtensions, entries_of, AreEnough, AreJoined, AreLonger, TakesOpen}
 use Rattle.hu_average.proofs.BestLemmas.{offered-then}
 use Rattle.hu_average.proofs.CoverLemmas.{covers-left_out, covers-kept, covers-none, covers-list, covers-then, covers-as}
-use Rattle.hu_average.proofs.SearchLemmas.{length-nodes, some-member, IsClosedBy, IsPicked, picked-none, picked-next, picked-enough, ascend-skip, ascend-drop, map-drop, map-push, drop-above, above-dropped, take-next, take-more, take-here}
+use Rattle.hu_average.proofs.SearchLemmas.{length-nodes, some-member, IsClosedBy, IsPicked, picked-none, picked-next}
+use Rattle.hu_average.proofs.SearchLemmas.{picked-enough, ascend-skip, ascend-drop, map-drop, map-push, drop-above}
+use Rattle.hu_average.proofs.SearchLemmas.{above-dropped, take-next, take-more, take-here}
 
 -- ---- offers
 

@@ -1,5 +1,25 @@
 -- What a collector by average holds, and what offers make of it.
-use Rattle.std.specs.Prelude.{◌≡◌, ℕ, ◌<◌, ℤ, pos, ◌*ℤ◌, ◌≤ℤ◌, ◌≤◌, ◌⊎◌, false, Option, None, Some, List, [], ◌++◌, length, ◌-◌, slice_get}
+use Rattle.std.specs.Prelude.{
+  ◌≡◌,
+  ℕ,
+  ◌<◌,
+  ℤ,
+  pos,
+  ◌*ℤ◌,
+  ◌≤ℤ◌,
+  ◌≤◌,
+  ◌⊎◌,
+  false,
+  Option,
+  None,
+  Some,
+  List,
+  [],
+  ◌++◌,
+  length,
+  ◌-◌,
+  slice_get,
+}
 use Rattle.std.specs.declared.cmp.Ordering.TheVariants.{Less}
 use Rattle.std.specs.List.{AllByRecursion}
 use Rattle.hu_kind.specs.declared.entry.Entry.{Entry}
@@ -38,7 +58,8 @@ IsKept best = offered best [] ≡ best
 -- there are as many entries as are kept, and all come before an entry
 abbrev pub IsPast : Option ℕ → List Entry → Entry → Type 0
 IsPast None content e = ⊥
-IsPast (Some k) content e = (length content ≡ k) × AllByRecursion (λ other. average_cmp other e ≡ Less) content
+IsPast (Some k) content e =
+    (length content ≡ k) × AllByRecursion (λ other. average_cmp other e ≡ Less) content
 
 -- an entry doesn't reach the least average, or comes after all where no more are kept
 abbrev pub IsLeftOut : BestOf → Entry → Type 0

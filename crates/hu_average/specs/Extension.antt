@@ -49,20 +49,24 @@ pub record AreJoined (r : Ranking) (prefix : Option (List Node)) (set : List ℕ
   pub after : AllByRecursion (λ rank. e.rank < rank) (ranks_of later)
 
 -- the extensions of a set out of others: where the ranks of these were enough, theirs are
-pub record AreLonger (best : BestOf) (r : Ranking) (set : List ℕ) (later longer : List Extension) : Type 0 where
+pub record AreLonger (best : BestOf) (r : Ranking) (set : List ℕ)
+    (later longer : List Extension) : Type 0 where
   pub extensions : AreExtensions r set longer
   pub enough : AreEnough best r set (ranks_of later) → AreEnough best r set (ranks_of longer)
 
 -- no occurring set that holds all ranks of a list's set gets in
 abbrev pub IsClosed : BestOf → Ranking → List Node → Type 0
-IsClosed best r nodes = (set more : List ℕ) → nodes ≡ list_of r.records set → AllByRecursion (Contains more) set
+IsClosed best r nodes = (set more : List ℕ) → nodes ≡ list_of r.records set
+    → AllByRecursion (Contains more) set
     → 0 < length more
-    → 0 < support r.records more → (e : Entry) → e.utility ≡ utility r.records more → length e.key ≡ length more
+    → 0 < support r.records more → (e : Entry) → e.utility ≡ utility r.records more → length e.key
+    ≡ length more
     → IsLeftOut best e
 
 -- an extension is appended, or nothing that holds its set gets in
 abbrev pub TakesOpen : BestOf → Ranking → List Extension → List Extension → ℕ → List Node → Type 0
 TakesOpen best r old new rank list =
-    ((bound : ℤ) × (new ≡ old ++ (record { rank = rank; list = list; bound = bound }) ∷ []) × BoundsList r list bound
+    ((bound : ℤ) × (new ≡ old ++ (record { rank = rank; list = list; bound = bound }) ∷ [])
+    × BoundsList r list bound
     × (0 < length list))
     ⊎ ((new ≡ old) × IsClosed best r list)

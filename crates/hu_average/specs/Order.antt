@@ -9,7 +9,15 @@ use Rattle.std.specs.Cmp.Lexicographic.{slice_cmp}
 use Rattle.std.proofs.Common.{ap, sym, ◌∙◌, arith, subst}
 use Rattle.std.proofs.Math.IntN.{*ℤ_comm, *ℤ-zero, suc_ℤ-*ℤ}
 use Rattle.std.proofs.lemmas.Int.{ints, by_lt_z}
-use Rattle.std.proofs.lemmas.Cmp.{then_total, back_total, on_total, lists_total, int_cmp_total, nat_cmp_total, int_ranked}
+use Rattle.std.proofs.lemmas.Cmp.{
+  then_total,
+  back_total,
+  on_total,
+  lists_total,
+  int_cmp_total,
+  nat_cmp_total,
+  int_ranked,
+}
 use Rattle.hu_kind.specs.declared.entry.Entry.{Entry}
 
 -- a utility and a count of numbers, which is taken as 1 where it is 0
@@ -36,9 +44,11 @@ pub times-suc : (a : ℤ) (n : ℕ) → (a *ℤ pos (suc n)) ≡ ((a *ℤ pos n)
 times-suc a n = *ℤ_comm a (pos (suc n)) ∙ suc_ℤ-*ℤ (pos n) a ∙ ap (λ z. z +ℤ a) (*ℤ_comm (pos n) a)
 
 pub times-add : (a b : ℤ) (n : ℕ) → ((a +ℤ b) *ℤ pos n) ≡ ((a *ℤ pos n) +ℤ (b *ℤ pos n))
-times-add a b zero = let x = *ℤ-zero a in let y = *ℤ-zero b in let z = *ℤ-zero (a +ℤ b) in omega (arith, ints, x, y, z)
+times-add a b zero = let x = *ℤ-zero a in let y = *ℤ-zero b in let z =
+    *ℤ-zero (a +ℤ b) in omega (arith, ints, x, y, z)
 times-add a b (suc n) =
-    let x = times-suc a n in let y = times-suc b n in let z = times-suc (a +ℤ b) n in let rest = times-add a b n in omega
+    let x = times-suc a n in let y = times-suc b n in let z = times-suc (a +ℤ b) n in let rest =
+    times-add a b n in omega
     (arith, ints, x, y, z, rest)
 
 pub times-swap : (a : ℤ) (m n : ℕ) → ((a *ℤ pos m) *ℤ pos n) ≡ ((a *ℤ pos n) *ℤ pos m)
@@ -47,27 +57,33 @@ times-swap a zero n =
     let y : (pos 0 *ℤ pos n) ≡ pos 0 = *ℤ_comm (pos 0) (pos n) ∙ *ℤ-zero (pos n) in
     x ∙ y ∙ sym (*ℤ-zero (a *ℤ pos n))
 times-swap a (suc m) n =
-    ap (λ z. z *ℤ pos n) (times-suc a m) ∙ times-add (a *ℤ pos m) a n ∙ ap (λ z. z +ℤ (a *ℤ pos n)) (times-swap a m n)
+    ap (λ z. z *ℤ pos n) (times-suc a m) ∙ times-add (a *ℤ pos m) a n
+    ∙ ap (λ z. z +ℤ (a *ℤ pos n)) (times-swap a m n)
     ∙ sym (times-suc (a *ℤ pos n) m)
 
 pub times-le : (a b : ℤ) (n : ℕ) → a ≤ℤ b → (a *ℤ pos n) ≤ℤ (b *ℤ pos n)
 times-le a b zero h = let x = *ℤ-zero a in let y = *ℤ-zero b in omega (arith, ints, x, y)
-times-le a b (suc n) h = let x = times-suc a n in let y = times-suc b n in let rest = times-le a b n h in omega
+times-le a b (suc n) h = let x = times-suc a n in let y = times-suc b n in let rest =
+    times-le a b n h in omega
     (arith, ints, x, y, rest)
 
 pub times-lt : (a b : ℤ) (n : ℕ) → 0 < n → a <ℤ b → (a *ℤ pos n) <ℤ (b *ℤ pos n)
 times-lt a b zero some h = absurd (omega (arith, some))
 times-lt a b (suc n) some h =
-    let x = times-suc a n in let y = times-suc b n in let rest = times-le a b n (omega (arith, ints, h)) in omega
+    let x = times-suc a n in let y = times-suc b n in let rest =
+    times-le a b n (omega (arith, ints, h)) in omega
     (arith, ints, x, y, rest, h)
 
 pub times-lt_cancel : (a b : ℤ) (n : ℕ) → (a *ℤ pos n) <ℤ (b *ℤ pos n) → a <ℤ b
-times-lt_cancel a b n h = by_lt_z a b (λ lt. lt) (λ le. let over = times-le b a n le in absurd (omega (arith, ints, over, h)))
+times-lt_cancel a b n h =
+    by_lt_z a b (λ lt. lt) (λ le. let over = times-le b a n le in absurd
+    (omega (arith, ints, over, h)))
 
 pub times-eq_cancel : (a b : ℤ) (n : ℕ) → 0 < n → (a *ℤ pos n) ≡ (b *ℤ pos n) → a ≡ b
 times-eq_cancel a b n some h = by_lt_z a b
     (λ lt. let over = times-lt a b n some lt in absurd (omega (arith, ints, over, h)))
-    (λ le. by_lt_z b a (λ gt. let over = times-lt b a n some gt in absurd (omega (arith, ints, over, h))) (λ ge. omega
+    (λ le. by_lt_z b a (λ gt. let over = times-lt b a n some gt in absurd
+    (omega (arith, ints, over, h))) (λ ge. omega
     (arith, ints, le, ge)))
 
 -- ---- averages are in a total order
@@ -94,11 +110,14 @@ under-trans a b c h k =
 same-times : (a b c : Average) → (a.0 *ℤ pos (max b.1 1)) ≡ (b.0 *ℤ pos (max a.1 1))
     → ((a.0 *ℤ pos (max c.1 1)) *ℤ pos (max b.1 1)) ≡ ((b.0 *ℤ pos (max c.1 1)) *ℤ pos (max a.1 1))
 same-times a b c e =
-    times-swap a.0 (max c.1 1) (max b.1 1) ∙ ap (λ z. z *ℤ pos (max c.1 1)) e ∙ times-swap b.0 (max a.1 1) (max c.1 1)
+    times-swap a.0 (max c.1 1) (max b.1 1) ∙ ap (λ z. z *ℤ pos (max c.1 1)) e
+    ∙ times-swap b.0 (max a.1 1) (max c.1 1)
 
-fraction_congr : (a b c : Average) → (a.0 *ℤ pos (max b.1 1)) ≡ (b.0 *ℤ pos (max a.1 1)) → fraction_cmp a c ≡ fraction_cmp b c
+fraction_congr : (a b c : Average) → (a.0 *ℤ pos (max b.1 1)) ≡ (b.0 *ℤ pos (max a.1 1))
+    → fraction_cmp a c ≡ fraction_cmp b c
 fraction_congr a b c e = int_cmp_is (b.0 *ℤ pos (max c.1 1)) (c.0 *ℤ pos (max b.1 1)) (fraction_cmp a c)
-    (by (fraction_cmp a c) (int_ranked (a.0 *ℤ pos (max c.1 1)) (c.0 *ℤ pos (max a.1 1)) (fraction_cmp a c) refl))
+    (by (fraction_cmp a c) (int_ranked (a.0 *ℤ pos (max c.1 1)) (c.0 *ℤ pos (max a.1 1))
+    (fraction_cmp a c) refl))
   where
     n : ℕ
     n = max a.1 1
@@ -111,12 +130,14 @@ fraction_congr a b c e = int_cmp_is (b.0 *ℤ pos (max c.1 1)) (c.0 *ℤ pos (ma
 
     by : (r : Ordering) → MatchOrdering r ((a.0 *ℤ pos (max c.1 1)) <ℤ (c.0 *ℤ pos (max a.1 1))) ((a.0 *ℤ pos
         (max c.1 1)) ≡ (c.0 *ℤ pos (max a.1 1))) ((c.0 *ℤ pos (max a.1 1)) <ℤ (a.0 *ℤ pos (max c.1 1)))
-        → MatchOrdering r ((b.0 *ℤ pos (max c.1 1)) <ℤ (c.0 *ℤ pos (max b.1 1))) ((b.0 *ℤ pos (max c.1 1)) ≡ (c.0 *ℤ pos
+        → MatchOrdering r ((b.0 *ℤ pos (max c.1 1)) <ℤ (c.0 *ℤ pos (max b.1 1)))
+        ((b.0 *ℤ pos (max c.1 1)) ≡ (c.0 *ℤ pos
         (max b.1 1))) ((c.0 *ℤ pos (max b.1 1)) <ℤ (b.0 *ℤ pos (max c.1 1)))
     by Less h =
         let x = times-lt (a.0 *ℤ pos (max c.1 1)) (c.0 *ℤ pos (max a.1 1)) (max b.1 1) (count_some b.1) h in
         let s = same-times a b c e in let t = times-swap c.0 (max a.1 1) (max b.1 1) in
-        times-lt_cancel (b.0 *ℤ pos (max c.1 1)) (c.0 *ℤ pos (max b.1 1)) (max a.1 1) (omega (arith, ints, x, s, t))
+        times-lt_cancel (b.0 *ℤ pos (max c.1 1)) (c.0 *ℤ pos (max b.1 1)) (max a.1 1)
+        (omega (arith, ints, x, s, t))
     by Equal h =
         let x = ap (λ z. z *ℤ pos (max b.1 1)) h in
         let s = same-times a b c e in let t = times-swap c.0 (max a.1 1) (max b.1 1) in
@@ -125,21 +146,27 @@ fraction_congr a b c e = int_cmp_is (b.0 *ℤ pos (max c.1 1)) (c.0 *ℤ pos (ma
     by Greater h =
         let x = times-lt (c.0 *ℤ pos (max a.1 1)) (a.0 *ℤ pos (max c.1 1)) (max b.1 1) (count_some b.1) h in
         let s = same-times a b c e in let t = times-swap c.0 (max a.1 1) (max b.1 1) in
-        times-lt_cancel (c.0 *ℤ pos (max b.1 1)) (b.0 *ℤ pos (max c.1 1)) (max a.1 1) (omega (arith, ints, x, s, t))
+        times-lt_cancel (c.0 *ℤ pos (max b.1 1)) (b.0 *ℤ pos (max c.1 1)) (max a.1 1)
+        (omega (arith, ints, x, s, t))
 
 fraction_cmp_total : IsTotalOrder fraction_cmp
 unfolding Under
 fraction_cmp_total = record {
   antisymm = λ a b. int_cmp_total.antisymm (a.0 *ℤ pos (max b.1 1)) (b.0 *ℤ pos (max a.1 1));
   trans = λ a b c h k.
-      let x : Under a b = subst (λ r. MatchOrdering r (Under a b) ((a.0 *ℤ pos (max b.1 1)) ≡ (b.0 *ℤ pos (max a.1 1)))
+      let x : Under a b =
+      subst (λ r. MatchOrdering r (Under a b) ((a.0 *ℤ pos (max b.1 1))
+      ≡ (b.0 *ℤ pos (max a.1 1)))
       (Under b a)) h
       (int_ranked (a.0 *ℤ pos (max b.1 1)) (b.0 *ℤ pos (max a.1 1)) (fraction_cmp a b) refl) in
-      let y : Under b c = subst (λ r. MatchOrdering r (Under b c) ((b.0 *ℤ pos (max c.1 1)) ≡ (c.0 *ℤ pos (max b.1 1)))
+      let y : Under b c =
+      subst (λ r. MatchOrdering r (Under b c) ((b.0 *ℤ pos (max c.1 1))
+      ≡ (c.0 *ℤ pos (max b.1 1)))
       (Under c b)) k
       (int_ranked (b.0 *ℤ pos (max c.1 1)) (c.0 *ℤ pos (max b.1 1)) (fraction_cmp b c) refl) in
       sym (int_cmp_is (a.0 *ℤ pos (max c.1 1)) (c.0 *ℤ pos (max a.1 1)) Less (under-trans a b c x y));
-  congr = λ a b c h. fraction_congr a b c (subst (λ r. MatchOrdering r (Under a b) ((a.0 *ℤ pos (max b.1 1)) ≡ (b.0 *ℤ pos
+  congr = λ a b c h. fraction_congr a b c (subst
+      (λ r. MatchOrdering r (Under a b) ((a.0 *ℤ pos (max b.1 1)) ≡ (b.0 *ℤ pos
       (max a.1 1))) (Under b a)) h
       (int_ranked (a.0 *ℤ pos (max b.1 1)) (b.0 *ℤ pos (max a.1 1)) (fraction_cmp a b) refl));
 }

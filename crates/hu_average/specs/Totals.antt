@@ -1,5 +1,21 @@
 -- What single ranks earn, and their bounds, as one pass over the records sums them.
-use Rattle.std.specs.Prelude.{◌≡◌, ℕ, ◌+◌, ◌^◌, ◌<◌, ℤ, pos, ◌+ℤ◌, unsigned_abs, List, [], ◌∷◌, length, slice_index_or, if◌then◌else◌}
+use Rattle.std.specs.Prelude.{
+  ◌≡◌,
+  ℕ,
+  ◌+◌,
+  ◌^◌,
+  ◌<◌,
+  ℤ,
+  pos,
+  ◌+ℤ◌,
+  unsigned_abs,
+  List,
+  [],
+  ◌∷◌,
+  length,
+  slice_index_or,
+  if◌then◌else◌,
+}
 use Rattle.hu_kind.specs.Record.{has, value_of}
 use Rattle.hu_kind.specs.Database.{utility, support}
 use Rattle.hu_totals.specs.Ranked.{Ranking}
@@ -38,7 +54,9 @@ pub record Fits (total share : RankTotal) : Type 0 where
 
 -- the total of a rank over records: what its set earns, in how many of them it stands, and its bound
 abbrev pub total_of : List (List (ℕ × ℤ)) → ℕ → RankTotal
-total_of records rank = total_with (utility records (rank ∷ [])) (support records (rank ∷ [])) (average_bound records (rank ∷ []))
+total_of records rank =
+    total_with (utility records (rank ∷ [])) (support records (rank ∷ []))
+    (average_bound records (rank ∷ []))
 
 -- the totals of all ranks
 pub record AreTotals (r : Ranking) (totals : List RankTotal) : Type 0 where

@@ -24,7 +24,8 @@ averages_at_14 = refl
 
 -- the first four
 pub first_four_averages : average_answer base_a (pos 1) (Some 4) ≡
-    entry_of (2 ∷ []) 22 3 ∷ entry_of (1 ∷ []) 20 3 ∷ entry_of (2 ∷ 5 ∷ []) 31 3 ∷ entry_of (2 ∷ 4 ∷ []) 30 2 ∷ []
+    entry_of (2 ∷ []) 22 3 ∷ entry_of (1 ∷ []) 20 3 ∷ entry_of (2 ∷ 5 ∷ []) 31 3 ∷ entry_of
+    (2 ∷ 4 ∷ []) 30 2 ∷ []
 unfolding average_cmp
 first_four_averages = refl
 
@@ -37,7 +38,8 @@ signed =
     ∷ []
 
 pub signed_averages_at_5 : average_answer signed (pos 5) None ≡
-    entry_of (3 ∷ []) 9 2 ∷ entry_of (2 ∷ []) 6 3 ∷ entry_of (2 ∷ 3 ∷ []) 12 2 ∷ entry_of (1 ∷ 3 ∷ []) 10 1 ∷ []
+    entry_of (3 ∷ []) 9 2 ∷ entry_of (2 ∷ []) 6 3 ∷ entry_of (2 ∷ 3 ∷ []) 12 2 ∷ entry_of
+    (1 ∷ 3 ∷ []) 10 1 ∷ []
 unfolding average_cmp
 signed_averages_at_5 = refl
 

@@ -55,7 +55,8 @@ impl Best {
     pub(crate) fn leaves_out(&self, average: Average) -> bool
         requires some { 0 < average.count }
         ensures kept { IsKept self.now }
-        ensures out { result ≡ true → (e : Entry) → IsAtMost (average.utility, average.count) e → IsLeftOut self.now e }
+        ensures out { result ≡ true → (e : Entry) → IsAtMost (average.utility, average.count) e
+            → IsLeftOut self.now e }
     {
         !average.reaches(self.least) || is_past(&self.entries, self.top, average)
     }

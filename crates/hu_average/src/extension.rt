@@ -92,7 +92,8 @@ fn push_open(
 ) -> Result<(), NoMemory>
     requires list { IsSomeList ranked.now list }
     requires values { values.now ≡ map greatest ranked.now.records }
-    ensures { OnOk result (TakesOpen best.now ranked.now extensions.old.items extensions.new.items rank list) }
+    ensures { OnOk result
+        (TakesOpen best.now ranked.now extensions.old.items extensions.new.items rank list) }
 {
     if list.nodes().is_empty() {
         return Ok(());
@@ -134,7 +135,9 @@ fn offer_extension(
     requires rules { IsRanking ranked.now }
     requires extension { IsExtension ranked.now ranks.now extension.now }
     requires kept { IsKept best.old }
-    ensures { OnOk result (best.new ≡ offered best.old (rank_entry ranked.now (ranks.now ++ extension.now.rank ∷ []) ∷ [])) }
+    ensures { OnOk result
+        (best.new
+        ≡ offered best.old (rank_entry ranked.now (ranks.now ++ extension.now.rank ∷ []) ∷ [])) }
 {
     let utility = extension.list.sum();
     let average = Average {

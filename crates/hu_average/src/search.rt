@@ -103,10 +103,13 @@ fn enter(
     requires rules { IsRanking ranked.now }
     requires values { values.now ≡ map greatest ranked.now.records }
     requires joined { AreJoined ranked.now (option_copied prefix) ranks.old.items extension.now later.now }
-    requires enough { AreEnough best.old ranked.now (ranks.old.items ++ extension.now.rank ∷ []) (ranks_of later.now) }
+    requires enough { AreEnough best.old ranked.now (ranks.old.items ++ extension.now.rank ∷ [])
+        (ranks_of later.now) }
     requires kept { IsKept best.old }
     ensures ranks { OnOk result (ranks.new.items ≡ ranks.old.items) }
-    ensures covers { OnOk result (Covers best.old (Grows ranked.now (ranks.old.items ++ extension.now.rank ∷ [])) best.new) }
+    ensures covers { OnOk result
+        (Covers best.old (Grows ranked.now (ranks.old.items ++ extension.now.rank ∷ []))
+        best.new) }
 {
     if best.leaves_out(Average::whole(extension.bound)) {
         return Ok(());

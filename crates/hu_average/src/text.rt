@@ -28,7 +28,8 @@ pub fn write_averages<S: Sink>(entries: &[Entry], sink: &mut S) -> Result<(), Fa
 }
 
 fn push_line<S: Sink>(entry: &Entry, page: &mut Page, sink: &mut S) -> Result<(), Failed>
-    ensures { Passes (S.state sink.old) (S.state sink.new) result page.old page.new (average_line entry.now) }
+    ensures { Passes (S.state sink.old) (S.state sink.new) result page.old page.new
+        (average_line entry.now) }
 {
     push_key(entry.key.numbers(), page, sink)?;
     page.push_field(b" #UTIL: ", entry.utility, sink)?;
@@ -54,7 +55,8 @@ fn push_key<S: Sink>(numbers: &[i64], page: &mut Page, sink: &mut S) -> Result<(
 
 /// The numbers, with a space before each.
 fn push_spaced<S: Sink>(numbers: &[i64], page: &mut Page, sink: &mut S) -> Result<(), Failed>
-    ensures { Passes (S.state sink.old) (S.state sink.new) result page.old page.new (spaced_text numbers.now) }
+    ensures { Passes (S.state sink.old) (S.state sink.new) result page.old page.new
+        (spaced_text numbers.now) }
 {
     for number in numbers {
         page.push_field(b" ", i128::from(*number), sink)?;

@@ -65,8 +65,10 @@ pub(crate) fn rank_totals(
 /// Adds a record with its greatest value to the totals of the ranks that it holds.
 fn add_record(totals: &mut Vec<RankTotal>, cells: &[Dense], most: i128)
     requires ascending { Ascend (items_in (map dense_pair cells.now)) }
-    requires below { AllByRecursion (λ rank. rank < length totals.old.items) (items_in (map dense_pair cells.now)) }
-    requires fits { (rank : ℕ) → Fits (total_at totals.old.items rank) (share_in most (map dense_pair cells.now) rank) }
+    requires below { AllByRecursion (λ rank. rank < length totals.old.items)
+        (items_in (map dense_pair cells.now)) }
+    requires fits { (rank : ℕ) → Fits (total_at totals.old.items rank)
+        (share_in most (map dense_pair cells.now) rank) }
     ensures len { length totals.new.items ≡ length totals.old.items }
     ensures value { Adds (share_in most (map dense_pair cells.now)) totals.old.items totals.new.items }
 {
@@ -83,7 +85,8 @@ fn add(totals: &mut Vec<RankTotal>, rank: u32, value: i128, most: i128)
     requires within { rank < length totals.old.items }
     requires fits { Fits (total_at totals.old.items rank) (total_with value 1 most) }
     ensures len { length totals.new.items ≡ length totals.old.items }
-    ensures value { Adds (λ other. if other == rank then total_with value 1 most else no_total) totals.old.items totals.new.items }
+    ensures value { Adds (λ other. if other == rank then total_with value 1 most else no_total) totals.old.items
+        totals.new.items }
 {
     totals[rank as usize] = totals[rank as usize].with(value, most);
 }

@@ -75,7 +75,8 @@ impl<R: Absolute> Base<R> {
         ensures ok { OnOk result (self.new ≡ (carried_of self.old, records_of self.old ++ one ∷ [])) }
         ensures within { OnOk result (sum_of R.absolute self.old + R.absolute one < 2 ^ 127) }
         ensures err { OnErr result (self.new ≡ self.old) }
-        ensures fits { sum_of R.absolute self.old + R.absolute one < 2 ^ 127 → IsOkUnless result AddFault.NoMemory }
+        ensures fits { sum_of R.absolute self.old + R.absolute one < 2 ^ 127
+            → IsOkUnless result AddFault.NoMemory }
         ensures too_large { 2 ^ 127 ≤ sum_of R.absolute self.old + R.absolute one
             → result ≡ Err (AddFault.SumTooLarge (pos (sum_of R.absolute self.old)) (pos (R.absolute one))) }
     {
@@ -89,9 +90,11 @@ impl<R: Absolute> Base<R> {
     /// each. A refused base is dropped.
     pub fn join(&mut self, other: Base<R>) -> Result<(), AddFault>
         ensures ok { OnOk result (self.new ≡ (carried_of self.old, records_of self.old ++ records_of other)) }
-        ensures within { OnOk result (sum_of R.absolute self.old + sum_by R.absolute (records_of other) < 2 ^ 127) }
+        ensures within { OnOk result (sum_of R.absolute self.old + sum_by R.absolute
+            (records_of other) < 2 ^ 127) }
         ensures err { OnErr result (self.new ≡ self.old) }
-        ensures fits { sum_of R.absolute self.old + sum_by R.absolute (records_of other) < 2 ^ 127 → IsOkUnless result AddFault.NoMemory }
+        ensures fits { sum_of R.absolute self.old + sum_by R.absolute (records_of other) < 2 ^ 127
+            → IsOkUnless result AddFault.NoMemory }
         ensures too_large { 2 ^ 127 ≤ sum_of R.absolute self.old + sum_by R.absolute (records_of other)
             → result ≡ Err (AddFault.SumTooLarge (pos (sum_of R.absolute self.old)) (pos (sum_by R.absolute (records_of other)))) }
     {
@@ -116,7 +119,8 @@ impl<R: Absolute> Base<R> {
         requires { pos 0 ≤ℤ added }
         ensures sum { IfOk result (λ sum. sum ≡ pos (sum_of R.absolute self.now + unsigned_abs added)) }
         ensures fits { sum_of R.absolute self.now + unsigned_abs added < 2 ^ 127 → IsOk result }
-        ensures too_large { 2 ^ 127 ≤ sum_of R.absolute self.now + unsigned_abs added → result ≡ Err (AddFault.SumTooLarge (pos (sum_of R.absolute self.now)) added) }
+        ensures too_large { 2 ^ 127 ≤ sum_of R.absolute self.now + unsigned_abs added → result
+            ≡ Err (AddFault.SumTooLarge (pos (sum_of R.absolute self.now)) added) }
     {
         let before = self.sum;
         before
@@ -171,7 +175,8 @@ fn shorten<R: Absolute>(records: &mut Vec<R>, count: usize) -> i128
     requires within { count ≤ length records.old.items }
     requires fits { sum_by R.absolute records.old.items < 2 ^ 127 }
     ensures kept { records.new.items ≡ take count records.old.items }
-    ensures sum { pos (sum_by R.absolute records.new.items) +ℤ result ≡ pos (sum_by R.absolute records.old.items) }
+    ensures sum { pos (sum_by R.absolute records.new.items) +ℤ result
+        ≡ pos (sum_by R.absolute records.old.items) }
 {
     let dropped = absolute_sum(&records[count..]);
     records.truncate(count);

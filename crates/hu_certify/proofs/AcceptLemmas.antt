@@ -1,5 +1,7 @@
 -- What the lines of prefixes say has no fault.
-use Rattle.std.proofs.Common.{◌≡◌, ℕ, ◌+◌, ◌<◌, Bool, true, false, not, cond, ◌&&◌, ◌||◌, eqb, ℤ, pos, int_lt, int_le, int_eq, Option, None, Some, List, [], ◌∷◌, ◌++◌, map, length, refl, sym, ap, ◌∙◌, subst, inl, inr, arith, append_assoc}
+use Rattle.std.proofs.Common.{◌≡◌, ℕ, ◌+◌, ◌<◌, Bool, true, false, not, cond, ◌&&◌, ◌||◌, eqb, ℤ, pos, int_lt, int_le}
+use Rattle.std.proofs.Common.{int_eq, Option, None, Some, List, [], ◌∷◌, ◌++◌, map, length, refl, sym, ap, ◌∙◌, subst}
+use Rattle.std.proofs.Common.{inl, inr, arith, append_assoc}
 use Rattle.std.specs.List.{AllByRecursion, list_any}
 use Rattle.std.specs.Str.{bytes_eq}
 use Rattle.std.proofs.lemmas.Bool.{cases_Bool, eq-eqb, ne_eqb}
@@ -10,7 +12,8 @@ use Rattle.hu_kind.specs.Database.{utility}
 use Rattle.hu_kind.specs.First.{first_some}
 use Rattle.hu_kind.proofs.lemmas.Members.{Member, Member-append_right}
 use Rattle.hu_proof.specs.Bounds.{after, cut_bound, stands_with}
-use Rattle.hu_proof.specs.Check.{Node, children, first_such, wrong_child, left_out, wrong_bound_of, wrong_bound, not_cut_of, not_cut, line_fault, opened_by, walk}
+use Rattle.hu_proof.specs.Check.{Node, children, first_such, wrong_child, left_out, wrong_bound_of, wrong_bound}
+use Rattle.hu_proof.specs.Check.{not_cut_of, not_cut, line_fault, opened_by, walk}
 use Rattle.hu_proof.specs.Judged.{token_items}
 use Rattle.hu_proof.specs.Text.{Said, said_of}
 use Rattle.hu_totals.proofs.lemmas.SortedLists.{Once}

@@ -1,5 +1,7 @@
 -- What is written is read again.
-use Rattle.std.proofs.Common.{◌≡◌, ℕ, suc, ◌<◌, ◌≤◌, ◌^◌, Bool, true, false, cond, ◌==◌, nat_lt, ℤ, pos, negsuc, ◌≤ℤ◌, int_lt, unsigned_abs, Option, None, Some, List, [], ◌∷◌, ◌++◌, map, length, slice_index, refl, sym, ap, ◌∙◌, subst, inl, inr, arith, append-nil, append_assoc, decimal}
+use Rattle.std.proofs.Common.{◌≡◌, ℕ, suc, ◌<◌, ◌≤◌, ◌^◌, Bool, true, false, cond, ◌==◌, nat_lt, ℤ, pos, negsuc, ◌≤ℤ◌}
+use Rattle.std.proofs.Common.{int_lt, unsigned_abs, Option, None, Some, List, [], ◌∷◌, ◌++◌, map, length, slice_index}
+use Rattle.std.proofs.Common.{refl, sym, ap, ◌∙◌, subst, inl, inr, arith, append-nil, append_assoc, decimal}
 use Rattle.std.specs.Fmt.{signed_decimal}
 use Rattle.std.specs.List.{AllByRecursion, slice_split, join_with_byte}
 use Rattle.std.specs.Result.{result_ok}
@@ -11,9 +13,11 @@ use Rattle.std.proofs.lemmas.Int.{ints}
 use Rattle.std.proofs.lemmas.Int.Digits.{digits_value-lt}
 use Rattle.hu_kind.specs.Token.{is_space}
 use Rattle.hu_kind.proofs.lemmas.Each.{each-append}
-use Rattle.hu_proof.specs.Text.{pieces, has_idle_zero, plain_number, plain_signed, item_in, plain_item, each, and_more, words, minimum_of, order_of, token_of, token_from, said_of, said_in, said_by}
+use Rattle.hu_proof.specs.Text.{pieces, has_idle_zero, plain_number, plain_signed, item_in, plain_item, each, and_more}
+use Rattle.hu_proof.specs.Text.{words, minimum_of, order_of, token_of, token_from, said_of, said_in, said_by}
 use Rattle.hu_seq.proofs.lemmas.Cuts.{slice_split-append, split-whole}
-use Rattle.hu_seq.proofs.lemmas.Numerals.{Lacks, IsWritten, written-decimal, written-signed_decimal, number-decimal, signed_number-signed_decimal, decimal-begins}
+use Rattle.hu_seq.proofs.lemmas.Numerals.{Lacks, IsWritten, written-decimal, written-signed_decimal, number-decimal}
+use Rattle.hu_seq.proofs.lemmas.Numerals.{signed_number-signed_decimal, decimal-begins}
 use Rattle.hu_certify.specs.Text.{bound_text, token_text, tokens_text, prefix_text, spaced, minimum_line, order_line, lines_text}
 use Rattle.hu_certify.proofs.AcceptLemmas.{said_from}
 

@@ -1,5 +1,7 @@
 -- What is written of a prefix and of those below it.
-use Rattle.std.proofs.Common.{◌≡◌, ℕ, zero, suc, ◌+◌, ◌-◌, ◌<◌, ◌≤◌, true, false, cond, eqb, ℤ, ◌+ℤ◌, int_le, Result, Ok, Err, List, [], ◌∷◌, ◌++◌, map, length, take, drop, get_or, sum_by, refl, sym, ap, ◌∙◌, subst, inl, inr, arith, append_assoc, append-nil, nat_cmp, decimal}
+use Rattle.std.proofs.Common.{◌≡◌, ℕ, zero, suc, ◌+◌, ◌-◌, ◌<◌, ◌≤◌, true, false, cond, eqb, ℤ, ◌+ℤ◌, int_le, Result}
+use Rattle.std.proofs.Common.{Ok, Err, List, [], ◌∷◌, ◌++◌, map, length, take, drop, get_or, sum_by, refl, sym, ap, ◌∙◌}
+use Rattle.std.proofs.Common.{subst, inl, inr, arith, append_assoc, append-nil, nat_cmp, decimal}
 use Rattle.std.specs.Fmt.{signed_decimal}
 use Rattle.std.specs.List.{AllByRecursion}
 use Rattle.std.specs.Result.{IsErrAnd}
@@ -18,7 +20,8 @@ use Rattle.hu_totals.proofs.lemmas.SortedLists.{Once, Once-from_distinct, Member
 use Rattle.hu_certify.specs.declared.fault.CertFault.{CertFault}
 use Rattle.hu_certify.specs.declared.fault.CertFault.TheVariants.{TooLong}
 use Rattle.hu_certify.specs.declared.place.Child.{Child}
-use Rattle.hu_certify.specs.Spots.{SpotOf, past, narrowed, earned, ranks_in, standing, child_at, children_at, named, rank_pair, AreRanks, IsNode, lines_from, opened_lines}
+use Rattle.hu_certify.specs.Spots.{SpotOf, past, narrowed, earned, ranks_in, standing, child_at, children_at, named}
+use Rattle.hu_certify.specs.Spots.{rank_pair, AreRanks, IsNode, lines_from, opened_lines}
 use Rattle.hu_certify.specs.Text.{line_of, lines_below, lines_text, prefix_text, spaced, tokens_text}
 use Rattle.hu_certify.specs.Written.{Writes}
 use Rattle.hu_certify.proofs.NodeLemmas.{spots_with, narrowed-at, earned-with, children-with, lines-with}

@@ -1,5 +1,8 @@
 -- All items by their weight, and the steps of the loops that put them in order.
-use Rattle.std.proofs.Common.{◌≡◌, ◌≢◌, ℕ, suc, ◌<◌, ◌≤◌, ◌+◌, ◌^◌, true, false, cond, eqb, not, nat_eq, ℤ, pos, ◌≤ℤ◌, int_le, List, [], ◌∷◌, ◌++◌, map, filter, length, get_or, take, slice_get, position, refl, sym, ap, ◌∙◌, subst, inl, inr, arith, flat_map, Ordering, Less, Equal, Greater, append-nil, append_assoc}
+use Rattle.std.proofs.Common.{◌≡◌, ◌≢◌, ℕ, suc, ◌<◌, ◌≤◌, ◌+◌, ◌^◌, true, false, cond, eqb, not, nat_eq, ℤ, pos, ◌≤ℤ◌}
+use Rattle.std.proofs.Common.{int_le, List, [], ◌∷◌, ◌++◌, map, filter, length, get_or, take, slice_get, position, refl}
+use Rattle.std.proofs.Common.{sym, ap, ◌∙◌, subst, inl, inr, arith, flat_map, Ordering, Less, Equal, Greater}
+use Rattle.std.proofs.Common.{append-nil, append_assoc}
 use Rattle.std.specs.List.{AllByRecursion, IsDistinct, list_any, position_or_len}
 use Rattle.std.specs.List.Sorted.{IsPermutation, IsSorted, IsStrictlySortedBy}
 use Rattle.std.specs.Map.{keys_of}

@@ -1,6 +1,26 @@
 -- The records that hold a prefix, over the ranks of the items in their order: what each has after the prefix, and what the
 -- prefix earns there. The sums over these, and the children of a prefix.
-use Rattle.std.specs.Prelude.{◌≡◌, ℕ, ◌+◌, ◌^◌, ◌<◌, ◌==◌, nat_eq, ℤ, pos, ◌+ℤ◌, unsigned_abs, int_le, List, [], ◌∷◌, ◌++◌, map, drop, if◌then◌else◌}
+use Rattle.std.specs.Prelude.{
+  ◌≡◌,
+  ℕ,
+  ◌+◌,
+  ◌^◌,
+  ◌<◌,
+  ◌==◌,
+  nat_eq,
+  ℤ,
+  pos,
+  ◌+ℤ◌,
+  unsigned_abs,
+  int_le,
+  List,
+  [],
+  ◌∷◌,
+  ◌++◌,
+  map,
+  drop,
+  if◌then◌else◌,
+}
 use Rattle.std.specs.List.{AllByRecursion, IsDistinct, filter, flat_map, sum_by}
 use Rattle.std.specs.Ordering.{nat_cmp}
 use Rattle.hu_kind.specs.declared.item.Item.{Item}

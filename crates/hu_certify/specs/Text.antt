@@ -1,7 +1,22 @@
 -- The text of a certificate that a base itself makes. Its order is all items that occur by what the records gain that hold
 -- them, then by item; a prefix's tokens are just the later items that stand with it in some record, and a token is cut
 -- where the most that the prefix may earn with its item is below the minimum.
-use Rattle.std.specs.Prelude.{ℕ, ℤ, Bool, int_lt, int_le, ◌&&◌, List, [], ◌∷◌, ◌++◌, map, codes, decimal, if◌then◌else◌}
+use Rattle.std.specs.Prelude.{
+  ℕ,
+  ℤ,
+  Bool,
+  int_lt,
+  int_le,
+  ◌&&◌,
+  List,
+  [],
+  ◌∷◌,
+  ◌++◌,
+  map,
+  codes,
+  decimal,
+  if◌then◌else◌,
+}
 use Rattle.std.specs.Fmt.{signed_decimal}
 use Rattle.std.specs.List.{flat_map, join_with_byte}
 use Rattle.hu_kind.specs.Database.{utility, items_of}

@@ -1,5 +1,6 @@
 -- The best utility of a pattern by its end: an occurrence ends in the last element, or in an earlier one.
-use Rattle.std.proofs.Common.{◌≡◌, ℕ, Bool, true, false, cond, ℤ, pos, ◌+ℤ◌, Option, None, Some, option_map, List, [], ◌∷◌, ◌++◌, refl, sym, ap, ◌∙◌, subst, arith}
+use Rattle.std.proofs.Common.{◌≡◌, ℕ, Bool, true, false, cond, ℤ, pos, ◌+ℤ◌, Option, None, Some, option_map, List, []}
+use Rattle.std.proofs.Common.{◌∷◌, ◌++◌, refl, sym, ap, ◌∙◌, subst, arith}
 use Rattle.std.specs.Int.{int_max}
 use Rattle.std.proofs.lemmas.Int.{ints, clamps}
 use Rattle.hu_kind.specs.Record.{holds, values_of}
@@ -30,7 +31,8 @@ begun-ended false true value last o = refl
 begun-ended false false value last o = refl
 
 ended-better : (there : Bool) (last : ℤ) (a b : Option ℤ)
-    → better (cond there (option_map (λ u. u +ℤ last) a) None) (cond there (option_map (λ u. u +ℤ last) b) None) ≡ cond there (option_map (λ u. u +ℤ last) (better a b)) None
+    → better (cond there (option_map (λ u. u +ℤ last) a) None) (cond there (option_map (λ u. u +ℤ last) b) None)
+    ≡ cond there (option_map (λ u. u +ℤ last) (better a b)) None
 ended-better false last a b = refl
 ended-better true last None b = refl
 ended-better true last (Some x) None = refl
@@ -54,14 +56,17 @@ nothing-ended false last = refl
 -- one element more at the end
 pub best_utility-end : (first : List (List ℕ)) (last : List ℕ) (before : List (List (ℕ × ℤ))) (cells : List (ℕ × ℤ))
     → best_utility (first ++ last ∷ []) (before ++ cells ∷ []) ≡ better (best_utility (first ++ last ∷ []) before) (ended first last before cells)
-best_utility-end [] last [] cells = better-none (begun (holds last cells) (values_of last cells) (Some (pos 0))) ∙ alone-ended (holds last cells) (values_of last cells)
+best_utility-end [] last [] cells = better-none (begun (holds last cells) (values_of last cells) (Some (pos 0)))
+    ∙ alone-ended (holds last cells) (values_of last cells)
 best_utility-end [] last (e ∷ before) cells =
     let here = begun (holds last e) (values_of last e) (Some (pos 0)) in
     ap (better here) (best_utility-end [] last before cells) ∙ sym (better-assoc here (best_utility (last ∷ []) before) (ended [] last before cells))
 best_utility-end (p ∷ []) last [] cells =
-    better-none (begun (holds p cells) (values_of p cells) None) ∙ nothing-begun (holds p cells) (values_of p cells) ∙ nothing-ended (holds last cells) (values_of last cells)
+    better-none (begun (holds p cells) (values_of p cells) None) ∙ nothing-begun (holds p cells) (values_of p cells)
+    ∙ nothing-ended (holds last cells) (values_of last cells)
 best_utility-end (p ∷ q ∷ first) last [] cells =
-    better-none (begun (holds p cells) (values_of p cells) None) ∙ nothing-begun (holds p cells) (values_of p cells) ∙ nothing-ended (holds last cells) (values_of last cells)
+    better-none (begun (holds p cells) (values_of p cells) None) ∙ nothing-begun (holds p cells) (values_of p cells)
+    ∙ nothing-ended (holds last cells) (values_of last cells)
 best_utility-end (p ∷ first) last (e ∷ before) cells =
     let h = holds p e in
     let v = values_of p e in
@@ -82,7 +87,8 @@ best_utility-end (p ∷ first) last (e ∷ before) cells =
 pub best_utility-more : (pattern : List (List ℕ)) (before : List (List (ℕ × ℤ))) (cells : List (ℕ × ℤ)) → Ends pattern
     → best_utility pattern (before ++ cells ∷ []) ≡ better (best_utility pattern before) (ended (earlier pattern) (last_itemset pattern) before cells)
 best_utility-more pattern before cells ends =
-    let P : List (List ℕ) → Type 0 = λ ps. best_utility ps (before ++ cells ∷ []) ≡ better (best_utility ps before) (ended (earlier pattern) (last_itemset pattern) before cells) in
+    let P : List (List ℕ) → Type 0 = λ ps. best_utility ps (before ++ cells ∷ [])
+    ≡ better (best_utility ps before) (ended (earlier pattern) (last_itemset pattern) before cells) in
     subst P (sym (pattern-split pattern ends)) (best_utility-end (earlier pattern) (last_itemset pattern) before cells)
 
 -- a pattern doesn't occur in no element

@@ -1,5 +1,7 @@
 -- The place of an item in an element: what a search among cells finds is where a grown pattern ends.
-use Rattle.std.proofs.Common.{◌≡◌, ℕ, suc, ◌+◌, Bool, true, false, cond, eqb, ◌&&◌, ℤ, pos, ◌+ℤ◌, Option, None, Some, option_map, option_to_list, List, [], ◌∷◌, ◌++◌, length, drop, refl, sym, ap, ◌∙◌, arith, append_assoc}
+use Rattle.std.proofs.Common.{◌≡◌, ℕ, suc, ◌+◌, Bool, true, false, cond, eqb, ◌&&◌, ℤ, pos, ◌+ℤ◌, Option, None, Some}
+use Rattle.std.proofs.Common.{option_map, option_to_list, List, [], ◌∷◌, ◌++◌, length, drop, refl, sym, ap, ◌∙◌, arith}
+use Rattle.std.proofs.Common.{append_assoc}
 use Rattle.std.specs.Option.{option_and_then}
 use Rattle.std.proofs.lemmas.Int.{ints}
 use Rattle.hu_kind.specs.Record.{has, holds, value_of, values_of, total}
@@ -21,7 +23,9 @@ place_of_item element c item best later cells = record {
   rest = total (drop (suc (cell_of item cells)) cells) +ℤ later;
 }
 
-place_of_item-here : (b : Bool) (element c item : ℕ) (best later : ℤ) (cell : ℕ × ℤ) (cells : List (ℕ × ℤ)) → eqb item cell.0 ≡ b → found element (suc c) item best later cells ≡ cond (has item cells) (Some (place_of_item element (suc c) item best later cells)) None
+place_of_item-here : (b : Bool) (element c item : ℕ) (best later : ℤ) (cell : ℕ × ℤ) (cells : List (ℕ × ℤ))
+    → eqb item cell.0 ≡ b → found element (suc c) item best later cells
+    ≡ cond (has item cells) (Some (place_of_item element (suc c) item best later cells)) None
     → cond b (Some (record { element = element; cell = c; best = best +ℤ cell.1; rest = total cells +ℤ later })) (found element (suc c) item best later cells)
     ≡ cond (has item (cell ∷ cells)) (Some (place_of_item element c item best later (cell ∷ cells))) None
 place_of_item-here true element c item best later cell cells e ih =
@@ -29,14 +33,24 @@ place_of_item-here true element c item best later cell cells e ih =
     let same : c ≡ c + 0 = omega arith in
     simp e (ap (λ n. Some (place n)) same)
 place_of_item-here false element c item best later cell cells e ih =
-    let place : ℕ → Place = λ n. record { element = element; cell = n; best = best +ℤ value_of item cells; rest = total (drop (suc (cell_of item cells)) cells) +ℤ later } in
+    let place : ℕ → Place =
+    λ n. record {
+      element = element;
+      cell = n;
+      best = best +ℤ value_of item cells;
+      rest =
+          total (drop (suc (cell_of item cells)) cells) +ℤ later;
+    } in
     let same : suc c + cell_of item cells ≡ c + suc (cell_of item cells) = omega arith in
     simp e (ih ∙ ap (λ n. cond (has item cells) (Some (place n)) None) same)
 
 -- a search finds the item where cells have it
-pub found-whole : (element c item : ℕ) (best later : ℤ) (cells : List (ℕ × ℤ)) → found element c item best later cells ≡ cond (has item cells) (Some (place_of_item element c item best later cells)) None
+pub found-whole : (element c item : ℕ) (best later : ℤ) (cells : List (ℕ × ℤ)) → found element c item best later cells
+    ≡ cond (has item cells) (Some (place_of_item element c item best later cells)) None
 found-whole element c item best later [] = refl
-found-whole element c item best later (cell ∷ cells) = place_of_item-here (eqb item cell.0) element c item best later cell cells refl (found-whole element (suc c) item best later cells)
+found-whole element c item best later (cell ∷ cells) =
+    place_of_item-here (eqb item cell.0) element c item best later cell cells refl
+    (found-whole element (suc c) item best later cells)
 
 and-assoc : (a b c : Bool) → (a && (b && c)) ≡ ((a && b) && c)
 and-assoc true b c = refl
@@ -75,9 +89,17 @@ item_place e item later cells u = record {
   rest = total (drop (suc (cell_of item cells)) cells) +ℤ later;
 }
 
-found-item : (e item : ℕ) (best later : ℤ) (cells : List (ℕ × ℤ)) → found e 0 item best later cells ≡ cond (has item cells) (Some (item_place e item later cells (best +ℤ value_of item cells))) None
+found-item : (e item : ℕ) (best later : ℤ) (cells : List (ℕ × ℤ)) → found e 0 item best later cells
+    ≡ cond (has item cells) (Some (item_place e item later cells (best +ℤ value_of item cells))) None
 found-item e item best later cells =
-    let place : ℕ → Place = λ n. record { element = e; cell = n; best = best +ℤ value_of item cells; rest = total (drop (suc (cell_of item cells)) cells) +ℤ later } in
+    let place : ℕ → Place =
+    λ n. record {
+      element = e;
+      cell = n;
+      best = best +ℤ value_of item cells;
+      rest =
+          total (drop (suc (cell_of item cells)) cells) +ℤ later;
+    } in
     let same : 0 + cell_of item cells ≡ cell_of item cells = omega arith in
     found-whole e 0 item best later cells ∙ ap (λ n. cond (has item cells) (Some (place n)) None) same
 
@@ -86,7 +108,8 @@ abbrev place_by_end : ℕ → List (List ℕ) → List ℕ → List (List (ℕ �
 place_by_end item first last before cells later = option_map (item_place (length before) item later cells) (ended first last before cells)
 
 pub place_in-into : (pattern : List (List ℕ)) (item : ℕ) (before : List (List (ℕ × ℤ))) (cells : List (ℕ × ℤ)) (later : List (List (ℕ × ℤ)))
-    → place_in (into pattern item) before cells later ≡ option_and_then (λ place. found (length before) 0 item place.best (totals later) cells) (place_in pattern before cells later)
+    → place_in (into pattern item) before cells later ≡ option_and_then
+    (λ place. found (length before) 0 item place.best (totals later) cells) (place_in pattern before cells later)
 place_in-into pattern item before cells later =
     let first = earlier pattern in
     let last = last_itemset pattern in
@@ -100,7 +123,9 @@ place_in-into pattern item before cells later =
     ∙ ap (λ b. option_map more (cond b (option_map (λ u. u +ℤ values_of (last ++ item ∷ []) cells) o) None)) (holds-more last item cells)
     ∙ ap (λ v. option_map more (cond (holds last cells && has item cells) (option_map (λ u. u +ℤ v) o) None)) (values_of-more last item cells)
     ∙ into-cases (holds last cells) (has item cells) o (values_of last cells) (value_of item cells) make more (λ u. refl)
-    ∙ and_then-same search' (λ place. found (length before) 0 item place.best (totals later) cells) (λ place. sym (found-item (length before) item place.best (totals later) cells)) (place_in pattern before cells later)
+    ∙ and_then-same search' (λ place. found (length before) 0 item place.best (totals later) cells)
+    (λ place. sym (found-item (length before) item place.best (totals later) cells))
+    (place_in pattern before cells later)
   where
     and_then-same : (f g : Place → Option Place) → ((place : Place) → f place ≡ g place) → (o : Option Place) → option_and_then f o ≡ option_and_then g o
     and_then-same f g same None = refl
@@ -115,14 +140,17 @@ after-cases true None w more = refl
 after-cases true (Some u) w more = let sum : u +ℤ (w +ℤ pos 0) ≡ u +ℤ w = omega (arith, ints) in ap (λ n. Some (more n)) sum
 
 pub place_in-after : (pattern : List (List ℕ)) (item : ℕ) (before : List (List (ℕ × ℤ))) (cells : List (ℕ × ℤ)) (later : List (List (ℕ × ℤ)))
-    → place_in (after pattern item) before cells later ≡ option_and_then (λ u. found (length before) 0 item u (totals later) cells) (best_utility pattern before)
+    → place_in (after pattern item) before cells later ≡ option_and_then
+    (λ u. found (length before) 0 item u (totals later) cells) (best_utility pattern before)
 place_in-after pattern item before cells later =
     let more = item_place (length before) item (totals later) cells in
     ap (λ i. place_by_end i (earlier (after pattern item)) (last_itemset (after pattern item)) before cells (totals later)) (last_item-after pattern item)
     ∙ ap (λ f. place_by_end item f (last_itemset (after pattern item)) before cells (totals later)) (earlier-after pattern item)
     ∙ ap (λ l. place_by_end item pattern l before cells (totals later)) (last-after pattern item)
     ∙ after-cases (has item cells) (best_utility pattern before) (value_of item cells) more
-    ∙ and_then-same (λ u. cond (has item cells) (Some (more (u +ℤ value_of item cells))) None) (λ u. found (length before) 0 item u (totals later) cells) (λ u. sym (found-item (length before) item u (totals later) cells)) (best_utility pattern before)
+    ∙ and_then-same (λ u. cond (has item cells) (Some (more (u +ℤ value_of item cells))) None)
+    (λ u. found (length before) 0 item u (totals later) cells)
+    (λ u. sym (found-item (length before) item u (totals later) cells)) (best_utility pattern before)
   where
     and_then-same : (f g : ℤ → Option Place) → ((u : ℤ) → f u ≡ g u) → (o : Option ℤ) → option_and_then f o ≡ option_and_then g o
     and_then-same f g same None = refl
@@ -134,10 +162,12 @@ found_at-between before cells later item best =
     ap (λ es. found (length before) 0 item best (totals es) (element_at (before ++ cells ∷ later) (length before))) (drop-between before cells later)
     ∙ ap (λ cs. found (length before) 0 item best (totals later) cs) (element_at-between before cells later)
 
-joined-one : (pattern : List (List ℕ)) (item : ℕ) (before : List (List (ℕ × ℤ))) (cells : List (ℕ × ℤ)) (later : List (List (ℕ × ℤ))) (o : Option ℤ) (places : List Place)
+joined-one : (pattern : List (List ℕ)) (item : ℕ) (before : List (List (ℕ × ℤ))) (cells : List (ℕ × ℤ))
+    (later : List (List (ℕ × ℤ))) (o : Option ℤ) (places : List Place)
     → let make = place_by pattern (length before) cells later in
     joined_places (before ++ cells ∷ later) item (option_to_list (option_map make o) ++ places)
-    ≡ option_to_list (option_and_then (λ place. found (length before) 0 item place.best (totals later) cells) (option_map make o)) ++ joined_places (before ++ cells ∷ later) item places
+    ≡ option_to_list (option_and_then (λ place. found (length before) 0 item place.best (totals later) cells)
+    (option_map make o)) ++ joined_places (before ++ cells ∷ later) item places
 joined-one pattern item before cells later None places = refl
 joined-one pattern item before cells later (Some u) places =
     ap (λ f. option_to_list f ++ joined_places (before ++ cells ∷ later) item places) (found_at-between before cells later item u)
@@ -148,11 +178,14 @@ places_in-into pattern item before [] = refl
 places_in-into pattern item before (cells ∷ later) =
     let more : List (List (ℕ × ℤ)) = before ++ cells ∷ [] in
     ap (λ o. option_to_list o ++ places_in (into pattern item) more later) (place_in-into pattern item before cells later)
-    ∙ ap (λ ps. option_to_list (option_and_then (λ place. found (length before) 0 item place.best (totals later) cells) (place_in pattern before cells later)) ++ ps)
+    ∙ ap (λ ps. option_to_list (option_and_then (λ place. found (length before) 0 item place.best (totals later) cells)
+    (place_in pattern before cells later)) ++ ps)
     (places_in-into pattern item more later ∙ ap (λ es. joined_places es item (places_in pattern more later)) (append_assoc before (cells ∷ []) later))
     ∙ sym (joined-one pattern item before cells later (ended (earlier pattern) (last_itemset pattern) before cells) (places_in pattern more later))
 
 -- the chain of a pattern with an item put into its last itemset
-pub chain_of-into : (pattern : List (List ℕ)) (item : ℕ) (elements : List (List (ℕ × ℤ))) → chain_of (into pattern item) elements ≡ joined_places elements item (chain_of pattern elements)
+pub chain_of-into : (pattern : List (List ℕ)) (item : ℕ) (elements : List (List (ℕ × ℤ)))
+    → chain_of (into pattern item) elements ≡ joined_places elements item (chain_of pattern elements)
 chain_of-into pattern item elements =
-    chain_of-places (into pattern item) elements ∙ places_in-into pattern item [] elements ∙ ap (joined_places elements item) (sym (chain_of-places pattern elements))
+    chain_of-places (into pattern item) elements ∙ places_in-into pattern item [] elements
+    ∙ ap (joined_places elements item) (sym (chain_of-places pattern elements))

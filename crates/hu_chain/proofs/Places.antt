@@ -1,5 +1,7 @@
 -- The places of a pattern, by the elements before and after each: their order, their greatest utility and their rules.
-use Rattle.std.proofs.Common.{◌≡◌, ℕ, suc, ℤ, ◌+ℤ◌, Option, None, Some, option_map, option_to_list, List, [], ◌∷◌, ◌++◌, length, take, drop, refl, sym, ap, ◌∙◌, arith, append_assoc, append-nil, length-append, IsNone, ◌↔◌}
+use Rattle.std.proofs.Common.{◌≡◌, ℕ, suc, ℤ, ◌+ℤ◌, Option, None, Some, option_map, option_to_list, List, [], ◌∷◌, ◌++◌}
+use Rattle.std.proofs.Common.{length, take, drop, refl, sym, ap, ◌∙◌, arith, append_assoc, append-nil, length-append}
+use Rattle.std.proofs.Common.{IsNone, ◌↔◌}
 use Rattle.hu_kind.specs.Record.{total}
 use Rattle.hu_kind.specs.Sequence.{better, best_utility}
 use Rattle.hu_chain.specs.declared.place.Place.{Place}
@@ -10,7 +12,8 @@ use Rattle.hu_chain.proofs.Better.{better-none, better-assoc}
 use Rattle.hu_chain.proofs.Endings.{ended, best_utility-more, best_utility-nowhere}
 
 -- the elements of a sequence before one, it, and those after it
-pub element_at-between : (before : List (List (ℕ × ℤ))) (cells : List (ℕ × ℤ)) (later : List (List (ℕ × ℤ))) → element_at (before ++ cells ∷ later) (length before) ≡ cells
+pub element_at-between : (before : List (List (ℕ × ℤ))) (cells : List (ℕ × ℤ)) (later : List (List (ℕ × ℤ)))
+    → element_at (before ++ cells ∷ later) (length before) ≡ cells
 element_at-between [] cells later = refl
 element_at-between (e ∷ before) cells later = element_at-between before cells later
 
@@ -18,7 +21,8 @@ pub take-between : (before : List (List (ℕ × ℤ))) (later : List (List (ℕ 
 take-between [] later = refl
 take-between (e ∷ before) later = ap (λ es. e ∷ es) (take-between before later)
 
-pub drop-between : (before : List (List (ℕ × ℤ))) (cells : List (ℕ × ℤ)) (later : List (List (ℕ × ℤ))) → drop (suc (length before)) (before ++ cells ∷ later) ≡ later
+pub drop-between : (before : List (List (ℕ × ℤ))) (cells : List (ℕ × ℤ)) (later : List (List (ℕ × ℤ)))
+    → drop (suc (length before)) (before ++ cells ∷ later) ≡ later
 drop-between [] cells later = refl
 drop-between (e ∷ before) cells later = drop-between before cells later
 
@@ -48,17 +52,20 @@ pub place_at-between : (pattern : List (List ℕ)) (before : List (List (ℕ × 
 place_at-between pattern before cells later =
     let P : List (ℕ × ℤ) → List (List (ℕ × ℤ)) → List (List (ℕ × ℤ)) → Option Place =
     λ cs es ls. option_map (place_by pattern (length before) cs ls) (ended (earlier pattern) (last_itemset pattern) es cs) in
-    ap (λ cs. P cs (take (length before) (before ++ cells ∷ later)) (drop (suc (length before)) (before ++ cells ∷ later))) (element_at-between before cells later)
+    ap (λ cs. P cs (take (length before) (before ++ cells ∷ later))
+    (drop (suc (length before)) (before ++ cells ∷ later))) (element_at-between before cells later)
     ∙ ap (λ es. P cells es (drop (suc (length before)) (before ++ cells ∷ later))) (take-between before (cells ∷ later))
     ∙ ap (λ ls. P cells before ls) (drop-between before cells later)
 
-pub places_from-between : (pattern : List (List ℕ)) (before later : List (List (ℕ × ℤ))) → places_from pattern (before ++ later) (length before) later ≡ places_in pattern before later
+pub places_from-between : (pattern : List (List ℕ)) (before later : List (List (ℕ × ℤ)))
+    → places_from pattern (before ++ later) (length before) later ≡ places_in pattern before later
 places_from-between pattern before [] = refl
 places_from-between pattern before (cells ∷ later) =
     let more : List (List (ℕ × ℤ)) = before ++ cells ∷ [] in
     let ih = places_from-between pattern more later in
     let moved : places_from pattern (before ++ cells ∷ later) (suc (length before)) later ≡ places_in pattern more later =
-    ap (λ es. places_from pattern es (suc (length before)) later) (sym (append_assoc before (cells ∷ []) later)) ∙ ap (λ e. places_from pattern (more ++ later) e later) (sym (length-more before cells)) ∙ ih in
+    ap (λ es. places_from pattern es (suc (length before)) later) (sym (append_assoc before (cells ∷ []) later))
+    ∙ ap (λ e. places_from pattern (more ++ later) e later) (sym (length-more before cells)) ∙ ih in
     ap (λ o. option_to_list o ++ places_from pattern (before ++ cells ∷ later) (suc (length before)) later) (place_at-between pattern before cells later)
     ∙ ap (λ ps. option_to_list (place_in pattern before cells later) ++ ps) moved
 
@@ -66,7 +73,8 @@ pub chain_of-places : (pattern : List (List ℕ)) (elements : List (List (ℕ ×
 chain_of-places pattern elements = places_from-between pattern [] elements
 
 -- the greatest utility of places
-best_of-more : (make : ℤ → Place) (o : Option ℤ) (places : List Place) → ((u : ℤ) → (make u).best ≡ u) → best_of (option_to_list (option_map make o) ++ places) ≡ better o (best_of places)
+best_of-more : (make : ℤ → Place) (o : Option ℤ) (places : List Place) → ((u : ℤ) → (make u).best ≡ u)
+    → best_of (option_to_list (option_map make o) ++ places) ≡ better o (best_of places)
 best_of-more make None places same = refl
 best_of-more make (Some u) places same = ap (λ v. better (Some v) (best_of places)) (same u)
 
@@ -84,7 +92,8 @@ best_of-places_in pattern before (cells ∷ later) ends =
     ∙ ap (best_utility pattern) (append_assoc before (cells ∷ []) later)
 
 -- the greatest utility at the places of a pattern is its best utility
-pub best_of-chain_of : (pattern : List (List ℕ)) (elements : List (List (ℕ × ℤ))) → Ends pattern → best_of (chain_of pattern elements) ≡ best_utility pattern elements
+pub best_of-chain_of : (pattern : List (List ℕ)) (elements : List (List (ℕ × ℤ))) → Ends pattern
+    → best_of (chain_of pattern elements) ≡ best_utility pattern elements
 best_of-chain_of pattern elements ends =
     ap best_of (chain_of-places pattern elements)
     ∙ ap (λ o. better o (best_of (places_in pattern [] elements))) (sym (best_utility-nowhere pattern ends))

@@ -1,5 +1,7 @@
 -- What a search among the cells of an element comes upon, and the rules of the cells after a place.
-use Rattle.std.proofs.Common.{◌≡◌, ℕ, zero, suc, ◌<◌, ◌≤◌, ◌+◌, Bool, true, false, cond, eqb, ℤ, pos, ◌-◌, ◌+ℤ◌, ◌-ℤ◌, ◌≤ℤ◌, unsigned_abs, None, Some, is_some, List, [], ◌∷◌, length, get_or, drop, take, refl, sym, ap, ◌∙◌, subst, arith, add-one, sum_by, length-drop}
+use Rattle.std.proofs.Common.{◌≡◌, ℕ, zero, suc, ◌<◌, ◌≤◌, ◌+◌, Bool, true, false, cond, eqb, ℤ, pos, ◌-◌, ◌+ℤ◌, ◌-ℤ◌}
+use Rattle.std.proofs.Common.{◌≤ℤ◌, unsigned_abs, None, Some, is_some, List, [], ◌∷◌, length, get_or, drop, take, refl}
+use Rattle.std.proofs.Common.{sym, ap, ◌∙◌, subst, arith, add-one, sum_by, length-drop}
 use Rattle.std.specs.List.{AllByRecursion}
 use Rattle.std.proofs.lemmas.Int.{ints}
 use Rattle.std.proofs.lemmas.Bool.{eqb-true, ne_eqb}
@@ -16,14 +18,17 @@ use Rattle.hu_chain.specs.declared.place.Tail.{Tail}
 use Rattle.hu_chain.specs.Place.{cell_of, element_at, totals}
 use Rattle.hu_chain.specs.Bound.{IsFit}
 use Rattle.hu_chain.specs.Search.{cell_in, found, found_at, IsPlain, IsPlaceOf, IsTail, IsTailOf}
-use Rattle.hu_chain.proofs.lemmas.Cells.{all-above, each-drop, each-take, pairs-take, total-above, total-parts, total-next, cell_of-within, Ascend-drop, Ascend-itemset, IsAbove}
+use Rattle.hu_chain.proofs.lemmas.Cells.{all-above, each-drop, each-take, pairs-take, total-above, total-parts}
+use Rattle.hu_chain.proofs.lemmas.Cells.{total-next, cell_of-within, Ascend-drop, Ascend-itemset, IsAbove}
 use Rattle.hu_chain.proofs.Finding.{found-whole, place_of_item}
 
-value_of-at : (item : ℕ) (cells : List Cell) (d : Cell) → has item (pairs_of cells) ≡ true → value_of item (pairs_of cells) ≡ (get_or cells (cell_of item (pairs_of cells)) d).value
+value_of-at : (item : ℕ) (cells : List Cell) (d : Cell) → has item (pairs_of cells) ≡ true
+    → value_of item (pairs_of cells) ≡ (get_or cells (cell_of item (pairs_of cells)) d).value
 value_of-at item [] d h = cc
 value_of-at item (cell ∷ cells) d h = by (value_of-at item cells d) (eqb item cell.item.0) refl
   where
-    by : (has item (pairs_of cells) ≡ true → value_of item (pairs_of cells) ≡ (get_or cells (cell_of item (pairs_of cells)) d).value) → (b : Bool) → eqb item cell.item.0 ≡ b
+    by : (has item (pairs_of cells) ≡ true → value_of item (pairs_of cells)
+        ≡ (get_or cells (cell_of item (pairs_of cells)) d).value) → (b : Bool) → eqb item cell.item.0 ≡ b
         → value_of item (pairs_of (cell ∷ cells)) ≡ (get_or (cell ∷ cells) (cell_of item (pairs_of (cell ∷ cells))) d).value
     by ih true e = simp e refl
     by ih false e = simp e (ih (simp e at h))
@@ -93,7 +98,8 @@ IsFound-from tail item k cell is e =
     }
 
 -- the place that a search finds
-pub found-some : (tail : Tail) (item k : ℕ) (cell : Cell) (place : Place) → IsFound tail item k cell → place.element ≡ tail.element → place.cell ≡ tail.first + k
+pub found-some : (tail : Tail) (item k : ℕ) (cell : Cell) (place : Place) → IsFound tail item k cell → place.element
+    ≡ tail.element → place.cell ≡ tail.first + k
     → place.best ≡ tail.best +ℤ (get_or tail.cells.now k cell).value → place.rest ≡ tail.ahead -ℤ total (pairs_of (take (k + 1) tail.cells.now))
     → Some place ≡ found tail.element tail.first item tail.best (tail.ahead -ℤ total (pairs_of tail.cells.now)) (pairs_of tail.cells.now)
 found-some tail item k cell place is element number best rest =
@@ -111,7 +117,8 @@ found-some tail item k cell place is element number best rest =
     made : (p q : Place) → p.element ≡ q.element → p.cell ≡ q.cell → p.best ≡ q.best → p.rest ≡ q.rest → p ≡ q
     made p q a b c d =
         let at : ℕ → ℕ → ℤ → ℤ → Place = λ e n u r. record { element = e; cell = n; best = u; rest = r } in
-        ap (λ e. at e p.cell p.best p.rest) a ∙ ap (λ n. at q.element n p.best p.rest) b ∙ ap (λ u. at q.element q.cell u p.rest) c ∙ ap (λ r. at q.element q.cell q.best r) d
+        ap (λ e. at e p.cell p.best p.rest) a ∙ ap (λ n. at q.element n p.best p.rest) b
+        ∙ ap (λ u. at q.element q.cell u p.rest) c ∙ ap (λ r. at q.element q.cell q.best r) d
 
 -- ---- the elements of a sequence
 
@@ -138,7 +145,12 @@ pub element-length : (elements : List (List (ℕ × ℤ))) (e : ℕ) → IsSeque
 element-length elements e is = omega (arith, element-few elements e, is.few)
 
 pub IsPlain-element : (elements : List (List (ℕ × ℤ))) (e : ℕ) → IsSequence elements → IsItemset (element_at elements e) → IsPlain (element_at elements e)
-IsPlain-element elements e is itemset = record { ascending = Ascend-itemset (element_at elements e) itemset; none_below = element-above elements e (all-above elements is.none_below) }
+IsPlain-element elements e is itemset =
+    record {
+      ascending = Ascend-itemset (element_at elements e) itemset;
+      none_below =
+          element-above elements e (all-above elements is.none_below);
+    }
 
 totals-above : (elements : List (List (ℕ × ℤ))) → AllByRecursion (AllByRecursion IsAbove) elements → pos 0 ≤ℤ totals elements
 totals-above [] above = omega (arith, ints)
@@ -173,7 +185,8 @@ element-within [] e item h = cc
 element-within (cells ∷ elements) zero item h = omega arith
 element-within (cells ∷ elements) (suc e) item h = let ih = element-within elements e item h in omega arith
 
-pub place-within : (elements : List (List (ℕ × ℤ))) (last : ℕ) (place : Place) → IsPlaceOf elements last place → (place.element < length elements) × (place.cell < length (element_at elements place.element))
+pub place-within : (elements : List (List (ℕ × ℤ))) (last : ℕ) (place : Place) → IsPlaceOf elements last place
+    → (place.element < length elements) × (place.cell < length (element_at elements place.element))
 place-within elements last place is =
     (element-within elements place.element last is.has, omega (arith, is.cell, cell_of-within last (element_at elements place.element) is.has))
 
@@ -193,7 +206,12 @@ IsTail-after elements last place tail sequence fit is plain of =
     let best = of.best in
     let ahead = of.ahead in
     record {
-      plain = subst IsPlain (sym of.cells) (record { ascending = Ascend-drop (suc place.cell) cells plain.ascending; none_below = each-drop IsAbove (suc place.cell) cells plain.none_below });
+      plain = subst IsPlain (sym of.cells)
+          (record {
+            ascending = Ascend-drop (suc place.cell) cells plain.ascending;
+            none_below =
+                each-drop IsAbove (suc place.cell) cells plain.none_below;
+          });
       few = omega (arith, of.first);
       best = omega (arith, ints, fit.best);
       holds = omega (arith, ints);
@@ -202,7 +220,8 @@ IsTail-after elements last place tail sequence fit is plain of =
 
 -- ---- a search after a place
 
-past-last : (last item : ℕ) (cell : ℕ × ℤ) (cells : List (ℕ × ℤ)) → Ascend (items_in (cell ∷ cells)) → has last cells ≡ true → last < item → eqb item cell.0 ≡ false
+past-last : (last item : ℕ) (cell : ℕ × ℤ) (cells : List (ℕ × ℤ)) → Ascend (items_in (cell ∷ cells)) → has last cells
+    ≡ true → last < item → eqb item cell.0 ≡ false
 past-last last item cell cells up h below =
     let after : cell.0 < last = at_member (λ x. cell.0 < x) last (items_in cells) up.0 (has-member last cells h) in
     ne_eqb item cell.0 (λ e. absurd (omega arith))
@@ -211,11 +230,14 @@ past-last last item cell cells up h below =
 pub found-skip : (e c last item : ℕ) (best later : ℤ) (cells : List (ℕ × ℤ)) → Ascend (items_in cells) → has last cells ≡ true → last < item
     → found e c item best later cells ≡ found e (c + suc (cell_of last cells)) item best later (drop (suc (cell_of last cells)) cells)
 found-skip e c last item best later [] up h below = cc
-found-skip e c last item best later (cell ∷ cells) up h below = by (λ more. found-skip e (suc c) last item best later cells up.1 more below) (eqb last cell.0) refl
+found-skip e c last item best later (cell ∷ cells) up h below =
+    by (λ more. found-skip e (suc c) last item best later cells up.1 more below) (eqb last cell.0) refl
   where
-    by : (has last cells ≡ true → found e (suc c) item best later cells ≡ found e (suc c + suc (cell_of last cells)) item best later (drop (suc (cell_of last cells)) cells))
+    by : (has last cells ≡ true → found e (suc c) item best later cells
+        ≡ found e (suc c + suc (cell_of last cells)) item best later (drop (suc (cell_of last cells)) cells))
         → (b : Bool) → eqb last cell.0 ≡ b
-        → found e c item best later (cell ∷ cells) ≡ found e (c + suc (cell_of last (cell ∷ cells))) item best later (drop (suc (cell_of last (cell ∷ cells))) (cell ∷ cells))
+        → found e c item best later (cell ∷ cells) ≡ found e (c + suc (cell_of last (cell ∷ cells))) item best later
+        (drop (suc (cell_of last (cell ∷ cells))) (cell ∷ cells))
     by ih true same =
         let here : last ≡ cell.0 = eqb-true last cell.0 same in
         let other : eqb item cell.0 ≡ false = ne_eqb item cell.0 (λ x. absurd (omega arith)) in
@@ -230,7 +252,8 @@ found-skip e c last item best later (cell ∷ cells) up h below = by (λ more. f
 -- what a search among the cells after a place finds is found in the element
 pub found-after : (elements : List (List (ℕ × ℤ))) (last item : ℕ) (place : Place) (tail : Tail) → IsPlaceOf elements last place → last < item
     → IsPlain (element_at elements place.element) → IsTailOf elements place tail
-    → found tail.element tail.first item tail.best (tail.ahead -ℤ total (pairs_of tail.cells.now)) (pairs_of tail.cells.now) ≡ found_at elements item place.element place.best
+    → found tail.element tail.first item tail.best (tail.ahead -ℤ total (pairs_of tail.cells.now))
+    (pairs_of tail.cells.now) ≡ found_at elements item place.element place.best
 found-after elements last item place tail is below plain of =
     let cells = element_at elements place.element in
     let later = totals (drop (suc place.element) elements) in
@@ -247,9 +270,11 @@ found-after elements last item place tail is below plain of =
     ∙ ap (λ u. found place.element k item u (tail.ahead -ℤ total (pairs_of tail.cells.now)) (pairs_of tail.cells.now)) of.best
     ∙ ap (λ l. found place.element k item place.best l (pairs_of tail.cells.now)) after
     ∙ ap (found place.element k item place.best later) of.cells
-    ∙ sym (whole ∙ ap (λ n. found place.element n item place.best later (drop (suc (cell_of last cells)) cells)) number ∙ ap (found place.element k item place.best later) dropped)
+    ∙ sym (whole ∙ ap (λ n. found place.element n item place.best later (drop (suc (cell_of last cells)) cells)) number
+    ∙ ap (found place.element k item place.best later) dropped)
 
-has-skip : (last item : ℕ) (cells : List (ℕ × ℤ)) → Ascend (items_in cells) → has last cells ≡ true → last < item → has item cells ≡ has item (drop (suc (cell_of last cells)) cells)
+has-skip : (last item : ℕ) (cells : List (ℕ × ℤ)) → Ascend (items_in cells) → has last cells ≡ true → last < item
+    → has item cells ≡ has item (drop (suc (cell_of last cells)) cells)
 has-skip last item [] up h below = refl
 has-skip last item (cell ∷ cells) up h below = by (λ more. has-skip last item cells up.1 more below) (eqb last cell.0) refl
   where
@@ -265,7 +290,8 @@ has-skip last item (cell ∷ cells) up h below = by (λ more. has-skip last item
         simp (same, other) (ih more)
 
 -- an item that is above a place's stands in the element just where it stands after the place
-pub has-after : (elements : List (List (ℕ × ℤ))) (last item : ℕ) (place : Place) → IsPlaceOf elements last place → last < item → IsPlain (element_at elements place.element)
+pub has-after : (elements : List (List (ℕ × ℤ))) (last item : ℕ) (place : Place) → IsPlaceOf elements last place
+    → last < item → IsPlain (element_at elements place.element)
     → has item (drop (suc place.cell) (element_at elements place.element)) ≡ has item (element_at elements place.element)
 has-after elements last item place is below plain =
     let cells = element_at elements place.element in

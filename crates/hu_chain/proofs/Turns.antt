@@ -1,5 +1,7 @@
 -- One turn of a loop that makes or tests places, and what holds of a walk at each element.
-use Rattle.std.proofs.Common.{◌≡◌, ℕ, ℤ, pos, ◌+ℤ◌, ◌-ℤ◌, ◌≤ℤ◌, ◌<ℤ◌, zero, suc, ◌<◌, ◌≤◌, ◌+◌, ◌^◌, Bool, true, false, ◌||◌, eqb, Option, None, Some, option_to_list, List, [], ◌∷◌, ◌++◌, length, get_or, drop, refl, sym, ap, ◌∙◌, subst, arith, add-one, append_assoc, drop-cons, IfSome}
+use Rattle.std.proofs.Common.{◌≡◌, ℕ, ℤ, pos, ◌+ℤ◌, ◌-ℤ◌, ◌≤ℤ◌, ◌<ℤ◌, zero, suc, ◌<◌, ◌≤◌, ◌+◌, ◌^◌, Bool, true, false}
+use Rattle.std.proofs.Common.{◌||◌, eqb, Option, None, Some, option_to_list, List, [], ◌∷◌, ◌++◌, length, get_or, drop}
+use Rattle.std.proofs.Common.{refl, sym, ap, ◌∙◌, subst, arith, add-one, append_assoc, drop-cons, IfSome}
 use Rattle.std.specs.List.{list_any, AllByRecursion}
 use Rattle.std.proofs.lemmas.Int.{ints, clamps}
 use Rattle.std.proofs.lemmas.Bool.{eqb-true}
@@ -30,7 +32,8 @@ pub append-next : {A : Type 0} (made next part rest whole : List A) → made ++ 
 append-next made next part rest whole so_far more = ap (λ xs. xs ++ rest) more ∙ append_assoc made part rest ∙ so_far
 
 pub joined-next : (elements : List (List (ℕ × ℤ))) (item : ℕ) (places : List Place) (k : ℕ) (d : Place) (made next whole : List Place) → k < length places
-    → made ++ joined_places elements item (drop k places) ≡ whole → next ≡ made ++ option_to_list (found_at elements item (get_or places k d).element (get_or places k d).best)
+    → made ++ joined_places elements item (drop k places) ≡ whole → next
+    ≡ made ++ option_to_list (found_at elements item (get_or places k d).element (get_or places k d).best)
     → next ++ joined_places elements item (drop (k + 1) places) ≡ whole
 joined-next elements item places k d made next whole within so_far more =
     let here = option_to_list (found_at elements item (get_or places k d).element (get_or places k d).best) in
@@ -47,7 +50,8 @@ each-at P (x ∷ xs) (suc k) d all within = each-at P xs k d all.1 (omega arith)
 
 -- ---- walks
 
-totals-next : (elements : List (List (ℕ × ℤ))) (e : ℕ) → e < length elements → totals (drop e elements) ≡ total (element_at elements e) +ℤ totals (drop (suc e) elements)
+totals-next : (elements : List (List (ℕ × ℤ))) (e : ℕ) → e < length elements → totals (drop e elements)
+    ≡ total (element_at elements e) +ℤ totals (drop (suc e) elements)
 totals-next elements e within = ap totals (drop-cons elements e [] within)
 
 -- the whole of an element, as a walk comes to it
@@ -58,7 +62,8 @@ pub record IsWhole (elements : List (List (ℕ × ℤ))) (e : ℕ) (walk : Walk)
   pub best : tail.best ≡ walk.best
   pub ahead : tail.ahead ≡ walk.ahead
 
-pub IsTail-whole : (elements : List (List (ℕ × ℤ))) (e : ℕ) (walk : Walk) (tail : Tail) → IsSequence elements → e < length elements → IsPlain (element_at elements e) → length (element_at elements e) ≤ 4096
+pub IsTail-whole : (elements : List (List (ℕ × ℤ))) (e : ℕ) (walk : Walk) (tail : Tail) → IsSequence elements
+    → e < length elements → IsPlain (element_at elements e) → length (element_at elements e) ≤ 4096
     → IsWalk elements e walk → IsWhole elements e walk tail → IsTail tail
 IsTail-whole elements e walk tail sequence within plain few is whole =
     let later = totals-left elements (suc e) sequence in
@@ -77,15 +82,18 @@ IsTail-whole elements e walk tail sequence within plain few is whole =
       fits = omega (arith, ints, is.fits);
     }
 
-pub whole-holds : (elements : List (List (ℕ × ℤ))) (e : ℕ) (walk : Walk) → IsSequence elements → e < length elements → IsWalk elements e walk → total (element_at elements e) ≤ℤ walk.ahead
+pub whole-holds : (elements : List (List (ℕ × ℤ))) (e : ℕ) (walk : Walk) → IsSequence elements → e < length elements
+    → IsWalk elements e walk → total (element_at elements e) ≤ℤ walk.ahead
 whole-holds elements e walk sequence within is =
     let later = totals-left elements (suc e) sequence in
     let next = totals-next elements e within in
     let known = is.ahead in
     omega (arith, ints)
 
-pub found-whole_element : (elements : List (List (ℕ × ℤ))) (e item : ℕ) (walk : Walk) (tail : Tail) → e < length elements → IsWalk elements e walk → IsWhole elements e walk tail
-    → found tail.element tail.first item tail.best (tail.ahead -ℤ total (pairs_of tail.cells.now)) (pairs_of tail.cells.now) ≡ found_at elements item e walk.best
+pub found-whole_element : (elements : List (List (ℕ × ℤ))) (e item : ℕ) (walk : Walk) (tail : Tail)
+    → e < length elements → IsWalk elements e walk → IsWhole elements e walk tail
+    → found tail.element tail.first item tail.best (tail.ahead -ℤ total (pairs_of tail.cells.now))
+    (pairs_of tail.cells.now) ≡ found_at elements item e walk.best
 found-whole_element elements e item walk tail within is whole =
     let later = totals (drop (suc e) elements) in
     let next = totals-next elements e within in
@@ -100,24 +108,30 @@ found-whole_element elements e item walk tail within is whole =
     ∙ ap (found e 0 item walk.best later) whole.cells
 
 -- the best utility after an element is at least 0, and fits with what is ahead
-best_past-rules : (elements : List (List (ℕ × ℤ))) (e : ℕ) (best ahead : ℤ) (places : List Place) → AllByRecursion (IsLeft elements) places → pos 0 ≤ℤ best → (best +ℤ ahead) <ℤ pos (2 ^ 127) → ahead ≡ totals (drop (suc e) elements)
+best_past-rules : (elements : List (List (ℕ × ℤ))) (e : ℕ) (best ahead : ℤ) (places : List Place)
+    → AllByRecursion (IsLeft elements) places → pos 0 ≤ℤ best → (best +ℤ ahead) <ℤ pos (2 ^ 127) → ahead
+    ≡ totals (drop (suc e) elements)
     → (pos 0 ≤ℤ best_past e best places) × ((best_past e best places +ℤ ahead) <ℤ pos (2 ^ 127)) × AllByRecursion (IsLeft elements) (left_past e places)
 best_past-rules elements e best ahead [] left low fits known = (low, fits, tt)
 best_past-rules elements e best ahead (place ∷ places) left low fits known = by (eqb e place.element) refl
   where
     by : (b : Bool) → eqb e place.element ≡ b
-        → (pos 0 ≤ℤ best_past e best (place ∷ places)) × ((best_past e best (place ∷ places) +ℤ ahead) <ℤ pos (2 ^ 127)) × AllByRecursion (IsLeft elements) (left_past e (place ∷ places))
+        → (pos 0 ≤ℤ best_past e best (place ∷ places)) × ((best_past e best (place ∷ places) +ℤ ahead) <ℤ pos (2 ^ 127))
+        × AllByRecursion (IsLeft elements) (left_past e (place ∷ places))
     by true same =
         let here = left.0 in
         let fit = here.fit in
         let rest = here.rest in
         let high = fit.reach in
-        let at : totals (drop (suc e) elements) ≡ totals (drop (suc place.element) elements) = ap (λ n. totals (drop (suc n) elements)) (eqb-true e place.element same) in
+        let at : totals (drop (suc e) elements) ≡ totals (drop (suc place.element) elements) =
+        ap (λ n. totals (drop (suc n) elements)) (eqb-true e place.element same) in
         simp same (omega (arith, ints, clamps), omega (arith, ints, clamps), left.1)
     by false same = simp same (low, fits, left)
 
-pub IsWalk-past : (elements : List (List (ℕ × ℤ))) (e : ℕ) (walk past : Walk) → IsSequence elements → e < length elements → IsPlain (element_at elements e) → IsWalk elements e walk
-    → past.best ≡ best_past e walk.best walk.left.now → past.left.now ≡ left_past e walk.left.now → past.ahead ≡ walk.ahead -ℤ total (element_at elements e) → IsWalk elements (e + 1) past
+pub IsWalk-past : (elements : List (List (ℕ × ℤ))) (e : ℕ) (walk past : Walk) → IsSequence elements
+    → e < length elements → IsPlain (element_at elements e) → IsWalk elements e walk
+    → past.best ≡ best_past e walk.best walk.left.now → past.left.now ≡ left_past e walk.left.now → past.ahead
+    ≡ walk.ahead -ℤ total (element_at elements e) → IsWalk elements (e + 1) past
 IsWalk-past elements e walk past sequence within plain is best left ahead =
     let next = totals-next elements e within in
     let above = total-above (element_at elements e) plain.none_below in
@@ -135,18 +149,24 @@ IsWalk-past elements e walk past sequence within plain is best left ahead =
       left = subst (AllByRecursion (IsLeft elements)) (sym left) rules.2;
     }
 
-IsLeft-all : (elements : List (List (ℕ × ℤ))) (last : ℕ) (places : List Place) → IsSequence elements → AllByRecursion IsFit places → AllByRecursion (IsPlaceOf elements last) places → AllByRecursion (IsLeft elements) places
+IsLeft-all : (elements : List (List (ℕ × ℤ))) (last : ℕ) (places : List Place) → IsSequence elements
+    → AllByRecursion IsFit places → AllByRecursion (IsPlaceOf elements last) places
+    → AllByRecursion (IsLeft elements) places
 IsLeft-all elements last [] sequence fit is = tt
 IsLeft-all elements last (place ∷ places) sequence fit is =
     let here = is.0 in
     let rest = here.rest in
     let cells = element_at elements place.element in
-    let above = total-above (drop (suc place.cell) cells) (each-drop IsAbove (suc place.cell) cells (element-above elements place.element (all-above elements sequence.none_below))) in
+    let above =
+    total-above (drop (suc place.cell) cells) (each-drop IsAbove (suc place.cell) cells
+    (element-above elements place.element (all-above elements sequence.none_below))) in
     (record { fit = fit.0; rest = omega (arith, ints) }, IsLeft-all elements last places sequence fit.1 is.1)
 
 -- the walk after the first place
-pub IsWalk-first : (elements : List (List (ℕ × ℤ))) (last : ℕ) (first : Place) (left : List Place) (walk : Walk) (tail : Tail) → IsSequence elements → AllByRecursion IsFit (first ∷ left)
-    → AllByRecursion (IsPlaceOf elements last) (first ∷ left) → IsTailOf elements first tail → walk.best ≡ first.best → walk.ahead ≡ tail.ahead -ℤ total (pairs_of tail.cells.now) → walk.left.now ≡ left
+pub IsWalk-first : (elements : List (List (ℕ × ℤ))) (last : ℕ) (first : Place) (left : List Place) (walk : Walk)
+    (tail : Tail) → IsSequence elements → AllByRecursion IsFit (first ∷ left)
+    → AllByRecursion (IsPlaceOf elements last) (first ∷ left) → IsTailOf elements first tail → walk.best ≡ first.best
+    → walk.ahead ≡ tail.ahead -ℤ total (pairs_of tail.cells.now) → walk.left.now ≡ left
     → IsWalk elements (first.element + 1) walk
 IsWalk-first elements last first left walk tail sequence fit is of best ahead left' =
     let here = is.0 in
@@ -188,10 +208,12 @@ or-rest true b e = cc
 or-rest false b e = refl
 
 -- a test that an element passes, and one that it doesn't
-pub any-here : {A : Type 0} (test : A → Bool) (xs : List A) (k : ℕ) (d : A) (whole : Bool) → k < length xs → list_any test (drop k xs) ≡ whole → test (get_or xs k d) ≡ true → true ≡ whole
+pub any-here : {A : Type 0} (test : A → Bool) (xs : List A) (k : ℕ) (d : A) (whole : Bool) → k < length xs
+    → list_any test (drop k xs) ≡ whole → test (get_or xs k d) ≡ true → true ≡ whole
 any-here test xs k d whole within so_far passed =
     sym (or-true (test (get_or xs k d)) (list_any test (drop (suc k) xs)) passed) ∙ ap (list_any test) (sym (drop-cons xs k d within)) ∙ so_far
 
-pub any-next : {A : Type 0} (test : A → Bool) (xs : List A) (k : ℕ) (d : A) (whole : Bool) → k < length xs → list_any test (drop k xs) ≡ whole → test (get_or xs k d) ≡ false → list_any test (drop (k + 1) xs) ≡ whole
+pub any-next : {A : Type 0} (test : A → Bool) (xs : List A) (k : ℕ) (d : A) (whole : Bool) → k < length xs
+    → list_any test (drop k xs) ≡ whole → test (get_or xs k d) ≡ false → list_any test (drop (k + 1) xs) ≡ whole
 any-next test xs k d whole within so_far miss =
     rw add-one (sym (or-rest (test (get_or xs k d)) (list_any test (drop (suc k) xs)) miss) ∙ ap (list_any test) (sym (drop-cons xs k d within)) ∙ so_far)

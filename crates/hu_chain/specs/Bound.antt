@@ -1,6 +1,24 @@
 -- What a chain bounds: no pattern that grows from the chain's one earns more. After the prefix extension utility and
 -- the reduced sequence utility of HUS-Span (Wang, Huang and Chen, 2016).
-use Rattle.std.specs.Prelude.{◌^◌, ℕ, ℤ, pos, ◌+ℤ◌, ◌≤ℤ◌, ◌<ℤ◌, Option, None, Some, is_some, unwrap_or, List, [], ◌∷◌, ⊤, if◌then◌else◌}
+use Rattle.std.specs.Prelude.{
+  ◌^◌,
+  ℕ,
+  ℤ,
+  pos,
+  ◌+ℤ◌,
+  ◌≤ℤ◌,
+  ◌<ℤ◌,
+  Option,
+  None,
+  Some,
+  is_some,
+  unwrap_or,
+  List,
+  [],
+  ◌∷◌,
+  ⊤,
+  if◌then◌else◌,
+}
 use Rattle.hu_kind.specs.Sequence.{better, best_utility}
 use Rattle.hu_chain.specs.declared.place.Place.{Place}
 
@@ -23,7 +41,8 @@ extension_bound places = unwrap_or (greatest reach places) (pos 0)
 
 -- the same for a growth: 0 where the grown pattern doesn't occur
 abbrev pub reduced_bound : List Place → List (List ℕ) → List (List (ℕ × ℤ)) → ℤ
-reduced_bound places pattern elements = if is_some (best_utility pattern elements) then extension_bound places else pos 0
+reduced_bound places pattern elements =
+    if is_some (best_utility pattern elements) then extension_bound places else pos 0
 
 -- a utility, if there is one, is at most a bound
 abbrev pub IsAtMost : Option ℤ → ℤ → Type 0

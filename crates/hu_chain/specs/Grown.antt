@@ -18,7 +18,8 @@ CanGrow AfterLast pattern item = Ends pattern
 -- growths, one after the other, lead from one pattern to another
 abbrev pub Leads : List (Growth × ℕ) → List (List ℕ) → List (List ℕ) → Type 0
 Leads [] pattern other = pattern ≡ other
-Leads (step ∷ steps) pattern other = CanGrow step.0 pattern step.1 × Leads steps (grown step.0 pattern step.1) other
+Leads (step ∷ steps) pattern other =
+    CanGrow step.0 pattern step.1 × Leads steps (grown step.0 pattern step.1) other
 
 -- a pattern comes of another one by any number of growths
 pub record IsGrownFrom (pattern other : List (List ℕ)) : Type 0 where

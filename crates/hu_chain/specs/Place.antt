@@ -1,6 +1,25 @@
 -- The places of a pattern in a sequence: the cells at which its occurrences end, each with the best utility of those
 -- that end there and with all values after it. After the utility chains of HUS-Span (Wang, Huang and Chen, 2016).
-use Rattle.std.specs.Prelude.{ℕ, suc, ◌==◌, ℤ, pos, ◌+ℤ◌, Option, None, option_map, option_to_list, List, [], ◌∷◌, ◌++◌, take, drop, slice_index_or, if◌then◌else◌}
+use Rattle.std.specs.Prelude.{
+  ℕ,
+  suc,
+  ◌==◌,
+  ℤ,
+  pos,
+  ◌+ℤ◌,
+  Option,
+  None,
+  option_map,
+  option_to_list,
+  List,
+  [],
+  ◌∷◌,
+  ◌++◌,
+  take,
+  drop,
+  slice_index_or,
+  if◌then◌else◌,
+}
 use Rattle.hu_kind.specs.Record.{holds, values_of, total}
 use Rattle.hu_kind.specs.Sequence.{best_utility}
 use Rattle.hu_chain.specs.declared.place.Place.{Place}
@@ -25,7 +44,8 @@ cell_of item (cell ∷ cells) = if item == cell.0 then 0 else suc (cell_of item 
 abbrev pub best_at : List (List ℕ) → List (List (ℕ × ℤ)) → ℕ → Option ℤ
 best_at pattern elements e =
     if holds (last_itemset pattern) (element_at elements e)
-    then option_map (λ u. u +ℤ values_of (last_itemset pattern) (element_at elements e)) (best_utility (earlier pattern) (take e elements))
+    then option_map (λ u. u +ℤ values_of (last_itemset pattern) (element_at elements e))
+    (best_utility (earlier pattern) (take e elements))
     else None
 
 -- the sum of all values after a cell of an element, there and in the later elements
@@ -46,7 +66,8 @@ place_at pattern elements e = option_map
 -- the places of a pattern in those elements of a sequence that are left, of which the first has a number
 abbrev pub places_from : List (List ℕ) → List (List (ℕ × ℤ)) → ℕ → List (List (ℕ × ℤ)) → List Place
 places_from pattern elements e [] = []
-places_from pattern elements e (cells ∷ left) = option_to_list (place_at pattern elements e) ++ places_from pattern elements (suc e) left
+places_from pattern elements e (cells ∷ left) =
+    option_to_list (place_at pattern elements e) ++ places_from pattern elements (suc e) left
 
 -- the chain of a pattern in a sequence: its places in order
 abbrev pub chain_of : List (List ℕ) → List (List (ℕ × ℤ)) → List Place

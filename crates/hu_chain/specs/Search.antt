@@ -1,6 +1,35 @@
 -- How the places of a grown pattern are found: the item's cell is looked for among the cells of an element, and the
 -- elements after a place are walked through with the best utility so far.
-use Rattle.std.specs.Prelude.{◌≡◌, ⊤, ◌+◌, ◌<◌, ◌≤◌, ◌^◌, ℕ, suc, ◌==◌, ℤ, pos, ◌+ℤ◌, ◌≤ℤ◌, ◌<ℤ◌, Bool, true, false, Option, None, Some, option_to_list, List, [], ◌∷◌, ◌++◌, drop, length, if◌then◌else◌}
+use Rattle.std.specs.Prelude.{
+  ◌≡◌,
+  ⊤,
+  ◌+◌,
+  ◌<◌,
+  ◌≤◌,
+  ◌^◌,
+  ℕ,
+  suc,
+  ◌==◌,
+  ℤ,
+  pos,
+  ◌+ℤ◌,
+  ◌≤ℤ◌,
+  ◌<ℤ◌,
+  Bool,
+  true,
+  false,
+  Option,
+  None,
+  Some,
+  option_to_list,
+  List,
+  [],
+  ◌∷◌,
+  ◌++◌,
+  drop,
+  length,
+  if◌then◌else◌,
+}
 use Rattle.std.specs.Int.{int_max}
 use Rattle.std.specs.List.{flat_map, list_any, AllByRecursion}
 use Rattle.hu_kind.specs.Cell.{pairs_of}
@@ -45,16 +74,19 @@ left_past e (place ∷ places) = if e == place.element then places else place �
 abbrev pub walked : ℕ → ℕ → ℤ → List Place → List (List (ℕ × ℤ)) → List Place
 walked item e best places [] = []
 walked item e best places (cells ∷ later) =
-    option_to_list (found e 0 item best (totals later) cells) ++ walked item (suc e) (best_past e best places) (left_past e places) later
+    option_to_list (found e 0 item best (totals later) cells)
+    ++ walked item (suc e) (best_past e best places) (left_past e places) later
 
 -- the places of a pattern with an item in its last itemset: each in the element of a place
 abbrev pub joined_places : List (List (ℕ × ℤ)) → ℕ → List Place → List Place
-joined_places elements item places = flat_map (λ place. option_to_list (found_at elements item place.element place.best)) places
+joined_places elements item places =
+    flat_map (λ place. option_to_list (found_at elements item place.element place.best)) places
 
 -- the places of a pattern with an item in a new last itemset: each in an element after the first place
 abbrev pub followed_places : List (List (ℕ × ℤ)) → ℕ → List Place → List Place
 followed_places elements item [] = []
-followed_places elements item (place ∷ places) = walked item (suc place.element) place.best places (drop (suc place.element) elements)
+followed_places elements item (place ∷ places) =
+    walked item (suc place.element) place.best places (drop (suc place.element) elements)
 
 -- an itemset whose items ascend and whose values are at least 0
 pub record IsPlain (cells : List (ℕ × ℤ)) : Type 0 where

@@ -58,7 +58,9 @@ reduced_by_nine = refl
 
 -- the sequence `1[1] 4[12] -1 3[20] -1 2[4] -1 5[1] 7[2] -1`
 abbrev pub whole_record : List (List (ℕ × ℤ))
-whole_record = ((1, pos 1) ∷ (4, pos 12) ∷ []) ∷ ((3, pos 20) ∷ []) ∷ ((2, pos 4) ∷ []) ∷ ((5, pos 1) ∷ (7, pos 2) ∷ []) ∷ []
+whole_record =
+    ((1, pos 1) ∷ (4, pos 12) ∷ []) ∷ ((3, pos 20) ∷ []) ∷ ((2, pos 4) ∷ [])
+    ∷ ((5, pos 1) ∷ (7, pos 2) ∷ []) ∷ []
 
 -- `1 -1` in it, and with 4 in its last itemset
 pub chain_of_first : chain_of one whole_record ≡ place_of 0 0 1 39 ∷ []

@@ -65,8 +65,11 @@ impl Chain {
     /// looked for by halves in the element of each place, and the values up to it are summed: at most one pass over
     /// these elements.
     pub fn into_last(&self, alloc: Global, seq: &SeqRecord, item: Item) -> Result<Chain, NoMemory>
-        requires { (pattern : List (List ℕ)) × EndsBelow pattern item.0 × (self.now ≡ chain_of pattern seq.now) }
-        ensures { (pattern : List (List ℕ)) → EndsBelow pattern item.0 → self.now ≡ chain_of pattern seq.now → IfOk result (λ chain. chain ≡ chain_of (into pattern item.0) seq.now) }
+        requires { (pattern : List (List ℕ)) × EndsBelow pattern item.0
+            × (self.now ≡ chain_of pattern seq.now) }
+        ensures { (pattern : List (List ℕ)) → EndsBelow pattern item.0 → self.now
+            ≡ chain_of pattern seq.now → IfOk result
+            (λ chain. chain ≡ chain_of (into pattern item.0) seq.now) }
     {
         let places = joined(alloc, &self.places, seq.elements(), item)?;
         Ok(Chain { places })
@@ -76,7 +79,8 @@ impl Chain {
     /// with the greatest utility so far.
     pub fn after_last(&self, alloc: Global, seq: &SeqRecord, item: Item) -> Result<Chain, NoMemory>
         requires { (pattern : List (List ℕ)) × Ends pattern × (self.now ≡ chain_of pattern seq.now) }
-        ensures { (pattern : List (List ℕ)) → Ends pattern → self.now ≡ chain_of pattern seq.now → IfOk result (λ chain. chain ≡ chain_of (after pattern item.0) seq.now) }
+        ensures { (pattern : List (List ℕ)) → Ends pattern → self.now ≡ chain_of pattern seq.now
+            → IfOk result (λ chain. chain ≡ chain_of (after pattern item.0) seq.now) }
     {
         let places = followed(alloc, &self.places, seq.elements(), item)?;
         Ok(Chain { places })
@@ -95,7 +99,8 @@ impl Chain {
     pub fn utility(&self) -> Option<i128>
         ensures value { result ≡ best_of self.now }
         ensures none { IsNone result ↔ (self.now ≡ []) }
-        ensures best { (pattern : List (List ℕ)) → (elements : List (List (ℕ × ℤ))) → Ends pattern → self.now ≡ chain_of pattern elements → result ≡ best_utility pattern elements }
+        ensures best { (pattern : List (List ℕ)) → (elements : List (List (ℕ × ℤ))) → Ends pattern → self.now
+            ≡ chain_of pattern elements → result ≡ best_utility pattern elements }
     {
         best_of(&self.places)
     }
@@ -105,8 +110,12 @@ impl Chain {
     pub fn extension_bound(&self) -> i128
         ensures value { result ≡ extension_bound self.now }
         ensures range { (pos 0 ≤ℤ result) × (result <ℤ pos (2 ^ 127)) }
-        ensures bound { (pattern other : List (List ℕ)) → (elements : List (List (ℕ × ℤ))) → IsSequence elements → Ends pattern → self.now ≡ chain_of pattern elements → IsGrownFrom pattern other → IsAtMost (best_utility other elements) result }
-        ensures within { (item : ℕ) → (pattern : List (List ℕ)) → (elements : List (List (ℕ × ℤ))) → IsSequence elements → IsGrownFrom ((item ∷ []) ∷ []) pattern → self.now ≡ chain_of pattern elements → result ≤ℤ pos (sum_by absolute_of elements) }
+        ensures bound { (pattern other : List (List ℕ)) → (elements : List (List (ℕ × ℤ))) → IsSequence elements
+            → Ends pattern → self.now ≡ chain_of pattern elements → IsGrownFrom pattern other
+            → IsAtMost (best_utility other elements) result }
+        ensures within { (item : ℕ) → (pattern : List (List ℕ)) → (elements : List (List (ℕ × ℤ)))
+            → IsSequence elements → IsGrownFrom ((item ∷ []) ∷ []) pattern → self.now
+            ≡ chain_of pattern elements → result ≤ℤ pos (sum_by absolute_of elements) }
     {
         greatest_reach(&self.places).unwrap_or(0)
     }
@@ -115,9 +124,14 @@ impl Chain {
     /// pattern that grows from the grown one earns more in the record. The item is looked for by halves in the elements
     /// of the places, or in those after the first one, until it is found.
     pub fn reduced_bound(&self, seq: &SeqRecord, growth: Growth, item: Item) -> i128
-        requires { (pattern : List (List ℕ)) × CanGrow growth pattern item.0 × (self.now ≡ chain_of pattern seq.now) }
-        ensures value { (pattern : List (List ℕ)) → CanGrow growth pattern item.0 → self.now ≡ chain_of pattern seq.now → result ≡ reduced_bound self.now (grown growth pattern item.0) seq.now }
-        ensures bound { (pattern other : List (List ℕ)) → CanGrow growth pattern item.0 → self.now ≡ chain_of pattern seq.now → IsGrownFrom (grown growth pattern item.0) other → IsAtMost (best_utility other seq.now) result }
+        requires { (pattern : List (List ℕ)) × CanGrow growth pattern item.0
+            × (self.now ≡ chain_of pattern seq.now) }
+        ensures value { (pattern : List (List ℕ)) → CanGrow growth pattern item.0 → self.now
+            ≡ chain_of pattern seq.now → result ≡ reduced_bound self.now
+            (grown growth pattern item.0) seq.now }
+        ensures bound { (pattern other : List (List ℕ)) → CanGrow growth pattern item.0 → self.now
+            ≡ chain_of pattern seq.now → IsGrownFrom (grown growth pattern item.0) other
+            → IsAtMost (best_utility other seq.now) result }
     {
         if occurs(&self.places, seq.elements(), growth, item) {
             self.extension_bound()
@@ -212,7 +226,8 @@ fn followed(
 fn occurs(places: &[Place], elements: &[Element], growth: Growth, item: Item) -> bool
     requires sequence { IsSequence elements.now }
     requires fit { AllByRecursion IsFit places.now }
-    requires places { (last : ℕ) × MayFollow growth last item.0 × AllByRecursion (IsPlaceOf elements.now last) places.now }
+    requires places { (last : ℕ) × MayFollow growth last item.0 × AllByRecursion
+        (IsPlaceOf elements.now last) places.now }
     ensures { result ≡ occurs growth item.0 elements.now places.now }
 {
     match growth {

@@ -66,7 +66,9 @@ impl Tail<'_> {
     /// The place at which the occurrence ends with an item more, where a cell has it.
     pub(crate) fn ended(&self, item: Item) -> Option<Place>
         requires { IsTail self.now }
-        ensures value { result ≡ found self.now.element self.now.first item.0 self.now.best (self.now.ahead -ℤ total (pairs_of self.now.cells.now)) (pairs_of self.now.cells.now) }
+        ensures value { result ≡ found self.now.element self.now.first item.0 self.now.best
+            (self.now.ahead -ℤ total (pairs_of self.now.cells.now))
+            (pairs_of self.now.cells.now) }
         ensures fit { IfSome result IsFit }
     {
         let cell = cell_in(self.cells, item)?;
@@ -117,7 +119,8 @@ pub(crate) fn cell_in(cells: &[Cell], item: Item) -> Option<usize>
 fn cells_below(cells: &[Cell], item: Item) -> usize
     requires { Ascend (items_in (pairs_of cells.now)) }
     ensures within { result ≤ length cells.now }
-    ensures splits { IsPartitionPoint (λ cell. cell.item.0 < item.0) (λ cell. item.0 ≤ cell.item.0) cells.now result }
+    ensures splits { IsPartitionPoint (λ cell. cell.item.0 < item.0)
+        (λ cell. item.0 ≤ cell.item.0) cells.now result }
 {
     cells.partition_point(|cell| cell.item.0 < item.0)
 }

@@ -76,7 +76,9 @@ pub(crate) fn places_from(
 ) -> Result<Vec<Place>, NoMemory>
     requires sequence { IsSequence elements.now }
     requires walk { IsWalk elements.now first walk }
-    ensures value { IfOk result (λ places. places.items ≡ walked item.0 first walk.entry.best walk.entry.left.now (drop first elements.now)) }
+    ensures value { IfOk result
+        (λ places. places.items ≡ walked item.0 first walk.entry.best walk.entry.left.now
+        (drop first elements.now)) }
     ensures fit { IfOk result (λ places. AllByRecursion IsFit places.items) }
 {
     let mut walk = walk;

@@ -1,5 +1,6 @@
 -- What stands at the places of an item's holders: the records that hold it.
-use Rattle.std.proofs.Common.{◌≡◌, ◌∙◌, ℕ, ◌+◌, ◌<◌, ℤ, pos, Bool, true, false, cond, ◌||◌, List, [], ◌∷◌, ◌++◌, map, length, get_or, refl, sym, ap, subst, inl, inr, arith, filter}
+use Rattle.std.proofs.Common.{◌≡◌, ◌∙◌, ℕ, ◌+◌, ◌<◌, ℤ, pos, Bool, true, false, cond, ◌||◌, List, [], ◌∷◌, ◌++◌, map}
+use Rattle.std.proofs.Common.{length, get_or, refl, sym, ap, subst, inl, inr, arith, filter}
 use Rattle.std.specs.List.{AllByRecursion}
 use Rattle.std.specs.Ordering.{int_eq}
 use Rattle.std.specs.declared.vec.Vec.{Vec}
@@ -25,14 +26,16 @@ use Rattle.hu_closed.proofs.Numbers.{is_among-above}
 -- the holders in one record: one where the number is among its items, else none
 pairs-of_record-cases : (g : ℕ → List ℕ) (number : ℤ) (k i : ℕ) (is : List ℕ) (b : Bool) → int_eq number (pos i) ≡ b → AllByRecursion (λ j. i < j) is
     → map (λ pair. g pair.1) (pairs_with number (map (λ j. (j, k)) is)) ≡ cond (is_among is number) (g k ∷ []) []
-    → map (λ pair. g pair.1) (cond b ((i, k) ∷ pairs_with number (map (λ j. (j, k)) is)) (pairs_with number (map (λ j. (j, k)) is))) ≡ cond (b || is_among is number) (g k ∷ []) []
+    → map (λ pair. g pair.1) (cond b ((i, k) ∷ pairs_with number (map (λ j. (j, k)) is))
+    (pairs_with number (map (λ j. (j, k)) is))) ≡ cond (b || is_among is number) (g k ∷ []) []
 pairs-of_record-cases g number k i is true e up ih =
     let same = (Decides-int_eq number (pos i)).0 e in
     let none = is_among-above i is number up (omega (arith, ints, same)) in
     ap (λ rest. g k ∷ rest) (ih ∙ ap (λ b. cond b (g k ∷ []) []) none)
 pairs-of_record-cases g number k i is false e up ih = ih
 
-pub pairs-of_record : (g : ℕ → List ℕ) (number : ℤ) (k : ℕ) (items : List ℕ) → Ascend items → map (λ pair. g pair.1) (pairs_with number (map (λ i. (i, k)) items)) ≡ cond (is_among items number) (g k ∷ []) []
+pub pairs-of_record : (g : ℕ → List ℕ) (number : ℤ) (k : ℕ) (items : List ℕ) → Ascend items
+    → map (λ pair. g pair.1) (pairs_with number (map (λ i. (i, k)) items)) ≡ cond (is_among items number) (g k ∷ []) []
 pairs-of_record g number k [] up = refl
 pairs-of_record g number k (i ∷ is) up = pairs-of_record-cases g number k i is (int_eq number (pos i)) refl up.0 (pairs-of_record g number k is up.1)
 
@@ -52,7 +55,9 @@ lists-of_pairs number before (items ∷ lists) k many up =
     let rest = lists-of_pairs number (before ++ items ∷ []) lists (k + 1) more up.1 in
     ap (map (λ pair. g pair.1)) (filter-append (λ (pair : ℕ × ℕ). int_eq number (pos pair.0)) (map (λ i. (i, k)) items) (pairs_from (k + 1) lists))
     ∙ map-append (λ (pair : ℕ × ℕ). g pair.1) (pairs_with number (map (λ i. (i, k)) items)) (pairs_with number (pairs_from (k + 1) lists))
-    ∙ (λ j. pairs-of_record g number k items up.0 j ++ subst (λ ls. map (λ pair. get_or ls pair.1 []) (pairs_with number (pairs_from (k + 1) lists)) ≡ filter (λ items. is_among items number) lists) joined rest j)
+    ∙ (λ j. pairs-of_record g number k items up.0 j ++ subst
+    (λ ls. map (λ pair. get_or ls pair.1 []) (pairs_with number (pairs_from (k + 1) lists))
+    ≡ filter (λ items. is_among items number) lists) joined rest j)
     ∙ one-more (is_among items number) (g k) (filter (λ items. is_among items number) lists)
     ∙ ap (λ one. cond (is_among items number) (one ∷ filter (λ items. is_among items number) lists) (filter (λ items. is_among items number) lists)) here
 
@@ -69,7 +74,8 @@ pub AreLists-sets : (records : List (List (ℕ × ℤ))) (vs : List (Vec Item Gl
 AreLists-sets records vs holders are = subst AreLists (sym are.lists) (All-from_each Ascend (map items_in records) (ascend-each records are.rules))
 
 -- at the places of an item's holders stand the records that hold it
-pub found-sets : (records : List (List (ℕ × ℤ))) (vs : List (Vec Item Global)) (holders places : List Holder) (number : ℤ) → AreSets records vs holders → places ≡ filter (stands_at number) holders
+pub found-sets : (records : List (List (ℕ × ℤ))) (vs : List (Vec Item Global)) (holders places : List Holder)
+    (number : ℤ) → AreSets records vs holders → places ≡ filter (stands_at number) holders
     → found_at (lists_of vs) places ≡ filter (λ items. is_among items number) (map items_in records)
 found-sets records vs holders places number are of =
     found-pairs (lists_of vs) places
@@ -89,7 +95,8 @@ within-members : (n : ℕ) (places : List Holder) → ((h : Holder) → Member h
 within-members n [] each = tt
 within-members n (h ∷ places) each = (each h (inl refl), within-members n places (λ g m. each g (inr m)))
 
-pub AreWithin-sets : (records : List (List (ℕ × ℤ))) (vs : List (Vec Item Global)) (holders places : List Holder) (number : ℤ) → AreSets records vs holders → places ≡ filter (stands_at number) holders
+pub AreWithin-sets : (records : List (List (ℕ × ℤ))) (vs : List (Vec Item Global)) (holders places : List Holder)
+    (number : ℤ) → AreSets records vs holders → places ≡ filter (stands_at number) holders
     → AreWithin (length vs) places
 AreWithin-sets records vs holders places number are of =
     let many : length vs ≡ length (map items_in records) = sym (length-map vs (λ (v : Vec Item Global). numbers_of v.items)) ∙ ap length are.lists in

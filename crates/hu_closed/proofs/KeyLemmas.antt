@@ -1,5 +1,7 @@
 -- Keys of itemsets ascend, so an item is found in them by halves.
-use Rattle.std.proofs.Common.{◌≡◌, ℕ, zero, suc, ◌+◌, ◌<◌, ℤ, pos, negsuc, ◌<ℤ◌, ◌≤ℤ◌, int_lt, int_le, true, false, ◌&&◌, Result, Ok, Err, List, [], ◌∷◌, length, get_or, sym, ap, arith, nat_lt, inl, inr, Less, Equal, Greater}
+use Rattle.std.proofs.Common.{◌≡◌, ℕ, zero, suc, ◌+◌, ◌<◌, ℤ, pos, negsuc, ◌<ℤ◌, ◌≤ℤ◌, int_lt, int_le, true, false}
+use Rattle.std.proofs.Common.{◌&&◌, Result, Ok, Err, List, [], ◌∷◌, length, get_or, sym, ap, arith, nat_lt, inl, inr}
+use Rattle.std.proofs.Common.{Less, Equal, Greater}
 use Rattle.std.specs.Result.{is_err}
 use Rattle.std.specs.List.{All, list_any}
 use Rattle.std.specs.List.Sorted.{IsSortedBy, IsBinarySearchResult, IsPartitionPoint, IsSearchInRange}
@@ -38,7 +40,8 @@ not_outside : (key : List ℤ) (item i : ℕ) → i < length key → int_cmp (ge
 not_outside key item i within same =
     sym (not_from_true (list_any (λ n. int_eq n (pos item)) key) (list_any_at (λ n. int_eq n (pos item)) key i (pos item) within (ap is_eq same)))
 
-outside : (key : List ℤ) (item i : ℕ) → IsPartitionPoint (λ y. int_cmp y (pos item) ≡ Less) (λ y. int_cmp y (pos item) ≡ Greater) key i → true ≡ is_outside key item
+outside : (key : List ℤ) (item i : ℕ) → IsPartitionPoint (λ y. int_cmp y (pos item) ≡ Less)
+    (λ y. int_cmp y (pos item) ≡ Greater) key i → true ≡ is_outside key item
 outside key item i parts =
     let each : All (λ n. int_eq n (pos item) ≡ false) key = λ k d within. elim (cases_lt k i) [
       | inl before ↦ ap is_eq (parts.0 k d (omega arith) before)
@@ -47,7 +50,8 @@ outside key item i parts =
     sym (not_from_false (list_any (λ n. int_eq n (pos item)) key) (list_any_none (λ n. int_eq n (pos item)) key each))
 
 -- a search by halves finds an item where it isn't outside
-pub outside-found : (key : List ℤ) (item : ℕ) (r : Result ℕ ℕ) → is_set_key key ≡ true → IsSearchInRange r (length key) → IsBinarySearchResult (λ y. int_cmp y (pos item)) key r → is_err r ≡ is_outside key item
+pub outside-found : (key : List ℤ) (item : ℕ) (r : Result ℕ ℕ) → is_set_key key ≡ true → IsSearchInRange r (length key)
+    → IsBinarySearchResult (λ y. int_cmp y (pos item)) key r → is_err r ≡ is_outside key item
 outside-found key item (Ok i) h within found = not_outside key item i within (found (pos item))
 outside-found key item (Err i) h within found =
     outside key item i (found (searchable_from_sorted int_cmp_total (λ (n : ℤ). n) key (pos item) (key-sorted key h)))

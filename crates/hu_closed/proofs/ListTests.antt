@@ -51,13 +51,15 @@ any-member p (x ∷ xs) h = elim (or_cases (p x) (list_any p xs) h) [
 ]
 
 -- lists with the same members among those that pass
-pub any-members : {X : Type 0} (p : X → Bool) (xs ys : List X) → ((x : X) → p x ≡ true → Member x xs → Member x ys) → ((x : X) → p x ≡ true → Member x ys → Member x xs) → list_any p xs ≡ list_any p ys
+pub any-members : {X : Type 0} (p : X → Bool) (xs ys : List X) → ((x : X) → p x ≡ true → Member x xs → Member x ys)
+    → ((x : X) → p x ≡ true → Member x ys → Member x xs) → list_any p xs ≡ list_any p ys
 any-members p xs ys up down = same_bool (list_any p xs) (list_any p ys)
     (λ h. let found = any-member p xs h in any-from p found.0 ys (up found.0 found.2 found.1) found.2)
     (λ h. let found = any-member p ys h in any-from p found.0 xs (down found.0 found.2 found.1) found.2)
 
 -- elements that a filter leaves out
-all-filter-cons : {X : Type 0} (p q : X → Bool) (x : X) (xs : List X) (b : Bool) → q x ≡ b → (q x ≡ false → p x ≡ true) → list_all p (filter q xs) ≡ list_all p xs
+all-filter-cons : {X : Type 0} (p q : X → Bool) (x : X) (xs : List X) (b : Bool) → q x ≡ b → (q x ≡ false → p x ≡ true)
+    → list_all p (filter q xs) ≡ list_all p xs
     → list_all p (cond b (x ∷ filter q xs) (filter q xs)) ≡ (p x && list_all p xs)
 all-filter-cons p q x xs true e out ih = ap (λ b. p x && b) ih
 all-filter-cons p q x xs false e out ih = rw (out e) ih
@@ -69,7 +71,8 @@ all-filter p q out (x ∷ xs) = all-filter-cons p q x xs (q x) refl (out x) (all
 pub count-cons : {X : Type 0} (p : X → Bool) (x : X) (xs : List X) → count_by p (x ∷ xs) ≡ cond (p x) 1 0 + count_by p xs
 count-cons p x xs = sum_by-cons (λ y. cond (p y) 1 0) x xs
 
-count-filter-cons : {X : Type 0} (p q : X → Bool) (x : X) (xs : List X) (b : Bool) → q x ≡ b → (q x ≡ false → p x ≡ false) → count_by p (filter q xs) ≡ count_by p xs
+count-filter-cons : {X : Type 0} (p q : X → Bool) (x : X) (xs : List X) (b : Bool) → q x ≡ b
+    → (q x ≡ false → p x ≡ false) → count_by p (filter q xs) ≡ count_by p xs
     → count_by p (cond b (x ∷ filter q xs) (filter q xs)) ≡ cond (p x) 1 0 + count_by p xs
 count-filter-cons p q x xs true e out ih = count-cons p x (filter q xs) ∙ ap (λ n. cond (p x) 1 0 + n) ih
 count-filter-cons p q x xs false e out ih = rw (out e) (omega (arith, ih))

@@ -1,5 +1,6 @@
 -- Signed numbers among ascending items.
-use Rattle.std.proofs.Common.{◌≡◌, ◌∙◌, ℕ, zero, suc, ◌<◌, ◌≤◌, ◌^◌, ◌-◌, ℤ, pos, negsuc, ◌<ℤ◌, ◌≤ℤ◌, int_lt, SFits, of_z, false, eqb, List, [], ◌∷◌, length, get_or, refl, sym, ap, inl, inr, arith}
+use Rattle.std.proofs.Common.{◌≡◌, ◌∙◌, ℕ, zero, suc, ◌<◌, ◌≤◌, ◌^◌, ◌-◌, ℤ, pos, negsuc, ◌<ℤ◌, ◌≤ℤ◌, int_lt, SFits}
+use Rattle.std.proofs.Common.{of_z, false, eqb, List, [], ◌∷◌, length, get_or, refl, sym, ap, inl, inr, arith}
 use Rattle.std.specs.Int.{w64}
 use Rattle.std.specs.List.{AllByRecursion}
 use Rattle.std.specs.List.Sorted.{IsPartitionedBy, IsPartitionPoint}
@@ -37,10 +38,12 @@ is_among-above x (y ∷ ys) number up low =
 pub is_among-below : (xs : List ℕ) (number : ℤ) → ((j : ℕ) → j < length xs → pos (get_or xs j 0) <ℤ number) → is_among xs number ≡ false
 is_among-below [] number low = refl
 is_among-below (y ∷ ys) number low =
-    or_from (int_eq number (pos y)) (is_among ys number) (ne_above (pos y) number (low 0 (omega arith))) (is_among-below ys number (λ j within. low (suc j) (omega arith)))
+    or_from (int_eq number (pos y)) (is_among ys number) (ne_above (pos y) number (low 0 (omega arith)))
+    (is_among-below ys number (λ j within. low (suc j) (omega arith)))
 
 -- between both it is at its place alone
-pub is_among-at : (xs : List ℕ) (k : ℕ) (number : ℤ) → Ascend xs → ((j : ℕ) → j < k → pos (get_or xs j 0) <ℤ number) → number ≤ℤ pos (get_or xs k 0) → k < length xs → is_among xs number ≡ int_eq number (pos (get_or xs k 0))
+pub is_among-at : (xs : List ℕ) (k : ℕ) (number : ℤ) → Ascend xs → ((j : ℕ) → j < k → pos (get_or xs j 0) <ℤ number)
+    → number ≤ℤ pos (get_or xs k 0) → k < length xs → is_among xs number ≡ int_eq number (pos (get_or xs k 0))
 is_among-at [] k number up low high within = absurd (omega arith)
 is_among-at (x ∷ xs) zero number up low high within = rw (is_among-above x xs number up.0 high) (grind arith)
 is_among-at (x ∷ xs) (suc k) number up low high within =
@@ -70,7 +73,8 @@ IsPartitionedBy-items items number up i j d upto within low = elim (cases_lt i j
 ]
 
 -- where items part at a number, it is among them just where it is the item there
-pub is_among-parted : (items : List Item) (number : ℤ) (k : ℕ) (d : Item) → Ascend (numbers_of items) → IsPartitionPoint (λ item. pos item.0 <ℤ number) (λ item. number ≤ℤ pos item.0) items k → k < length items
+pub is_among-parted : (items : List Item) (number : ℤ) (k : ℕ) (d : Item) → Ascend (numbers_of items)
+    → IsPartitionPoint (λ item. pos item.0 <ℤ number) (λ item. number ≤ℤ pos item.0) items k → k < length items
     → is_among (numbers_of items) number ≡ int_eq number (pos (get_or items k d).0)
 is_among-parted items number k d up parts within =
     let same : get_or (numbers_of items) k 0 ≡ (get_or items k d).0 = get_or-map (λ item. item.0) items k d 0 within in
@@ -80,7 +84,8 @@ is_among-parted items number k d up parts within =
     let h = parts.0 j d (omega arith) before in omega (arith, ints, h, at) in
     is_among-at (numbers_of items) k number up low high (omega (arith, length-map items (λ (item : Item). item.0))) ∙ ap (λ n. int_eq number (pos n)) same
 
-pub is_among-past : (items : List Item) (number : ℤ) (k : ℕ) → IsPartitionPoint (λ item. pos item.0 <ℤ number) (λ item. number ≤ℤ pos item.0) items k → length items ≤ k
+pub is_among-past : (items : List Item) (number : ℤ) (k : ℕ)
+    → IsPartitionPoint (λ item. pos item.0 <ℤ number) (λ item. number ≤ℤ pos item.0) items k → length items ≤ k
     → is_among (numbers_of items) number ≡ false
 is_among-past items number k parts past =
     is_among-below (numbers_of items) number (λ j within.

@@ -1,5 +1,6 @@
 -- The holders of records as pairs (item, place), and those of one item.
-use Rattle.std.proofs.Common.{◌≡◌, ◌∙◌, ℕ, suc, ◌+◌, ◌<◌, ℤ, pos, negsuc, Bool, true, false, cond, not, ◌&&◌, List, [], ◌∷◌, ◌++◌, map, length, get_or, take, refl, sym, ap, arith, filter, nat_cmp}
+use Rattle.std.proofs.Common.{◌≡◌, ◌∙◌, ℕ, suc, ◌+◌, ◌<◌, ℤ, pos, negsuc, Bool, true, false, cond, not, ◌&&◌, List, []}
+use Rattle.std.proofs.Common.{◌∷◌, ◌++◌, map, length, get_or, take, refl, sym, ap, arith, filter, nat_cmp}
 use Rattle.std.specs.List.Sorted.{IsStableByKey, ties}
 use Rattle.std.specs.Ordering.{int_eq, is_lt}
 use Rattle.std.specs.declared.vec.Vec.{Vec}
@@ -25,7 +26,8 @@ pub pairs_from-more : (lists : List (Vec Item Global)) (i : ℕ) (d : Vec Item G
     → pairs_from 0 (lists_of (take (i + 1) lists)) ≡ pairs_from 0 (lists_of (take i lists)) ++ map (λ item. (item, i)) (numbers_of (get_or lists i d).items)
 pairs_from-more lists i d within =
     let last = numbers_of (get_or lists i d).items in
-    let many : 0 + length (lists_of (take i lists)) ≡ i = omega (arith, length-map (take i lists) (λ (v : Vec Item Global). numbers_of v.items), length-take i lists) in
+    let many : 0 + length (lists_of (take i lists)) ≡ i =
+    omega (arith, length-map (take i lists) (λ (v : Vec Item Global). numbers_of v.items), length-take i lists) in
     ap (λ vs. pairs_from 0 (lists_of vs)) (take_more lists i d within)
     ∙ ap (pairs_from 0) (map-append (λ (v : Vec Item Global). numbers_of v.items) (take i lists) (get_or lists i d ∷ []))
     ∙ pairs_from-append 0 (lists_of (take i lists)) (last ∷ [])
@@ -53,7 +55,8 @@ ties-number : (n m : ℕ) → (not (is_lt (nat_cmp n m)) && not (is_lt (nat_cmp 
 ties-number n m = grind (arith, nat_tests)
 
 -- a stable sort by item keeps the holders of an item as they are
-pub stands_at-stable : (xs ys : List Holder) → IsStableByKey (λ h. h.item.0) nat_cmp xs ys → (number : ℤ) → filter (stands_at number) ys ≡ filter (stands_at number) xs
+pub stands_at-stable : (xs ys : List Holder) → IsStableByKey (λ h. h.item.0) nat_cmp xs ys → (number : ℤ)
+    → filter (stands_at number) ys ≡ filter (stands_at number) xs
 stands_at-stable xs ys stable (pos n) =
     let like : Holder = record { item = record { 0 = n }; place = 0 } in
     let same = λ (h : Holder). ties-number n h.item.0 in
@@ -63,7 +66,8 @@ stands_at-stable xs ys stable (pos n) =
 stands_at-stable xs ys stable (negsuc n) = filter-none (stands_at (negsuc n)) (λ h. refl) ys ∙ sym (filter-none (stands_at (negsuc n)) (λ h. refl) xs)
 
 -- the holders of an item, as pairs
-pub pairs_with-sorted : (xs ys : List Holder) (pairs : List (ℕ × ℕ)) → IsStableByKey (λ h. h.item.0) nat_cmp xs ys → map pair_of xs ≡ pairs → (number : ℤ) → map pair_of (filter (stands_at number) ys) ≡ pairs_with number pairs
+pub pairs_with-sorted : (xs ys : List Holder) (pairs : List (ℕ × ℕ)) → IsStableByKey (λ h. h.item.0) nat_cmp xs ys
+    → map pair_of xs ≡ pairs → (number : ℤ) → map pair_of (filter (stands_at number) ys) ≡ pairs_with number pairs
 pairs_with-sorted xs ys pairs stable are number =
     ap (map pair_of) (stands_at-stable xs ys stable number)
     ∙ map-filter pair_of (λ pair. int_eq number (pos pair.0)) xs

@@ -47,7 +47,9 @@ grown-part : (table before more : List ℕ) (last : ℕ) → is_part (key_of tab
 grown-part table before more last =
     let ranks = before ++ last ∷ [] in
     let grown = before ++ last ∷ more in
-    is_part-members (items_at table ranks) (items_at table grown) (Ascend-ranking (map (λ rank. get_or table rank 0) ranks)) (Ascend-ranking (map (λ rank. get_or table rank 0) grown)) (λ item m.
+    is_part-members (items_at table ranks) (items_at table grown)
+    (Ascend-ranking (map (λ rank. get_or table rank 0) ranks))
+    (Ascend-ranking (map (λ rank. get_or table rank 0) grown)) (λ item m.
     let rank = items_at-member table ranks item m in
     let in_grown : Member rank.0 grown = elim (Member-append_cases rank.0 before (last ∷ []) rank.1) [
       | inl early ↦ Member-append_left rank.0 before (last ∷ more) early
@@ -56,17 +58,20 @@ grown-part table before more last =
     ] in
     subst (λ i. Member i (items_at table grown)) rank.2 (member-items_at table grown rank.0 in_grown))
 
-grown-by : (inner : Option (List ℕ)) (table : List ℕ) (key : List ℤ) (last : ℕ) (grown : List ℤ) → RestsOn inner table → IsGrown (Some table) key last grown → IsGrown inner key last grown
+grown-by : (inner : Option (List ℕ)) (table : List ℕ) (key : List ℤ) (last : ℕ) (grown : List ℤ) → RestsOn inner table
+    → IsGrown (Some table) key last grown → IsGrown inner key last grown
 grown-by None table key last grown rests g =
     (λ j. is_part (g.3 j) (g.4 j)) ∙ grown-part table g.0 g.1 last
 grown-by (Some t) table key last grown rests g = subst (λ t. IsGrown (Some t) key last grown) (sym rests) g
 
 -- where the inner rule wants none of them
-pub wants-inner : (inner : Rule) (records : List (List (ℕ × ℤ))) (table : List ℕ) (key : List ℤ) (last : ℕ) → RestsOn inner.table table → IsShut inner key last → IsShut (closed_rule inner records table) key last
+pub wants-inner : (inner : Rule) (records : List (List (ℕ × ℤ))) (table : List ℕ) (key : List ℤ) (last : ℕ)
+    → RestsOn inner.table table → IsShut inner key last → IsShut (closed_rule inner records table) key last
 wants-inner inner records table key last rests none grown g =
     and_left (inner.wants grown) (is_closed_key records grown) (none grown (grown-by inner.table table key last grown rests g))
 
 -- where none of them is closed
-pub wants-closed : (inner : Rule) (records : List (List (ℕ × ℤ))) (table : List ℕ) (key : List ℤ) (last : ℕ) → ((grown : List ℤ) → IsGrown (Some table) key last grown → is_closed_key records grown ≡ false)
+pub wants-closed : (inner : Rule) (records : List (List (ℕ × ℤ))) (table : List ℕ) (key : List ℤ) (last : ℕ)
+    → ((grown : List ℤ) → IsGrown (Some table) key last grown → is_closed_key records grown ≡ false)
     → IsShut (closed_rule inner records table) key last
 wants-closed inner records table key last none grown g = and_right (inner.wants grown) (is_closed_key records grown) (none grown g)

@@ -1,5 +1,6 @@
 -- Holders by item part at a number: those before it, those at it, those after it.
-use Rattle.std.proofs.Common.{◌≡◌, ℕ, zero, suc, ◌≤◌, ◌-◌, ℤ, pos, ◌<ℤ◌, ◌≤ℤ◌, int_lt, int_le, true, List, [], ◌∷◌, length, take, drop, refl, subst, ap, arith, filter, inl, inr}
+use Rattle.std.proofs.Common.{◌≡◌, ℕ, zero, suc, ◌≤◌, ◌-◌, ℤ, pos, ◌<ℤ◌, ◌≤ℤ◌, int_lt, int_le, true, List, [], ◌∷◌}
+use Rattle.std.proofs.Common.{length, take, drop, refl, subst, ap, arith, filter, inl, inr}
 use Rattle.std.specs.List.Sorted.{IsNonDecreasingBy, IsPartitionedBy, IsPartitionPoint}
 use Rattle.std.specs.Ordering.{int_eq}
 use Rattle.std.proofs.lemmas.Int.{ints}
@@ -9,10 +10,12 @@ use Rattle.hu_closed.specs.declared.holders.Holder.{Holder}
 use Rattle.hu_closed.specs.Holders.{stands_at}
 use Rattle.hu_closed.proofs.Numbers.{ne_above, ne_below}
 
-pub IsPartitionedBy-below : (holders : List Holder) (number : ℤ) → IsNonDecreasingBy (λ h. h.item.0) holders → IsPartitionedBy (λ h. int_lt (pos h.item.0) number) holders
+pub IsPartitionedBy-below : (holders : List Holder) (number : ℤ) → IsNonDecreasingBy (λ h. h.item.0) holders
+    → IsPartitionedBy (λ h. int_lt (pos h.item.0) number) holders
 IsPartitionedBy-below holders number up i j d upto within low = let rise = up i j d upto within in grind (arith, ints)
 
-pub IsPartitionedBy-upto : (holders : List Holder) (number : ℤ) → IsNonDecreasingBy (λ h. h.item.0) holders → IsPartitionedBy (λ h. int_le (pos h.item.0) number) holders
+pub IsPartitionedBy-upto : (holders : List Holder) (number : ℤ) → IsNonDecreasingBy (λ h. h.item.0) holders
+    → IsPartitionedBy (λ h. int_le (pos h.item.0) number) holders
 IsPartitionedBy-upto holders number up i j d upto within low = let rise = up i j d upto within in grind (arith, ints)
 
 -- the first a are below a number, the first b are not above it
@@ -39,16 +42,21 @@ parts_in_order holders number a b parts within = elim (cases_lt b a) [
   | inr more ↦ more
 ]
 
-rest_below : (h : Holder) (hs : List Holder) (number : ℤ) (a : ℕ) → IsPartitionPoint (λ (h : Holder). pos h.item.0 <ℤ number) (λ (h : Holder). number ≤ℤ pos h.item.0) (h ∷ hs) (suc a)
+rest_below : (h : Holder) (hs : List Holder) (number : ℤ) (a : ℕ)
+    → IsPartitionPoint (λ (h : Holder). pos h.item.0 <ℤ number) (λ (h : Holder). number ≤ℤ pos h.item.0) (h ∷ hs)
+    (suc a)
     → IsPartitionPoint (λ (h : Holder). pos h.item.0 <ℤ number) (λ (h : Holder). number ≤ℤ pos h.item.0) hs a
 rest_below h hs number a p = (λ k d low high. p.0 (suc k) d (omega arith) (omega arith), λ k d low high. p.1 (suc k) d (omega arith) (omega arith))
 
-rest_upto : (h : Holder) (hs : List Holder) (number : ℤ) (b : ℕ) → IsPartitionPoint (λ (h : Holder). pos h.item.0 ≤ℤ number) (λ (h : Holder). number <ℤ pos h.item.0) (h ∷ hs) (suc b)
+rest_upto : (h : Holder) (hs : List Holder) (number : ℤ) (b : ℕ)
+    → IsPartitionPoint (λ (h : Holder). pos h.item.0 ≤ℤ number) (λ (h : Holder). number <ℤ pos h.item.0) (h ∷ hs)
+    (suc b)
     → IsPartitionPoint (λ (h : Holder). pos h.item.0 ≤ℤ number) (λ (h : Holder). number <ℤ pos h.item.0) hs b
 rest_upto h hs number b p = (λ k d low high. p.0 (suc k) d (omega arith) (omega arith), λ k d low high. p.1 (suc k) d (omega arith) (omega arith))
 
 -- those between are those at the number
-pub parts_at : (holders : List Holder) (number : ℤ) (a b : ℕ) → Parts holders number a b → b ≤ length holders → take (b - a) (drop a holders) ≡ filter (stands_at number) holders
+pub parts_at : (holders : List Holder) (number : ℤ) (a b : ℕ) → Parts holders number a b → b ≤ length holders
+    → take (b - a) (drop a holders) ≡ filter (stands_at number) holders
 parts_at [] number zero zero parts within = refl
 parts_at [] number (suc a) zero parts within = let none : 0 - suc a ≡ 0 = omega arith in rw none refl
 parts_at [] number a (suc b) parts within = absurd (omega arith)
@@ -77,4 +85,6 @@ parts_at (h ∷ hs) number (suc a) zero parts within =
 parts_at (h ∷ hs) number (suc a) (suc b) parts within =
     let low = parts.below.0 0 h (omega arith) (omega arith) in
     let less : suc b - suc a ≡ b - a = omega arith in
-    rw (ne_above (pos h.item.0) number low, less) (parts_at hs number a b (record { below = rest_below h hs number a parts.below; upto = rest_upto h hs number b parts.upto }) (omega arith))
+    rw (ne_above (pos h.item.0) number low, less) (parts_at hs number a b
+    (record { below = rest_below h hs number a parts.below; upto = rest_upto h hs number b parts.upto })
+    (omega arith))

@@ -1,6 +1,8 @@
 -- Record sets answer what their records say of a key.
 use Rattle.std.specs.Bool.{◌==◌}
-use Rattle.std.proofs.Common.{◌≡◌, ◌∙◌, ℕ, zero, suc, ◌+◌, ℤ, pos, Bool, true, false, cond, not, ◌&&◌, ◌||◌, eqb, Option, None, Some, option_map, List, [], ◌∷◌, map, length, take, refl, sym, ap, subst, inl, inr, arith, filter, count_by, flat_map, Contains, nat_cmp}
+use Rattle.std.proofs.Common.{◌≡◌, ◌∙◌, ℕ, zero, suc, ◌+◌, ℤ, pos, Bool, true, false, cond, not, ◌&&◌, ◌||◌, eqb}
+use Rattle.std.proofs.Common.{Option, None, Some, option_map, List, [], ◌∷◌, map, length, take, refl, sym, ap, subst}
+use Rattle.std.proofs.Common.{inl, inr, arith, filter, count_by, flat_map, Contains, nat_cmp}
 use Rattle.std.specs.List.{list_all, list_any}
 use Rattle.std.specs.Ordering.{int_eq}
 use Rattle.std.specs.declared.vec.Vec.{Vec}
@@ -13,7 +15,9 @@ use Rattle.std.proofs.lemmas.List.Folds.{list_all-map}
 use Rattle.hu_kind.specs.declared.item.Item.{Item}
 use Rattle.hu_kind.specs.Record.{has, items_in}
 use Rattle.hu_kind.specs.Database.{items_of}
-use Rattle.hu_kind.proofs.lemmas.Members.{Member, Member-append_cases, Member-append_left, Member-append_right, Member-filter, Member-from_contains, Member-from_filter, Member-from_flat_map, Member-from_map, Member-map}
+use Rattle.hu_kind.proofs.lemmas.Members.{Member, Member-append_cases, Member-append_left, Member-append_right}
+use Rattle.hu_kind.proofs.lemmas.Members.{Member-filter, Member-from_contains, Member-from_filter, Member-from_flat_map}
+use Rattle.hu_kind.proofs.lemmas.Members.{Member-from_map, Member-map}
 use Rattle.hu_kind.proofs.lemmas.Occurring.{has-member}
 use Rattle.hu_kind.proofs.lemmas.RecordLemmas.{list_any-map}
 use Rattle.hu_totals.specs.Weights.{numbers_of}
@@ -33,15 +37,18 @@ pub record Finds (records : List (List (ℕ × ℤ))) (vs : List (Vec Item Globa
   pub part : Contains key number
   pub of : places ≡ filter (stands_at number) holders
 
-found : (records : List (List (ℕ × ℤ))) (vs : List (Vec Item Global)) (holders : List Holder) (key : List ℤ) (places : List Holder) (f : Finds records vs holders key places)
+found : (records : List (List (ℕ × ℤ))) (vs : List (Vec Item Global)) (holders : List Holder) (key : List ℤ)
+    (places : List Holder) (f : Finds records vs holders key places)
     → found_at (lists_of vs) places ≡ filter (λ items. is_among items f.number) (map items_in records)
 found records vs holders key places f = found-sets records vs holders places f.number f.are f.of
 
-lacking : (records : List (List (ℕ × ℤ))) (vs : List (Vec Item Global)) (holders : List Holder) (key : List ℤ) (places : List Holder) (f : Finds records vs holders key places)
+lacking : (records : List (List (ℕ × ℤ))) (vs : List (Vec Item Global)) (holders : List Holder) (key : List ℤ)
+    (places : List Holder) (f : Finds records vs holders key places)
     → (items : List ℕ) → is_among items f.number ≡ false → are_among items key ≡ false
 lacking records vs holders key places f items out = among-part items key f.number (Member-from_contains f.number key f.part) out
 
-pub support-found : (records : List (List (ℕ × ℤ))) (vs : List (Vec Item Global)) (holders : List Holder) (key : List ℤ) (places : List Holder) → Finds records vs holders key places
+pub support-found : (records : List (List (ℕ × ℤ))) (vs : List (Vec Item Global)) (holders : List Holder) (key : List ℤ)
+    (places : List Holder) → Finds records vs holders key places
     → count_by (λ items. are_among items key) (found_at (lists_of vs) places) ≡ key_support records key
 support-found records vs holders key places f =
     ap (count_by (λ items. are_among items key)) (found records vs holders key places f)
@@ -52,35 +59,44 @@ count-all : {X : Type 0} (xs : List X) → count_by (λ x. true) xs ≡ length x
 count-all [] = refl
 count-all (x ∷ xs) = omega (arith, sum_by-cons (λ y. cond true 1 0) x xs, count-all xs)
 
-support-all : (records : List (List (ℕ × ℤ))) (vs : List (Vec Item Global)) (holders : List Holder) → AreSets records vs holders → length vs ≡ key_support records []
+support-all : (records : List (List (ℕ × ℤ))) (vs : List (Vec Item Global)) (holders : List Holder)
+    → AreSets records vs holders → length vs ≡ key_support records []
 support-all records vs holders are =
     sym (length-map vs (λ (v : Vec Item Global). numbers_of v.items)) ∙ ap length are.lists ∙ length-map records items_in ∙ sym (count-all records)
 
-pub support-empty : (records : List (List (ℕ × ℤ))) (vs : List (Vec Item Global)) (holders : List Holder) (key : List ℤ) → AreSets records vs holders → true ≡ (length key == 0) → length vs ≡ key_support records key
+pub support-empty : (records : List (List (ℕ × ℤ))) (vs : List (Vec Item Global)) (holders : List Holder) (key : List ℤ)
+    → AreSets records vs holders → true ≡ (length key == 0) → length vs ≡ key_support records key
 support-empty records vs holders [] are none = support-all records vs holders are
-support-empty records vs holders (n ∷ ns) are none = let many : eqb (suc (length ns)) 0 ≡ false = ne_eqb (suc (length ns)) 0 (λ e. absurd (omega arith)) in absurd (true≢false (none ∙ many))
+support-empty records vs holders (n ∷ ns) are none = let many : eqb (suc (length ns)) 0 ≡ false =
+    ne_eqb (suc (length ns)) 0 (λ e. absurd (omega arith)) in absurd (true≢false (none ∙ many))
 
 -- what closes the key at these places closes it
-pub closes-found : (records : List (List (ℕ × ℤ))) (vs : List (Vec Item Global)) (holders : List Holder) (key : List ℤ) (places : List Holder) → Finds records vs holders key places
+pub closes-found : (records : List (List (ℕ × ℤ))) (vs : List (Vec Item Global)) (holders : List Holder) (key : List ℤ)
+    (places : List Holder) → Finds records vs holders key places
     → (item : ℕ) → closes_at (found_at (lists_of vs) places) key item ≡ closes records key item
 closes-found records vs holders key places f item =
     let test : List ℕ → Bool = λ items. not (are_among items key) || is_among items (pos item) in
     ap (λ b. is_outside key item && b) (
     ap (list_all test) (found records vs holders key places f)
-    ∙ all-filter test (λ items. is_among items f.number) (λ items out. or_left (not (are_among items key)) (is_among items (pos item)) (not_from_false (are_among items key) (lacking records vs holders key places f items out))) (map items_in records)
+    ∙ all-filter test (λ items. is_among items f.number) (λ items out. or_left (not (are_among items key))
+    (is_among items (pos item)) (not_from_false (are_among items key)
+    (lacking records vs holders key places f items out))) (map items_in records)
     ∙ list_all-map test items_in records
     ∙ all-same (λ r. test (items_in r)) (λ r. not (holds_key key r) || has item r) (λ r. ap (λ b. not (holds_key key r) || b) (has-among item r)) records
     )
 
 -- a place that holds the key is that of a record
-record_of : (records : List (List (ℕ × ℤ))) (vs : List (Vec Item Global)) (holders : List Holder) (key : List ℤ) (places : List Holder) → Finds records vs holders key places
+record_of : (records : List (List (ℕ × ℤ))) (vs : List (Vec Item Global)) (holders : List Holder) (key : List ℤ)
+    (places : List Holder) → Finds records vs holders key places
     → (items : List ℕ) → Contains (found_at (lists_of vs) places) items → (r : List (ℕ × ℤ)) × Member r records × (items_in r ≡ items)
 record_of records vs holders key places f items c =
     let m = subst (Member items) (found records vs holders key places f) (Member-from_contains items (found_at (lists_of vs) places) c) in
     Member-from_map items_in items records (Member-from_filter (λ items. is_among items f.number) items (map items_in records) m).0
 
-pub closed-some : (records : List (List (ℕ × ℤ))) (vs : List (Vec Item Global)) (holders : List Holder) (key : List ℤ) (places : List Holder) → Finds records vs holders key places → is_set_key key ≡ true
-    → (items : List ℕ) → Contains (found_at (lists_of vs) places) items → are_among items key ≡ true → not (list_any (closes_at (found_at (lists_of vs) places) key) items) ≡ is_closed_key records key
+pub closed-some : (records : List (List (ℕ × ℤ))) (vs : List (Vec Item Global)) (holders : List Holder) (key : List ℤ)
+    (places : List Holder) → Finds records vs holders key places → is_set_key key ≡ true
+    → (items : List ℕ) → Contains (found_at (lists_of vs) places) items → are_among items key ≡ true
+    → not (list_any (closes_at (found_at (lists_of vs) places) key) items) ≡ is_closed_key records key
 closed-some records vs holders key places f set items c holds =
     let r = record_of records vs holders key places f items c in
     let holds' : holds_key key r.0 ≡ true = ap (λ is. are_among is key) r.2 ∙ holds in
@@ -92,61 +108,80 @@ closed-some records vs holders key places f set items c holds =
     ∙ sym (is_closed_key-set records key set)
 
 -- no record holds the key where none of these places does
-pub unheld : (records : List (List (ℕ × ℤ))) (vs : List (Vec Item Global)) (holders : List Holder) (key : List ℤ) (places : List Holder) → Finds records vs holders key places
+pub unheld : (records : List (List (ℕ × ℤ))) (vs : List (Vec Item Global)) (holders : List Holder) (key : List ℤ)
+    (places : List Holder) → Finds records vs holders key places
     → list_all (λ items. not (are_among items key)) (found_at (lists_of vs) places) ≡ true → list_all (λ r. not (holds_key key r)) records ≡ true
 unheld records vs holders key places f none =
     let test : List ℕ → Bool = λ items. not (are_among items key) in
     sym (list_all-map test items_in records)
-    ∙ sym (all-filter test (λ items. is_among items f.number) (λ items out. not_from_false (are_among items key) (lacking records vs holders key places f items out)) (map items_in records))
+    ∙ sym (all-filter test (λ items. is_among items f.number)
+    (λ items out. not_from_false (are_among items key) (lacking records vs holders key places f items out))
+    (map items_in records))
     ∙ sym (ap (list_all test) (found records vs holders key places f))
     ∙ none
 
 -- ---- holders have the items that occur
 
-pairs-items : (place : ℕ) (lists : List (List ℕ)) (pair : ℕ × ℕ) → Member pair (pairs_from place lists) → (items : List ℕ) × Member items lists × Member pair.0 items
+pairs-items : (place : ℕ) (lists : List (List ℕ)) (pair : ℕ × ℕ) → Member pair (pairs_from place lists)
+    → (items : List ℕ) × Member items lists × Member pair.0 items
 pairs-items place [] pair m = absurd m
 pairs-items place (items ∷ lists) pair m = elim (Member-append_cases pair (map (λ i. (i, place)) items) (pairs_from (place + 1) lists) m) [
-  | inl a ↦ let from = Member-from_map (λ (i : ℕ). (i, place)) pair items a in (items, inl refl, subst (λ i. Member i items) (ap (λ (p : ℕ × ℕ). p.0) from.2) from.1)
+  | inl a ↦ let from =
+      Member-from_map (λ (i : ℕ). (i, place)) pair items a in
+      (items, inl refl, subst (λ i. Member i items) (ap (λ (p : ℕ × ℕ). p.0) from.2) from.1)
   | inr b ↦ let rest = pairs-items (place + 1) lists pair b in (rest.0, inr rest.1, rest.2)
 ]
 
-items-pairs : (place : ℕ) (lists : List (List ℕ)) (items : List ℕ) (item : ℕ) → Member items lists → Member item items → (at : ℕ) × Member (item, at) (pairs_from place lists)
+items-pairs : (place : ℕ) (lists : List (List ℕ)) (items : List ℕ) (item : ℕ) → Member items lists → Member item items
+    → (at : ℕ) × Member (item, at) (pairs_from place lists)
 items-pairs place [] items item m n = absurd m
-items-pairs place (is ∷ lists) items item (inl e) n =
-    (place, Member-append_left (item, place) (map (λ i. (i, place)) is) (pairs_from (place + 1) lists) (Member-map (λ i. (i, place)) item is (subst (Member item) (sym e) n)))
+items-pairs place (is ∷ lists) items item (inl e) n = (
+  place,
+  Member-append_left (item, place) (map (λ i. (i, place)) is) (pairs_from (place + 1) lists)
+      (Member-map (λ i. (i, place)) item is (subst (Member item) (sym e) n)),
+)
 items-pairs place (is ∷ lists) items item (inr m) n =
     let rest = items-pairs (place + 1) lists items item m n in
     (rest.0, Member-append_right (item, rest.0) (map (λ i. (i, place)) is) (pairs_from (place + 1) lists) rest.1)
 
-holder-occurs : (records : List (List (ℕ × ℤ))) (vs : List (Vec Item Global)) (holders : List Holder) → AreSets records vs holders → (h : Holder) → Member h holders → Member h.item.0 (items_of records)
+holder-occurs : (records : List (List (ℕ × ℤ))) (vs : List (Vec Item Global)) (holders : List Holder)
+    → AreSets records vs holders → (h : Holder) → Member h holders → Member h.item.0 (items_of records)
 holder-occurs records vs holders are h m =
     let number = pos h.item.0 in
     let here = Member-filter (stands_at number) h holders m ((Decides-int_eq number number).1 refl) in
     let pair = subst (Member (pair_of h)) (are.held number) (Member-map pair_of h (filter (stands_at number) holders) here) in
-    let from = pairs-items 0 (map items_in records) (pair_of h) (Member-from_filter (λ (pair : ℕ × ℕ). int_eq number (pos pair.0)) (pair_of h) (pairs_from 0 (map items_in records)) pair).0 in
+    let from =
+    pairs-items 0 (map items_in records) (pair_of h) (Member-from_filter
+    (λ (pair : ℕ × ℕ). int_eq number (pos pair.0)) (pair_of h) (pairs_from 0 (map items_in records)) pair).0 in
     let r = Member-from_map items_in from.0 records from.1 in
     occurs records r.0 h.item.0 r.1 (subst (Member h.item.0) (sym r.2) from.2)
 
-occurs-holder : (records : List (List (ℕ × ℤ))) (vs : List (Vec Item Global)) (holders : List Holder) → AreSets records vs holders → (item : ℕ) → Member item (flat_map items_in records)
+occurs-holder : (records : List (List (ℕ × ℤ))) (vs : List (Vec Item Global)) (holders : List Holder)
+    → AreSets records vs holders → (item : ℕ) → Member item (flat_map items_in records)
     → (h : Holder) × Member h holders × (h.item.0 ≡ item)
 occurs-holder records vs holders are item m =
     let number = pos item in
     let r = Member-from_flat_map items_in item records m in
     let pair = items-pairs 0 (map items_in records) (items_in r.0) item (Member-map items_in r.0 records r.1) r.2 in
-    let with_number = Member-filter (λ (pair : ℕ × ℕ). int_eq number (pos pair.0)) (item, pair.0) (pairs_from 0 (map items_in records)) pair.1 ((Decides-int_eq number number).1 refl) in
+    let with_number =
+    Member-filter (λ (pair : ℕ × ℕ). int_eq number (pos pair.0)) (item, pair.0)
+    (pairs_from 0 (map items_in records)) pair.1 ((Decides-int_eq number number).1 refl) in
     let h = Member-from_map pair_of (item, pair.0) (filter (stands_at number) holders) (subst (Member (item, pair.0)) (sym (are.held number)) with_number) in
     (h.0, (Member-from_filter (stands_at number) h.0 holders h.1).0, ap (λ (p : ℕ × ℕ). p.0) h.2)
 
 -- where no record holds a key, an item outside it closes it
-pub closed-none : (records : List (List (ℕ × ℤ))) (vs : List (Vec Item Global)) (holders : List Holder) (key : List ℤ) (places : List Holder) → Finds records vs holders key places → is_set_key key ≡ true
-    → list_all (λ items. not (are_among items key)) (found_at (lists_of vs) places) ≡ true → not (list_any (λ (h : Holder). is_outside key h.item.0) holders) ≡ is_closed_key records key
+pub closed-none : (records : List (List (ℕ × ℤ))) (vs : List (Vec Item Global)) (holders : List Holder) (key : List ℤ)
+    (places : List Holder) → Finds records vs holders key places → is_set_key key ≡ true
+    → list_all (λ items. not (are_among items key)) (found_at (lists_of vs) places) ≡ true
+    → not (list_any (λ (h : Holder). is_outside key h.item.0) holders) ≡ is_closed_key records key
 closed-none records vs holders key places f set none =
     let free = unheld records vs holders key places f none in
     let number_of : Holder → ℕ = λ h. h.item.0 in
     ap not (
     sym (list_any-map (is_outside key) number_of holders)
     ∙ any-members (is_outside key) (map number_of holders) (items_of records)
-    (λ item h m. let from = Member-from_map number_of item holders m in subst (λ i. Member i (items_of records)) from.2 (holder-occurs records vs holders f.are from.0 from.1))
+    (λ item h m. let from = Member-from_map number_of item holders m in subst (λ i. Member i (items_of records)) from.2
+    (holder-occurs records vs holders f.are from.0 from.1))
     (λ item h m.
     let of = occurs-holder records vs holders f.are item (Member-from_ranking nat_cmp item (flat_map items_in records) m) in
     subst (λ i. Member i (map number_of holders)) of.2 (Member-map number_of of.0 holders of.1))
@@ -177,7 +212,8 @@ rank-below item (x ∷ xs) (suc last) = go (eqb item x) (rank-below item xs last
 pub has_rank_below-member : (item : ℕ) (table : List ℕ) (last : ℕ) → has_rank_below table last item ≡ list_any (λ other. eqb item other) (take last table)
 has_rank_below-member item table last = ap (λ r. is_below r last) (position-rank_in item table) ∙ rank-below item table last
 
-pub below-some : (records : List (List (ℕ × ℤ))) (vs : List (Vec Item Global)) (holders : List Holder) (key : List ℤ) (places : List Holder) (table : List ℕ) (last : ℕ) → Finds records vs holders key places
+pub below-some : (records : List (List (ℕ × ℤ))) (vs : List (Vec Item Global)) (holders : List Holder) (key : List ℤ)
+    (places : List Holder) (table : List ℕ) (last : ℕ) → Finds records vs holders key places
     → (items : List ℕ) → Contains (found_at (lists_of vs) places) items → are_among items key ≡ true
     → list_any (λ item. has_rank_below table last item && closes_at (found_at (lists_of vs) places) key item) items ≡ closes_below records table key last
 below-some records vs holders key places table last f items c holds =
@@ -198,8 +234,10 @@ below-some records vs holders key places table last f items c holds =
     let here = has-member one.0 r.0 (closes-held records key one.0 r.0 one.2 r.1 holds') in
     any-from test one.0 items (subst (Member one.0) r.2 here) (and_from (has_rank_below table last one.0) (closes records key one.0) ranked one.2))
 
-pub below-none : (records : List (List (ℕ × ℤ))) (vs : List (Vec Item Global)) (holders : List Holder) (key : List ℤ) (places : List Holder) (table : List ℕ) (last : ℕ) → Finds records vs holders key places
-    → list_all (λ items. not (are_among items key)) (found_at (lists_of vs) places) ≡ true → list_any (is_outside key) (take last table) ≡ closes_below records table key last
+pub below-none : (records : List (List (ℕ × ℤ))) (vs : List (Vec Item Global)) (holders : List Holder) (key : List ℤ)
+    (places : List Holder) (table : List ℕ) (last : ℕ) → Finds records vs holders key places
+    → list_all (λ items. not (are_among items key)) (found_at (lists_of vs) places) ≡ true
+    → list_any (is_outside key) (take last table) ≡ closes_below records table key last
 below-none records vs holders key places table last f none =
     let free = unheld records vs holders key places f none in
     any-same (is_outside key) (closes records key) (λ item. sym (closes-unheld records key item free)) (take last table)
@@ -207,8 +245,10 @@ below-none records vs holders key places table last f none =
 -- ---- the parts of a call
 
 -- what a call has at hand of a key's places
-pub Finds-from : (seen records : List (List (ℕ × ℤ))) (inside lists : List (Vec Item Global)) (kept holders : List Holder) (key : List ℤ) (places : List Holder) → AreSets seen inside kept
-    → seen ≡ records → lists ≡ inside → holders ≡ kept → (number : ℤ) × Contains key number × (places ≡ filter (stands_at number) holders) → Finds records lists holders key places
+pub Finds-from : (seen records : List (List (ℕ × ℤ))) (inside lists : List (Vec Item Global))
+    (kept holders : List Holder) (key : List ℤ) (places : List Holder) → AreSets seen inside kept
+    → seen ≡ records → lists ≡ inside → holders ≡ kept → (number : ℤ) × Contains key number
+    × (places ≡ filter (stands_at number) holders) → Finds records lists holders key places
 Finds-from seen records inside lists kept holders key places are view l h rare = record {
   are = subst (λ r. AreSets r lists holders) view (subst (λ v. AreSets seen v holders) (sym l) (subst (AreSets seen inside) (sym h) are));
   number = rare.0;
@@ -216,8 +256,10 @@ Finds-from seen records inside lists kept holders key places are view l h rare =
   of = rare.2;
 }
 
-pub finds-lists : (records : List (List (ℕ × ℤ))) (vs : List (Vec Item Global)) (holders : List Holder) (key : List ℤ) (places : List Holder) → Finds records vs holders key places → AreLists (lists_of vs)
+pub finds-lists : (records : List (List (ℕ × ℤ))) (vs : List (Vec Item Global)) (holders : List Holder) (key : List ℤ)
+    (places : List Holder) → Finds records vs holders key places → AreLists (lists_of vs)
 finds-lists records vs holders key places f = AreLists-sets records vs holders f.are
 
-pub finds-within : (records : List (List (ℕ × ℤ))) (vs : List (Vec Item Global)) (holders : List Holder) (key : List ℤ) (places : List Holder) → Finds records vs holders key places → AreWithin (length vs) places
+pub finds-within : (records : List (List (ℕ × ℤ))) (vs : List (Vec Item Global)) (holders : List Holder) (key : List ℤ)
+    (places : List Holder) → Finds records vs holders key places → AreWithin (length vs) places
 finds-within records vs holders key places f = AreWithin-sets records vs holders places f.number f.are f.of

@@ -10,13 +10,15 @@ use Rattle.hu_closed.specs.declared.holders.Holder.{Holder}
 use Rattle.hu_closed.specs.Holders.{found_at}
 
 -- an item that passes settles the answer
-pub any_number-at : (p : ℕ → Bool) (items : List Item) (i : ℕ) (d : Item) → i < length items → p (get_or items i d).0 ≡ true → list_any p (numbers_of items) ≡ true
+pub any_number-at : (p : ℕ → Bool) (items : List Item) (i : ℕ) (d : Item) → i < length items → p (get_or items i d).0
+    ≡ true → list_any p (numbers_of items) ≡ true
 any_number-at p items i d within passes =
     let inside : i < length (numbers_of items) = omega (arith, length-map items (λ (item : Item). item.0)) in
     list_any_at p (numbers_of items) i 0 inside (ap p (get_or-map (λ (item : Item). item.0) items i d 0 within) ∙ passes)
 
 -- one more that doesn't pass changes nothing
-pub any_number-more : (p : ℕ → Bool) (items : List Item) (i : ℕ) (d : Item) → i < length items → list_any p (numbers_of (take i items)) ≡ false → p (get_or items i d).0 ≡ false
+pub any_number-more : (p : ℕ → Bool) (items : List Item) (i : ℕ) (d : Item) → i < length items
+    → list_any p (numbers_of (take i items)) ≡ false → p (get_or items i d).0 ≡ false
     → list_any p (numbers_of (take (i + 1) items)) ≡ false
 any_number-more p items i d within before fails =
     let last = (get_or items i d).0 in
@@ -26,7 +28,8 @@ any_number-more p items i d within before fails =
     ∙ or_from (list_any p (numbers_of (take i items))) (p last || false) before (or_from (p last) false fails refl)
 
 -- a place that fails settles the answer
-pub all_found-at : (p : List ℕ → Bool) (lists : List (List ℕ)) (places : List Holder) (i : ℕ) (d : Holder) → i < length places → p (get_or lists (get_or places i d).place []) ≡ false
+pub all_found-at : (p : List ℕ → Bool) (lists : List (List ℕ)) (places : List Holder) (i : ℕ) (d : Holder)
+    → i < length places → p (get_or lists (get_or places i d).place []) ≡ false
     → list_all p (found_at lists places) ≡ false
 all_found-at p lists places i d within fails =
     let inside : i < length (found_at lists places) = omega (arith, length-map places (λ (h : Holder). get_or lists h.place [])) in

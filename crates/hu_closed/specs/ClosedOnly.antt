@@ -34,15 +34,18 @@ abbrev pub IsRankingOf : List (List (ℕ × ℤ)) → Ranking → Type 0
 IsRankingOf records ranking = (order : RankOrder) × (floor : ℤ) × (ranking ≡ ranked_by order floor records)
 
 -- ranks are those of the records, and a rule rests on them where it rests on ranks
-pub record AreOfOne (inner : Option (List ℕ)) (records : List (List (ℕ × ℤ))) (ranking : Ranking) : Type 0 where
+pub record AreOfOne (inner : Option (List ℕ)) (records : List (List (ℕ × ℤ)))
+    (ranking : Ranking) : Type 0 where
   pub base : IsRankingOf records ranking
   pub rests : RestsOn inner ranking.items
 
 -- the state of a collector of closed keys around an inner one
 abbrev pub closed_state : State → List (List (ℕ × ℤ)) → List ℕ → State
-closed_state inner records table = record { rule = closed_rule inner.rule records table; content = inner.content }
+closed_state inner records table =
+    record { rule = closed_rule inner.rule records table; content = inner.content }
 
 -- offered all patterns of its records, it is around what the inner one is that was offered the closed ones
 abbrev pub MakesClosed : List (List (ℕ × ℤ)) → List ℕ → State → Type 0
 MakesClosed records table inner =
-    offered (closed_state inner records table) (item_patterns records) ≡ closed_state (offered inner (closed_patterns records)) records table
+    offered (closed_state inner records table) (item_patterns records)
+    ≡ closed_state (offered inner (closed_patterns records)) records table

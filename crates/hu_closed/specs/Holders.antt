@@ -1,5 +1,30 @@
 -- Which records hold an item: holders are pairs (item, place), by item, and of one item by place.
-use Rattle.std.specs.Prelude.{◌≡◌, ℕ, ◌+◌, ◌<◌, ℤ, pos, Bool, false, not, ◌&&◌, ◌||◌, nat_eq, nat_lt, position, Option, None, Some, List, [], ◌∷◌, ◌++◌, map, slice_index_or, refl}
+use Rattle.std.specs.Prelude.{
+  ◌≡◌,
+  ℕ,
+  ◌+◌,
+  ◌<◌,
+  ℤ,
+  pos,
+  Bool,
+  false,
+  not,
+  ◌&&◌,
+  ◌||◌,
+  nat_eq,
+  nat_lt,
+  position,
+  Option,
+  None,
+  Some,
+  List,
+  [],
+  ◌∷◌,
+  ◌++◌,
+  map,
+  slice_index_or,
+  refl,
+}
 use Rattle.std.specs.Ordering.{int_eq}
 use Rattle.std.specs.List.{All, AllByRecursion, filter, list_all}
 use Rattle.std.specs.List.Sorted.{IsNonDecreasingBy}
@@ -47,7 +72,9 @@ found_at lists holders = map (λ holder. slice_index_or lists holder.place []) h
 
 -- whether an item is outside a key and one of the items of each of these records that hold it
 abbrev pub closes_at : List (List ℕ) → List ℤ → ℕ → Bool
-closes_at found key item = is_outside key item && list_all (λ items. not (are_among items key) || is_among items (pos item)) found
+closes_at found key item =
+    is_outside key item && list_all (λ items. not (are_among items key)
+    || is_among items (pos item)) found
 
 -- whether there is a rank and it is below `last`
 abbrev pub is_below : Option ℕ → ℕ → Bool
@@ -59,10 +86,12 @@ abbrev pub has_rank_below : List ℕ → ℕ → ℕ → Bool
 has_rank_below table last item = is_below (position (nat_eq item) table) last
 
 -- lists of items and holders are those of records
-pub record AreSets (records : List (List (ℕ × ℤ))) (items : List (Vec Item Global)) (holders : List Holder) : Type 0 where
+pub record AreSets (records : List (List (ℕ × ℤ))) (items : List (Vec Item Global))
+    (holders : List Holder) : Type 0 where
   pub lists : lists_of items ≡ map items_in records
   pub rising : IsNonDecreasingBy (λ h. h.item.0) holders
-  pub held : (number : ℤ) → map pair_of (filter (stands_at number) holders) ≡ pairs_with number (pairs_from 0 (map items_in records))
+  pub held : (number : ℤ) → map pair_of (filter (stands_at number) holders)
+      ≡ pairs_with number (pairs_from 0 (map items_in records))
   pub rules : AllByRecursion IsRecord records
 
 -- two records

@@ -1,6 +1,28 @@
 -- What records say of a key, which is any list of numbers: how many of them hold it, and whether it is that of a closed
 -- itemset. After CHARM (Zaki and Hsiao, 2002) and CHUD (Wu, Fournier-Viger, Yu and Tseng, 2011).
-use Rattle.std.specs.Prelude.{ℕ, ◌<◌, ◌≤◌, ℤ, pos, negsuc, int_lt, int_le, nat_lt, unsigned_abs, Bool, true, not, ◌&&◌, ◌||◌, List, [], ◌∷◌, map, take, length}
+use Rattle.std.specs.Prelude.{
+  ℕ,
+  ◌<◌,
+  ◌≤◌,
+  ℤ,
+  pos,
+  negsuc,
+  int_lt,
+  int_le,
+  nat_lt,
+  unsigned_abs,
+  Bool,
+  true,
+  not,
+  ◌&&◌,
+  ◌||◌,
+  List,
+  [],
+  ◌∷◌,
+  map,
+  take,
+  length,
+}
 use Rattle.std.specs.Ordering.{int_eq}
 use Rattle.std.specs.List.{AllByRecursion, count_by, list_all, list_any}
 use Rattle.hu_kind.specs.Record.{has, items_in}
@@ -52,4 +74,5 @@ stands_with records key item = list_all (λ r. not (holds_key key r) || has item
 
 -- whether an item of a rank below `last`, outside a key, stands in every record that holds the key
 abbrev pub closes_below : List (List (ℕ × ℤ)) → List ℕ → List ℤ → ℕ → Bool
-closes_below records table key last = list_any (λ item. is_outside key item && stands_with records key item) (take last table)
+closes_below records table key last =
+    list_any (λ item. is_outside key item && stands_with records key item) (take last table)

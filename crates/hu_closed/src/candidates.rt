@@ -22,7 +22,8 @@ pub(crate) fn any_closes(
     requires lists { AreLists (lists_of lists.now) }
     requires within { AreWithin (length lists.now) places.now }
     requires key { is_set_key key.now ≡ true }
-    ensures { result ≡ list_any (closes_at (found_at (lists_of lists.now) places.now) key.now) (numbers_of items.now) }
+    ensures { result ≡ list_any (closes_at (found_at (lists_of lists.now) places.now) key.now)
+        (numbers_of items.now) }
 {
     for item in items {
         if closes(lists, places, key, *item) {
@@ -45,7 +46,9 @@ pub(crate) fn any_closes_below(
     requires lists { AreLists (lists_of lists.now) }
     requires within { AreWithin (length lists.now) places.now }
     requires key { is_set_key key.now ≡ true }
-    ensures { result ≡ list_any (λ item. has_rank_below ranked.now.items last item && closes_at (found_at (lists_of lists.now) places.now) key.now item) (numbers_of items.now) }
+    ensures { result ≡ list_any (λ item. has_rank_below ranked.now.items last item
+        && closes_at (found_at (lists_of lists.now) places.now) key.now item)
+        (numbers_of items.now) }
 {
     for item in items {
         if closes_below(lists, places, key, *item, ranked, last) {
@@ -67,7 +70,8 @@ fn closes_below(
     requires lists { AreLists (lists_of lists.now) }
     requires within { AreWithin (length lists.now) places.now }
     requires key { is_set_key key.now ≡ true }
-    ensures { result ≡ (has_rank_below ranked.now.items last item.0 && closes_at (found_at (lists_of lists.now) places.now) key.now item.0) }
+    ensures { result ≡ (has_rank_below ranked.now.items last item.0
+        && closes_at (found_at (lists_of lists.now) places.now) key.now item.0) }
 {
     has_rank_below(ranked, item, last) && closes(lists, places, key, item)
 }
@@ -96,7 +100,8 @@ fn closes(lists: &[Vec<Item>], places: &[Holder], key: &[i64], item: Item) -> bo
 fn stands_at_all(lists: &[Vec<Item>], places: &[Holder], key: &[i64], item: Item) -> bool
     requires lists { AreLists (lists_of lists.now) }
     requires within { AreWithin (length lists.now) places.now }
-    ensures { result ≡ list_all (λ items. not (are_among items key.now) || is_among items (pos item.0)) (found_at (lists_of lists.now) places.now) }
+    ensures { result ≡ list_all (λ items. not (are_among items key.now) || is_among items (pos item.0))
+        (found_at (lists_of lists.now) places.now) }
 {
     for holder in places {
         if lacks(list_at(lists, holder.place), key, item) {
@@ -109,7 +114,9 @@ fn stands_at_all(lists: &[Vec<Item>], places: &[Holder], key: &[i64], item: Item
 /// Whether a record holds a key and not an item.
 fn lacks(items: &[Item], key: &[i64], item: Item) -> bool
     requires { Ascend (numbers_of items.now) }
-    ensures { not result ≡ (not (are_among (numbers_of items.now) key.now) || is_among (numbers_of items.now) (pos item.0)) }
+    ensures { not result
+        ≡ (not (are_among (numbers_of items.now) key.now)
+        || is_among (numbers_of items.now) (pos item.0)) }
 {
     !is_among(items, i64::from(item.0)) && are_among(items, key)
 }

@@ -38,7 +38,8 @@ impl<'a, C: Collect> ClosedOnly<'a, C> {
     pub fn new(inner: C, sets: &'a RecordSets, ranked: &'a Ranked) -> ClosedOnly<'a, C>
         requires base { IsRankingOf sets.now ranked.now }
         requires rests { RestsOn (C.state inner).rule.table ranked.now.items }
-        ensures state { ⟦<ClosedOnly<'a, C> as Collect>⟧.state result ≡ closed_state (C.state inner) sets.now ranked.now.items }
+        ensures state { ⟦<ClosedOnly<'a, C> as Collect>⟧.state result
+            ≡ closed_state (C.state inner) sets.now ranked.now.items }
         ensures inner { inner_of result ≡ inner }
         ensures records { records_in result ≡ sets.now }
         ensures table { table_of result ≡ ranked.now.items }
@@ -55,7 +56,8 @@ impl<'a, C: Collect> ClosedOnly<'a, C> {
     /// The inner collector, with all that it keeps.
     pub fn into_inner(self) -> C
         ensures inner { result ≡ inner_of self.entry }
-        ensures state { ⟦<ClosedOnly<'a, C> as Collect>⟧.state self.entry ≡ closed_state (C.state result) (records_in self.entry) (table_of self.entry) }
+        ensures state { ⟦<ClosedOnly<'a, C> as Collect>⟧.state self.entry
+            ≡ closed_state (C.state result) (records_in self.entry) (table_of self.entry) }
     {
         self.inner
     }
@@ -63,7 +65,8 @@ impl<'a, C: Collect> ClosedOnly<'a, C> {
     /// Whether an entry may change the content: it is not below the floor, and its key is closed.
     fn lets_in(&self, entry: &Entry) -> bool
         ensures passes { result ≡ true → is_closed_key (records_in self.now) entry.now.key ≡ true }
-        ensures leaves { result ≡ false → offered (⟦<ClosedOnly<'a, C> as Collect>⟧.state self.now) (entry.now ∷ []) ≡ ⟦<ClosedOnly<'a, C> as Collect>⟧.state self.now }
+        ensures leaves { result ≡ false → offered (⟦<ClosedOnly<'a, C> as Collect>⟧.state self.now)
+            (entry.now ∷ []) ≡ ⟦<ClosedOnly<'a, C> as Collect>⟧.state self.now }
     {
         entry.utility >= self.inner.floor() && self.sets.is_closed(&entry.key)
     }
@@ -83,10 +86,12 @@ impl<'a, C: Collect> Collect for ClosedOnly<'a, C> {
     /// the inner collector doesn't open the key. Only the items of the first record that holds the key are tried.
     fn opens(&self, key: &Key, last: u32) -> bool
         requires { CanOpen (Some (table_of self.now)) key.now last }
-        ensures shut { closes_below (records_in self.now) (table_of self.now) key.now last ≡ true → result ≡ false }
+        ensures shut { closes_below (records_in self.now) (table_of self.now) key.now last ≡ true → result
+            ≡ false }
         ensures cause { result ≡ false → (closes_below (records_in self.now) (table_of self.now) key.now last ≡ true)
             ⊎ IsShut (C.state (inner_of self.now)).rule key.now last }
-        ensures grown { result ≡ false → IsShut (⟦<ClosedOnly<'a, C> as Collect>⟧.state self.now).rule key.now last }
+        ensures grown { result ≡ false → IsShut (⟦<ClosedOnly<'a, C> as Collect>⟧.state self.now).rule key.now
+            last }
     {
         self.inner.opens(key, last) && !self.sets.closes_below(self.ranked, key, last)
     }

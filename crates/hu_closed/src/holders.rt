@@ -22,7 +22,8 @@ pub(crate) struct Holder {
 /// The holders of all items, by item, and of one item by place. One stable sort.
 pub(crate) fn all_holders(alloc: Global, lists: &[Vec<Item>]) -> Result<Vec<Holder>, NoMemory>
     ensures rising { IfOk result (λ holders. IsNonDecreasingBy (λ h. h.item.0) holders.items) }
-    ensures value { IfOk result (λ holders. (number : ℤ) → map pair_of (filter (stands_at number) holders.items) ≡ pairs_with number (pairs_from 0 (lists_of lists.now))) }
+    ensures value { IfOk result (λ holders. (number : ℤ) → map pair_of (filter (stands_at number) holders.items)
+        ≡ pairs_with number (pairs_from 0 (lists_of lists.now))) }
 {
     let mut holders = Vec::new(alloc);
     for place in 0..lists.len() {
@@ -34,7 +35,8 @@ pub(crate) fn all_holders(alloc: Global, lists: &[Vec<Item>]) -> Result<Vec<Hold
 
 /// Appends the holders of a record at a place.
 fn push_holders(holders: &mut Vec<Holder>, items: &[Item], place: usize) -> Result<(), NoMemory>
-    ensures { OnOk result (map pair_of holders.new.items ≡ map pair_of holders.old.items ++ map (λ item. (item, place)) (numbers_of items.now)) }
+    ensures { OnOk result (map pair_of holders.new.items
+        ≡ map pair_of holders.old.items ++ map (λ item. (item, place)) (numbers_of items.now)) }
 {
     for item in items {
         holders.push(Holder { item: *item, place })?;
@@ -54,7 +56,8 @@ pub(crate) fn holders_of(holders: &[Holder], number: i64) -> &[Holder]
 fn count_below(holders: &[Holder], number: i64) -> usize
     requires { IsNonDecreasingBy (λ h. h.item.0) holders.now }
     ensures bound { result ≤ length holders.now }
-    ensures splits { IsPartitionPoint (λ h. pos h.item.0 <ℤ number) (λ h. number ≤ℤ pos h.item.0) holders.now result }
+    ensures splits { IsPartitionPoint (λ h. pos h.item.0 <ℤ number)
+        (λ h. number ≤ℤ pos h.item.0) holders.now result }
 {
     holders.partition_point(|holder| i64::from(holder.item.0) < number)
 }
@@ -63,7 +66,8 @@ fn count_below(holders: &[Holder], number: i64) -> usize
 fn count_upto(holders: &[Holder], number: i64) -> usize
     requires { IsNonDecreasingBy (λ h. h.item.0) holders.now }
     ensures bound { result ≤ length holders.now }
-    ensures splits { IsPartitionPoint (λ h. pos h.item.0 ≤ℤ number) (λ h. number <ℤ pos h.item.0) holders.now result }
+    ensures splits { IsPartitionPoint (λ h. pos h.item.0 ≤ℤ number)
+        (λ h. number <ℤ pos h.item.0) holders.now result }
 {
     holders.partition_point(|holder| i64::from(holder.item.0) <= number)
 }
@@ -72,7 +76,8 @@ fn count_upto(holders: &[Holder], number: i64) -> usize
 pub(crate) fn rarest<'a>(holders: &'a [Holder], key: &[i64]) -> &'a [Holder]
     requires rising { IsNonDecreasingBy (λ h. h.item.0) holders.now }
     requires some { 0 < length key.now }
-    ensures { (number : ℤ) × Contains key.now number × (result.now ≡ filter (stands_at number) holders.now) }
+    ensures { (number : ℤ) × Contains key.now number × (result.now
+        ≡ filter (stands_at number) holders.now) }
 {
     let mut best = holders_of(holders, key[0]);
     for number in key {
@@ -88,7 +93,8 @@ pub(crate) fn rarest<'a>(holders: &'a [Holder], key: &[i64]) -> &'a [Holder]
 pub(crate) fn count(lists: &[Vec<Item>], places: &[Holder], key: &[i64]) -> u64
     requires lists { AreLists (lists_of lists.now) }
     requires within { AreWithin (length lists.now) places.now }
-    ensures { result ≡ count_by (λ items. are_among items key.now) (found_at (lists_of lists.now) places.now) }
+    ensures { result ≡ count_by (λ items. are_among items key.now)
+        (found_at (lists_of lists.now) places.now) }
 {
     let mut count = 0;
     for holder in places {
@@ -107,9 +113,11 @@ pub(crate) fn first<'a>(
 ) -> Option<&'a [Item]>
     requires lists { AreLists (lists_of lists.now) }
     requires within { AreWithin (length lists.now) places.now }
-    ensures some { IfSome result (λ items. Contains (found_at (lists_of lists.now) places.now) (numbers_of items.now)) }
+    ensures some { IfSome result (λ items. Contains (found_at (lists_of lists.now) places.now)
+        (numbers_of items.now)) }
     ensures holds { IfSome result (λ items. are_among (numbers_of items.now) key.now ≡ true) }
-    ensures none { IfNone result (list_all (λ items. not (are_among items key.now)) (found_at (lists_of lists.now) places.now) ≡ true) }
+    ensures none { IfNone result (list_all (λ items. not (are_among items key.now))
+        (found_at (lists_of lists.now) places.now) ≡ true) }
 {
     for holder in places {
         let items = list_at(lists, holder.place);

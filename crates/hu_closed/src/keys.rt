@@ -22,7 +22,8 @@ pub(crate) fn is_among(items: &[Item], number: i64) -> bool
 /// How many of these items are below a number.
 fn place_of(items: &[Item], number: i64) -> usize
     requires { Ascend (numbers_of items.now) }
-    ensures { IsPartitionPoint (λ item. pos item.0 <ℤ number) (λ item. number ≤ℤ pos item.0) items.now result }
+    ensures { IsPartitionPoint (λ item. pos item.0 <ℤ number)
+        (λ item. number ≤ℤ pos item.0) items.now result }
 {
     items.partition_point(|item| i64::from(item.0) < number)
 }

@@ -73,7 +73,8 @@ impl RecordSets {
     /// tried, each until a record has the key without it. It takes no memory. After CHARM (Zaki and Hsiao, 2002).
     pub fn is_closed(&self, key: &Key) -> bool
         ensures value { result ≡ is_closed_key self.now key.now }
-        ensures itemset { (items : List ℕ) → IsSet items → key.now ≡ map pos items → result ≡ is_closed self.now items }
+        ensures itemset { (items : List ℕ) → IsSet items → key.now ≡ map pos items → result
+            ≡ is_closed self.now items }
     {
         self.is_closed_at(key.numbers())
     }
@@ -83,7 +84,8 @@ impl RecordSets {
         requires base { IsRankingOf self.now ranked.now }
         requires key { CanOpen (Some ranked.now.items) key.now last }
         ensures value { result ≡ closes_below self.now ranked.now.items key.now last }
-        ensures shuts { result ≡ true → (grown : List ℤ) → IsGrown (Some ranked.now.items) key.now last grown → is_closed_key self.now grown ≡ false }
+        ensures shuts { result ≡ true → (grown : List ℤ) → IsGrown (Some ranked.now.items) key.now last grown
+            → is_closed_key self.now grown ≡ false }
     {
         let lists = self.lists.as_slice();
         let holders = self.holders.as_slice();

@@ -1,5 +1,6 @@
 -- What the bodies of `All` and `Top` compute.
-use Rattle.std.proofs.Common.{◌≡◌, ◌∷◌, [], ◌++◌, ℕ, ◌-◌, ℤ, ◌<ℤ◌, ◌≤ℤ◌, Bool, true, false, Option, None, Some, List, length, take, refl, sym, ap, ◌∙◌, append-nil, arith}
+use Rattle.std.proofs.Common.{◌≡◌, ◌∷◌, [], ◌++◌, ℕ, ◌-◌, ℤ, ◌<ℤ◌, ◌≤ℤ◌, Bool, true, false, Option, None, Some, List}
+use Rattle.std.proofs.Common.{length, take, refl, sym, ap, ◌∙◌, append-nil, arith}
 use Rattle.std.specs.Prelude.{int_le, slice_get}
 use Rattle.std.specs.BTreeSet.{insert_key}
 use Rattle.std.specs.List.{Contains, dedup}
@@ -98,7 +99,8 @@ pub top-put : (k : ℕ) (start floor floor' : ℤ) (content : List Entry) (entry
 top-put k start floor floor' content entry top h e =
     let rule = rule_of start (Some k) in
     let put = made-put k start floor content entry top h in
-    let rises : floor_of rule content ≤ℤ floor_of rule (take k (insert_key entry_cmp content entry)) = rw (← put) (keeps_floor rule content (entry ∷ []) top.kept) in
+    let rises : floor_of rule content ≤ℤ floor_of rule (take k (insert_key entry_cmp content entry)) =
+    rw (← put) (keeps_floor rule content (entry ∷ []) top.kept) in
     let old : floor ≡ floor_of rule content = top.value in
     record {
       least = let l = top.least in rw e (let r : floor ≤ℤ floor_of rule (take k (insert_key entry_cmp content entry)) = rw old rises in omega (arith, ints));

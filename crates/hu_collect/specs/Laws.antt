@@ -15,17 +15,20 @@ MakesInTurn = (rule : Rule) (content first second : List Entry) →
 
 -- lists with the same members make the same
 abbrev pub MakesByMembers : Type 0
-MakesByMembers = (rule : Rule) (content xs ys : List Entry) → SameMembers xs ys → made rule content xs ≡ made rule content ys
+MakesByMembers = (rule : Rule) (content xs ys : List Entry) → SameMembers xs ys
+    → made rule content xs ≡ made rule content ys
 
 -- so do lists with the same members among those that pass
 abbrev pub MakesByPassing : Type 0
-MakesByPassing = (rule : Rule) (content xs ys : List Entry) → ((x : Entry) → passes rule x ≡ true → Contains xs x ↔ Contains ys x)
+MakesByPassing = (rule : Rule) (content xs ys : List Entry)
+    → ((x : Entry) → passes rule x ≡ true → Contains xs x ↔ Contains ys x)
     → made rule content xs ≡ made rule content ys
 
 -- and where the content is kept, lists with the same members among those that pass and reach the floor
 abbrev pub MakesByReaching : Type 0
 MakesByReaching = (rule : Rule) (content xs ys : List Entry) → IsKept rule content
-    → ((x : Entry) → passes rule x ≡ true → floor_of rule content ≤ℤ x.utility → Contains xs x ↔ Contains ys x)
+    → ((x : Entry) → passes rule x ≡ true → floor_of rule content ≤ℤ x.utility
+    → Contains xs x ↔ Contains ys x)
     → made rule content xs ≡ made rule content ys
 
 -- an entry below the floor leaves the content

@@ -1,5 +1,27 @@
 -- Which keys grow out of a key. A table of ranks is the list of the item of each rank.
-use Rattle.std.specs.Prelude.{◌≡◌, ℕ, ◌<◌, ℤ, pos, Bool, true, false, IsTrue, Option, None, Some, List, [], ◌∷◌, ◌++◌, map, length, slice_index, if◌then◌else◌, ⊤}
+use Rattle.std.specs.Prelude.{
+  ◌≡◌,
+  ℕ,
+  ◌<◌,
+  ℤ,
+  pos,
+  Bool,
+  true,
+  false,
+  IsTrue,
+  Option,
+  None,
+  Some,
+  List,
+  [],
+  ◌∷◌,
+  ◌++◌,
+  map,
+  length,
+  slice_index,
+  if◌then◌else◌,
+  ⊤,
+}
 use Rattle.std.specs.Ordering.{nat_cmp, int_eq}
 use Rattle.std.specs.List.{All, AllAdjacentBelow}
 use Rattle.hu_kind.specs.Order.{ranking}
@@ -23,12 +45,15 @@ is_part (x ∷ xs) (y ∷ ys) = if int_eq x y then is_part xs ys else is_part (x
 -- where there is a table, a key is that of a set of ranks of which `last` is the greatest
 abbrev pub CanOpen : Option (List ℕ) → List ℤ → ℕ → Type 0
 CanOpen None key last = ⊤
-CanOpen (Some table) key last = (before : List ℕ) × IsRankSet table (before ++ last ∷ []) × (key ≡ key_of table (before ++ last ∷ []))
+CanOpen (Some table) key last =
+    (before : List ℕ) × IsRankSet table (before ++ last ∷ [])
+    × (key ≡ key_of table (before ++ last ∷ []))
 
 -- a key alone or grown: with a table by items of ranks above `last`, with none by any further numbers
 abbrev pub IsGrown : Option (List ℕ) → List ℤ → ℕ → List ℤ → Type 0
 IsGrown None key last grown = IsTrue (is_part key grown)
-IsGrown (Some table) key last grown = (before : List ℕ) × (more : List ℕ) × IsRankSet table (before ++ last ∷ more)
+IsGrown (Some table) key last grown =
+    (before : List ℕ) × (more : List ℕ) × IsRankSet table (before ++ last ∷ more)
     × (key ≡ key_of table (before ++ last ∷ [])) × (grown ≡ key_of table (before ++ last ∷ more))
 
 -- no key is wanted that is this one, alone or grown

@@ -1,5 +1,23 @@
 -- What a collector keeps: its rule, and what it makes of entries by that rule.
-use Rattle.std.specs.Prelude.{◌≡◌, ℕ, ℤ, int_le, nat_lt, Bool, true, ◌&&◌, Option, None, Some, List, [], ◌∷◌, ◌++◌, length, if◌then◌else◌}
+use Rattle.std.specs.Prelude.{
+  ◌≡◌,
+  ℕ,
+  ℤ,
+  int_le,
+  nat_lt,
+  Bool,
+  true,
+  ◌&&◌,
+  Option,
+  None,
+  Some,
+  List,
+  [],
+  ◌∷◌,
+  ◌++◌,
+  length,
+  if◌then◌else◌,
+}
 use Rattle.std.specs.Int.{int_max}
 use Rattle.std.specs.List.{All, Contains, filter}
 use Rattle.hu_kind.specs.declared.entry.Entry.{Entry}
@@ -38,7 +56,8 @@ last_utility least (entry ∷ entries) = last_utility entry.utility entries
 -- the floor by the limit: the start until the limit is reached, then the greater of it and the last entry's utility
 abbrev pub floor_by : Option ℕ → ℤ → List Entry → ℤ
 floor_by None start content = start
-floor_by (Some k) start content = if nat_lt (length content) k then start else int_max start (last_utility start content)
+floor_by (Some k) start content =
+    if nat_lt (length content) k then start else int_max start (last_utility start content)
 
 -- the floor: an entry of less utility changes nothing
 abbrev pub floor_of : Rule → List Entry → ℤ
@@ -46,4 +65,5 @@ floor_of rule content = floor_by rule.limit rule.start content
 
 -- a content that an old one and some of these entries make together
 abbrev pub MakesSome : Rule → List Entry → List Entry → List Entry → Type 0
-MakesSome rule old entries new = (some : List Entry) × All (λ entry. Contains entries entry) some × (new ≡ made rule old some)
+MakesSome rule old entries new =
+    (some : List Entry) × All (λ entry. Contains entries entry) some × (new ≡ made rule old some)

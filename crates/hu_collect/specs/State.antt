@@ -35,13 +35,15 @@ OfferedSome old entries new = (some : List Entry) × All (Contains entries) some
 
 -- a whole search: after Ok it is as if all entries had been offered, after Err some of them were
 abbrev pub Mines : {T E : Type 0} → State → List Entry → State → Result T E → Type 0
-Mines old entries new result = MatchResult result (λ _. new ≡ offered old entries) (λ _. OfferedSome old entries new)
+Mines old entries new result =
+    MatchResult result (λ _. new ≡ offered old entries) (λ _. OfferedSome old entries new)
 
 -- of all entries that have a property some were offered, and none is left out that passes and reaches the new floor
 pub record Reached (old : State) (P : Entry → Type 0) (new : State) : Type 0 where
   pub entries : List Entry
   pub each : (entry : Entry) → Contains entries entry → P entry
-  pub enough : (entry : Entry) → P entry → passes old.rule entry ≡ true → floor_in new ≤ℤ entry.utility → Contains entries entry
+  pub enough : (entry : Entry) → P entry → passes old.rule entry ≡ true
+      → floor_in new ≤ℤ entry.utility → Contains entries entry
   pub is : new ≡ offered old entries
 
 -- some entries that have a property were offered

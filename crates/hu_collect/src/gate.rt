@@ -16,7 +16,8 @@ pub trait Gate {
     /// Whether a set may hold both ranks. It takes no memory.
     fn may_join(&self, a: u32, b: u32) -> bool
         requires { a < b }
-        ensures low { result ≡ false → (records : List (List (ℕ × ℤ))) → IsRightFor self.now records → pair_twu records a b <ℤ floor self.now }
+        ensures low { result ≡ false → (records : List (List (ℕ × ℤ))) → IsRightFor self.now records
+            → pair_twu records a b <ℤ floor self.now }
         ensures sets { result ≡ false → (records : List (List (ℕ × ℤ))) → IsRightFor self.now records
             → (ranks : List ℕ) → Ascend ranks → Contains ranks a → Contains ranks b → utility records ranks <ℤ floor self.now };
 }

@@ -1,5 +1,6 @@
 -- Generated records keep the rules of records.
-use Rattle.std.proofs.Common.{◌≡◌, ℕ, zero, suc, ◌+◌, ◌*◌, ◌%◌, ◌<◌, ◌≤◌, ℤ, pos, true, false, ◌++◌, List, [], ◌∷◌, map, length, sum_by, get_or, refl, sym, ap, subst, ◌∙◌, arith}
+use Rattle.std.proofs.Common.{◌≡◌, ℕ, zero, suc, ◌+◌, ◌*◌, ◌%◌, ◌<◌, ◌≤◌, ℤ, pos, true, false, ◌++◌, List, [], ◌∷◌, map}
+use Rattle.std.proofs.Common.{length, sum_by, get_or, refl, sym, ap, subst, ◌∙◌, arith}
 use Rattle.std.specs.Prelude.{unsigned_abs, int_lt}
 use Rattle.std.specs.List.{AllByRecursion, All, AllAdjacentBelow, range_with_len, list_any}
 use Rattle.std.proofs.lemmas.Int.{ints}
@@ -116,7 +117,8 @@ IsSequence-elements_of elements state some few = record {
 }
 
 -- so many sequences earn so much at most
-pub sum-drilled_sequences : (seed records elements : ℕ) → elements ≤ 2048 → sum_by (sum_by absolute_of) (drilled_sequences seed records elements) ≤ 409600 * records
+pub sum-drilled_sequences : (seed records elements : ℕ) → elements ≤ 2048
+    → sum_by (sum_by absolute_of) (drilled_sequences seed records elements) ≤ 409600 * records
 sum-drilled_sequences seed records elements few =
     sum_by-map_range (sum_by absolute_of) (λ n. elements_of elements (after_draws (4 * elements * n) seed)) 409600 records
     (λ n. omega (arith, few, sum-elements_of elements (after_draws (4 * elements * n) seed)))
@@ -134,7 +136,8 @@ no_false h = cc
 
 -- records with the next one
 pub drilled-more : (seed records items : ℕ) (one : List (ℕ × ℤ)) (base next : ℕ × List (List (ℕ × ℤ))) → base ≡ (0, drilled seed records items)
-    → one ≡ cells_of items (after_draws (2 * items * records) seed) → next ≡ (carried_of base, records_of base ++ one ∷ []) → next ≡ (0, drilled seed (records + 1) items)
+    → one ≡ cells_of items (after_draws (2 * items * records) seed) → next
+    ≡ (carried_of base, records_of base ++ one ∷ []) → next ≡ (0, drilled seed (records + 1) items)
 drilled-more seed records items one base next before is more =
     let all = ap (λ l. l ++ one ∷ []) (ap records_of before) ∙ ap (λ r. drilled seed records items ++ r ∷ []) is
     ∙ sym (map-range_with_len_more (λ n. cells_of items (after_draws (2 * items * n) seed)) 0 records records (omega arith)) in
@@ -144,18 +147,23 @@ drilled-more seed records items one base next before is more =
 pub elements_of-more : (list next : List (List (ℕ × ℤ))) (one : List (ℕ × ℤ)) (elements state : ℕ) → list ≡ elements_of elements state
     → one ≡ element_of state elements → next ≡ list ++ one ∷ [] → next ≡ elements_of (elements + 1) state
 elements_of-more list next one elements state before is more =
-    more ∙ ap (λ l. l ++ one ∷ []) before ∙ ap (λ e. elements_of elements state ++ e ∷ []) is ∙ sym (map-range_with_len_more (element_of state) 0 elements elements (omega arith))
+    more ∙ ap (λ l. l ++ one ∷ []) before ∙ ap (λ e. elements_of elements state ++ e ∷ []) is
+    ∙ sym (map-range_with_len_more (element_of state) 0 elements elements (omega arith))
 
 -- sequences with the next one
-pub drilled_sequences-more : (seed records elements : ℕ) (one : List (List (ℕ × ℤ))) (base next : ℕ × List (List (List (ℕ × ℤ)))) → base ≡ (0, drilled_sequences seed records elements)
-    → one ≡ elements_of elements (after_draws (4 * elements * records) seed) → next ≡ (carried_of base, records_of base ++ one ∷ []) → next ≡ (0, drilled_sequences seed (records + 1) elements)
+pub drilled_sequences-more : (seed records elements : ℕ) (one : List (List (ℕ × ℤ)))
+    (base next : ℕ × List (List (List (ℕ × ℤ)))) → base ≡ (0, drilled_sequences seed records elements)
+    → one ≡ elements_of elements (after_draws (4 * elements * records) seed) → next
+    ≡ (carried_of base, records_of base ++ one ∷ []) → next ≡ (0, drilled_sequences seed (records + 1) elements)
 drilled_sequences-more seed records elements one base next before is more =
     let all = ap (λ l. l ++ one ∷ []) (ap records_of before) ∙ ap (λ r. drilled_sequences seed records elements ++ r ∷ []) is
     ∙ sym (map-range_with_len_more (λ n. elements_of elements (after_draws (4 * elements * n) seed)) 0 records records (omega arith)) in
     more ∙ (λ i. (carried_of (before i), all i))
 
 -- each of these sequences keeps the rules of a sequence
-AllIsSequence-range : (seed elements from records : ℕ) → 1 ≤ elements → elements ≤ 2048 → AllByRecursion IsSequence (map (λ n. elements_of elements (after_draws (4 * elements * n) seed)) (range_with_len from records))
+AllIsSequence-range : (seed elements from records : ℕ) → 1 ≤ elements → elements ≤ 2048
+    → AllByRecursion IsSequence (map (λ n. elements_of elements (after_draws (4 * elements * n) seed))
+    (range_with_len from records))
 AllIsSequence-range seed elements from zero some few = tt
 AllIsSequence-range seed elements from (suc n) some few =
     (IsSequence-elements_of elements (after_draws (4 * elements * from) seed) some few, AllIsSequence-range seed elements (from + 1) n some few)

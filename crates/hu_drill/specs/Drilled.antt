@@ -17,7 +17,8 @@ cells_of items state = map (λ place. cell_at place (after_draws (2 * place) sta
 
 -- records with so many items each
 abbrev pub drilled : ℕ → ℕ → ℕ → List (List (ℕ × ℤ))
-drilled seed records items = map (λ n. cells_of items (after_draws (2 * items * n) seed)) (range_with_len 0 records)
+drilled seed records items =
+    map (λ n. cells_of items (after_draws (2 * items * n) seed)) (range_with_len 0 records)
 
 -- an element, which four draws tell: an item from 1 to 25, and one from 26 to 50
 abbrev pub element_from : ℕ → List (ℕ × ℤ)
@@ -32,4 +33,5 @@ elements_of elements state = map (λ n. element_from (after_draws (4 * n) state)
 
 -- sequences with so many elements each
 abbrev pub drilled_sequences : ℕ → ℕ → ℕ → List (List (List (ℕ × ℤ)))
-drilled_sequences seed records elements = map (λ n. elements_of elements (after_draws (4 * elements * n) seed)) (range_with_len 0 records)
+drilled_sequences seed records elements =
+    map (λ n. elements_of elements (after_draws (4 * elements * n) seed)) (range_with_len 0 records)

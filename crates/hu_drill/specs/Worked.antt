@@ -15,7 +15,8 @@ pub two_records : drilled 1 2 2 ≡ ((7, pos 95) ∷ (13, pos 38) ∷ []) ∷ ((
 two_records = refl
 
 -- a sequence of two elements
-pub one_sequence : drilled_sequences 1 1 2 ≡ (((22, pos 95) ∷ (37, pos 38) ∷ []) ∷ ((17, pos 84) ∷ (37, pos 6) ∷ []) ∷ []) ∷ []
+pub one_sequence : drilled_sequences 1 1 2
+    ≡ (((22, pos 95) ∷ (37, pos 38) ∷ []) ∷ ((17, pos 84) ∷ (37, pos 6) ∷ []) ∷ []) ∷ []
 one_sequence = refl
 
 -- the line of no entries, and that of two

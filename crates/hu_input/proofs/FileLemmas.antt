@@ -1,5 +1,7 @@
 -- What the end of a file, and the reading of a piece of one, make of the outcome.
-use Rattle.std.proofs.Common.{◌≡◌, ℕ, ◌+◌, ◌<◌, ◌≤◌, false, List, [], ◌∷◌, ◌++◌, length, take, drop, Result, Ok, Err, Option, Some, None, MatchOption, refl, sym, ap, ◌∙◌, subst, arith, length-take, length-drop, take-append-drop}
+use Rattle.std.proofs.Common.{◌≡◌, ℕ, ◌+◌, ◌<◌, ◌≤◌, false, List, [], ◌∷◌, ◌++◌, length, take, drop, Result, Ok, Err}
+use Rattle.std.proofs.Common.{Option, Some, None, MatchOption, refl, sym, ap, ◌∙◌, subst, arith, length-take}
+use Rattle.std.proofs.Common.{length-drop, take-append-drop}
 use Rattle.std.specs.Prelude.{IfSome, IsSomeAnd, IfErr, OnOk}
 use Rattle.std.proofs.lemmas.List.{drop_all, drop-drop, length-take-le}
 use Rattle.hu_base.specs.Base.{carried_of, records_of}
@@ -13,7 +15,8 @@ use Rattle.hu_input.specs.declared.input.InputStop.{InputStop}
 use Rattle.hu_input.specs.declared.input.InputStop.TheVariants.{Refused, ReadFailed, NoMemory}
 use Rattle.hu_input.specs.View.{View}
 use Rattle.hu_input.specs.Input.{Refusal}
-use Rattle.hu_input.specs.Intake.{IsOpen, IfHas, IfRefused, IsStopAt, StopsAt, outcome, outcome_at, Judges, Took, Refuses, RefusesLast, Ends, TookPiece, RefusesPiece}
+use Rattle.hu_input.specs.Intake.{IsOpen, IfHas, IfRefused, IsStopAt, StopsAt, outcome, outcome_at, Judges, Took}
+use Rattle.hu_input.specs.Intake.{Refuses, RefusesLast, Ends, TookPiece, RefusesPiece}
 use Rattle.hu_input.proofs.IntakeLemmas.{outcome_empty, outcome_last, outcome_last_refused}
 use Rattle.hu_input.proofs.FrontLemmas.{begun_same, begun_by_test}
 
@@ -56,7 +59,8 @@ module _ {R : Type 0} (reading : List ℕ → Result R Reason) (absolute : R →
   ended_stopped next line.NoMemory opened unfinished some judged = tt
 
   -- the last line has no line feed, and was judged
-  pub ended_ok : (w : View R) (result : Result (Unit {0}) LineStop) → IsOpen v.lines → v.lines.whole ≡ false → 0 < length v.lines.bytes → w.lines ≡ at_end v.lines
+  pub ended_ok : (w : View R) (result : Result (Unit {0}) LineStop) → IsOpen v.lines → v.lines.whole ≡ false
+      → 0 < length v.lines.bytes → w.lines ≡ at_end v.lines
       → Judges reading absolute (at_end v.lines) v.base w.base result → OnOk result (Ends reading absolute v w)
   ended_ok w (Ok _) opened unfinished some same judged =
       record { lines = same; carried = ap carried_of judged.2; records = ended_joined w.base opened unfinished some judged }
@@ -72,12 +76,14 @@ gives_next : (content : List ℕ) (at n : ℕ) (into : List ℕ) → Gives conte
     → (drop at content ≡ take n into ++ drop (at + n) content) × (at + n ≤ length content)
 gives_next content at n into gives within so_far =
     let taken : length (take n into) ≡ length (take n (drop at content)) = ap length gives.bytes in (
-      sym (take-append-drop n (drop at content)) ∙ ap (λ l. l ++ drop n (drop at content)) (sym gives.bytes) ∙ ap (λ l. take n into ++ l) (drop-drop n at content),
+      sym (take-append-drop n (drop at content)) ∙ ap (λ l. l ++ drop n (drop at content)) (sym gives.bytes)
+          ∙ ap (λ l. take n into ++ l) (drop-drop n at content),
       omega (arith, length-take n into, length-take n (drop at content), length-drop at content),
     )
 
 -- a read gave nothing, so the content has ended
-gives_end : (content : List ℕ) (at : ℕ) (into : List ℕ) → Gives content at 0 into → 0 < length into → at ≤ length content → (length content ≡ at) × (drop at content ≡ [])
+gives_end : (content : List ℕ) (at : ℕ) (into : List ℕ) → Gives content at 0 into → 0 < length into
+    → at ≤ length content → (length content ≡ at) × (drop at content ≡ [])
 gives_end content at into gives room so_far =
     let over : length content ≤ at = (gives.end room).0 refl in
     (omega arith, drop_all at content over)
@@ -112,7 +118,8 @@ module _ {R : Type 0} (reading : List ℕ → Result R Reason) (absolute : R →
       piece_in (Some bytes) given = piece_outcome v w bytes at n into given within room took
 
   -- a piece was read and taken in
-  pub piece_read : (v w : View R) (old new : FilesState) (name : List ℕ) (at n : ℕ) (into : List ℕ) → Got old new name at into n → n ≤ length into → 0 < length into
+  pub piece_read : (v w : View R) (old new : FilesState) (name : List ℕ) (at n : ℕ) (into : List ℕ)
+      → Got old new name at into n → n ≤ length into → 0 < length into
       → Took reading absolute v w (take n into) n → TookPiece reading absolute v w old new name at n
   piece_read v w old new name at n into got within room took = record {
     same = got.same;
@@ -152,11 +159,13 @@ module _ {R : Type 0} (reading : List ℕ → Result R Reason) (absolute : R →
   refused_told : (v : View R) (old : FilesState) (name : List ℕ) (at n : ℕ) (into : List ℕ) (stop : LineStop)
       → GivesTold old.contents name at into n → n ≤ length into → Refuses reading absolute v (take n into) stop
       → IfRefused (λ refusal. IfHas old name (RefusesPiece reading absolute v at refusal)) stop
-  refused_told v old name at n into (line.Refused number reason) gives within refused = piece_refuses v name at n into old.contents number reason gives within refused
+  refused_told v old name at n into (line.Refused number reason) gives within refused =
+      piece_refuses v name at n into old.contents number reason gives within refused
   refused_told v old name at n into line.NoMemory gives within refused = tt
 
   -- a piece was read, and a line of it is refused
-  pub piece_stopped : (v : View R) (old new : FilesState) (name : List ℕ) (at n : ℕ) (into : List ℕ) (stop : LineStop) (result : InputStop) → Got old new name at into n → n ≤ length into
+  pub piece_stopped : (v : View R) (old new : FilesState) (name : List ℕ) (at n : ℕ) (into : List ℕ) (stop : LineStop)
+      (result : InputStop) → Got old new name at into n → n ≤ length into
       → Refuses reading absolute v (take n into) stop → IsStopAt name stop result → StopsAt old new name (RefusesPiece reading absolute v at) result
   piece_stopped v old new name at n into stop result got within refused is =
       stops_at old new name (RefusesPiece reading absolute v at) stop result is got.same (refused_told v old name at n into stop got.told within refused)

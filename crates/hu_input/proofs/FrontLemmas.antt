@@ -1,5 +1,7 @@
 -- What taking in a front of a piece makes of the states of lines.
-use Rattle.std.proofs.Common.{inl, inr, ◌≡◌, ℕ, ◌+◌, ◌<◌, ◌≤◌, Bool, true, false, cond, List, [], ◌++◌, length, take, drop, Result, Ok, Err, Some, None, refl, sym, ap, ◌∙◌, subst, append_assoc, take-append-drop, length-append, arith}
+use Rattle.std.proofs.Common.{inl, inr, ◌≡◌, ℕ, ◌+◌, ◌<◌, ◌≤◌, Bool, true, false, cond, List, [], ◌++◌, length, take}
+use Rattle.std.proofs.Common.{drop, Result, Ok, Err, Some, None, refl, sym, ap, ◌∙◌, subst, append_assoc}
+use Rattle.std.proofs.Common.{take-append-drop, length-append, arith}
 use Rattle.std.specs.Option.{option_or}
 use Rattle.hu_lines.specs.declared.limits.LineFault.{LineFault}
 use Rattle.hu_lines.specs.Pieces.{first_piece, has_line_feed}
@@ -16,7 +18,8 @@ use Rattle.hu_input.specs.Intake.{limit_stop, bytes_in, IsOpen, outcome, outcome
 use Rattle.hu_input.proofs.IntakeLemmas.{outcome_held, outcome_accepted, outcome_refused, outcome_limited}
 
 -- a limit names the line that passes it
-limit_of_line : (number before : ℕ) (piece : List ℕ) (fault : LineFault) → refusal number before piece ≡ Some fault → limit_stop fault ≡ Refused number (limit_reason fault)
+limit_of_line : (number before : ℕ) (piece : List ℕ) (fault : LineFault) → refusal number before piece ≡ Some fault
+    → limit_stop fault ≡ Refused number (limit_reason fault)
 limit_of_line number before piece fault is = elim (refusal_names number before piece fault is) [
   | inl long ↦ subst (λ f. limit_stop f ≡ Refused number (limit_reason f)) (sym long) refl
   | inr large ↦ subst (λ f. limit_stop f ≡ Refused number (limit_reason f)) (sym large) refl
@@ -38,11 +41,15 @@ pub begun_same : (s : State) → s.whole ≡ false → begun s ≡ s
 begun_same s unfinished = begun_by_test (λ b. b ≡ s) s.whole _ s (λ ended. cc) (λ _. refl)
 
 begun_next : (s : State) → s.whole ≡ true → begun s ≡ record s { bytes = []; whole = false; number = s.number + 1; before = s.before + length s.bytes }
-begun_next s ended = begun_by_test (λ b. b ≡ record s { bytes = []; whole = false; number = s.number + 1; before = s.before + length s.bytes }) s.whole _ s (λ _. refl) (λ unfinished. cc)
+begun_next s ended =
+    begun_by_test
+    (λ b. b ≡ record s { bytes = []; whole = false; number = s.number + 1; before = s.before + length s.bytes }) s.whole
+    _ s (λ _. refl) (λ unfinished. cc)
 
 -- a front and what is left of a piece, with a tail
 front_and_tail : (n : ℕ) (piece front tail : List ℕ) → take n piece ≡ front → front ++ (drop n piece ++ tail) ≡ piece ++ tail
-front_and_tail n piece front tail is = sym (append_assoc front (drop n piece) tail) ∙ ap (λ l. l ++ drop n piece ++ tail) (sym is) ∙ ap (λ l. l ++ tail) (take-append-drop n piece)
+front_and_tail n piece front tail is = sym (append_assoc front (drop n piece) tail)
+    ∙ ap (λ l. l ++ drop n piece ++ tail) (sym is) ∙ ap (λ l. l ++ tail) (take-append-drop n piece)
 
 -- beginning the next line counts no byte
 begun_bytes : (s : State) → bytes_in (begun s) ≡ bytes_in s
@@ -125,7 +132,8 @@ module _ {R : Type 0} (reading : List ℕ → Result R Reason) (absolute : R →
   }
 
   -- the line ended within the piece, and judging stopped at it
-  pub front_stopped : (t : State) (next : ℕ × List R) (n : ℕ) (piece : List ℕ) (stop : LineStop) → IsFed v.lines t piece n → has_line_feed (first_piece piece) ≡ true
+  pub front_stopped : (t : State) (next : ℕ × List R) (n : ℕ) (piece : List ℕ) (stop : LineStop)
+      → IsFed v.lines t piece n → has_line_feed (first_piece piece) ≡ true
       → Judges reading absolute t v.base next (Err stop) → Refuses reading absolute v piece stop
   front_stopped t next n piece (Refused number reason) fed ended judged = λ tail.
       let b = begun v.lines in

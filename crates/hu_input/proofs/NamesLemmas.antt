@@ -1,5 +1,7 @@
 -- What reading one more file makes of the input of named files.
-use Rattle.std.proofs.Common.{◌≡◌, ℕ, ◌+◌, ◌<◌, ◌≤◌, ◌^◌, List, [], ◌∷◌, ◌++◌, length, take, drop, Result, Ok, Err, Option, Some, None, refl, sym, ap, ◌∙◌, subst, arith, append_assoc, append-nil, length-append, take-append-drop, get_or, sum_by, inl, inr}
+use Rattle.std.proofs.Common.{◌≡◌, ℕ, ◌+◌, ◌<◌, ◌≤◌, ◌^◌, List, [], ◌∷◌, ◌++◌, length, take, drop, Result, Ok, Err}
+use Rattle.std.proofs.Common.{Option, Some, None, refl, sym, ap, ◌∙◌, subst, arith, append_assoc, append-nil}
+use Rattle.std.proofs.Common.{length-append, take-append-drop, get_or, sum_by, inl, inr}
 use Rattle.std.specs.Prelude.{slice_get, IfSome, IsSomeAnd, IsOk, Contains, ℤ, unsigned_abs}
 use Rattle.std.specs.Option.{option_map}
 use Rattle.std.specs.String.{string_bytes}
@@ -37,7 +39,8 @@ pub record IsAt (names : List (List ℕ)) (i : ℕ) (name : List ℕ) : Type 0 w
   pub cut : take (i + 1) names ≡ take i names ++ name ∷ []
   pub whole : names ≡ take i names ++ name ∷ drop (i + 1) names
 
-pub text_at : (names : List (String Global)) (i : ℕ) (item : String Global) (name : List ℕ) → i < length names → item ≡ get_or names i item → name ≡ string_bytes item
+pub text_at : (names : List (String Global)) (i : ℕ) (item : String Global) (name : List ℕ) → i < length names → item
+    ≡ get_or names i item → name ≡ string_bytes item
     → IsAt (texts_of names) i name
 text_at names i item name within is text =
     let all = texts_of names in
@@ -60,11 +63,13 @@ module _ {R : Type 0} (reading : List ℕ → Result R Reason) (absolute : R →
         ≡ with_front (records_in bases) (input_from reading absolute told v.lines.before (carried_of v.base) more))
     pub front : (n : ℕ) → IfTold reading absolute files sum (take n done) (λ input. input ≡ Ok (records_in (take n bases)))
 
-  told_by : (contents : Option (List ℕ → Option (List ℕ))) (P : (List ℕ → Option (List ℕ)) → Type 0) → ((told : List ℕ → Option (List ℕ)) → P told) → IfSome contents P
+  told_by : (contents : Option (List ℕ → Option (List ℕ))) (P : (List ℕ → Option (List ℕ)) → Type 0)
+      → ((told : List ℕ → Option (List ℕ)) → P told) → IfSome contents P
   told_by None P always = tt
   told_by (Some told) P always = always told
 
-  both_told : (contents : Option (List ℕ → Option (List ℕ))) (P Q S : (List ℕ → Option (List ℕ)) → Type 0) → ((told : List ℕ → Option (List ℕ)) → P told → Q told → S told)
+  both_told : (contents : Option (List ℕ → Option (List ℕ))) (P Q S : (List ℕ → Option (List ℕ)) → Type 0)
+      → ((told : List ℕ → Option (List ℕ)) → P told → Q told → S told)
       → IfSome contents P → IfSome contents Q → IfSome contents S
   both_told None P Q S so p q = tt
   both_told (Some told) P Q S so p q = so told p q
@@ -102,12 +107,14 @@ module _ {R : Type 0} (reading : List ℕ → Result R Reason) (absolute : R →
       ≡ with_front (records_of base) (input_from reading absolute told w.lines.before (carried_of w.base) more)
   file_next told name v w base None more sum read = absurd read
   file_next told name v w base (Some bytes) more sum read =
-      ap (λ r. after_file reading absolute name (carried_of v.base) (Some r) (λ s. input_from reading absolute told (v.lines.before + length bytes) s more)) read.1
+      ap (λ r. after_file reading absolute name (carried_of v.base) (Some r)
+      (λ s. input_from reading absolute told (v.lines.before + length bytes) s more)) read.1
       ∙ ap (λ s. with_front (records_of base) (input_from reading absolute told (v.lines.before + length bytes) s more)) (sym sum)
       ∙ ap (λ n. with_front (records_of base) (input_from reading absolute told n (carried_of w.base) more)) (sym read.0)
 
   module _ (sum : ℕ) (files : FilesState) (done : List (List ℕ)) (v w : View R) (bases : List (ℕ × List R)) where
-    next_more : (name : List ℕ) (base : ℕ × List R) (told : List ℕ → Option (List ℕ)) → carried_of w.base ≡ carried_of v.base + sum_by absolute (records_of base)
+    next_more : (name : List ℕ) (base : ℕ × List R) (told : List ℕ → Option (List ℕ)) → carried_of w.base
+        ≡ carried_of v.base + sum_by absolute (records_of base)
         → ((more : List (List ℕ)) → input_from reading absolute told 0 sum (done ++ more)
         ≡ with_front (records_in bases) (input_from reading absolute told v.lines.before (carried_of v.base) more))
         → IsSomeAnd (told name) (λ bytes. (w.lines.before ≡ v.lines.before + length bytes)
@@ -131,10 +138,12 @@ module _ {R : Type 0} (reading : List ℕ → Result R Reason) (absolute : R →
           | inl over ↦
               let names_over : length (done ++ name ∷ []) ≤ n = omega (arith, length-append done (name ∷ [])) in
               let bases_over : length (bases ++ base ∷ []) ≤ n = omega (arith, one_each, length-append bases (base ∷ [])) in
-              ap (input_from reading absolute told 0 sum) (take_all n (done ++ name ∷ []) names_over) ∙ whole ∙ ap (λ l. Ok (records_in l)) (sym (take_all n (bases ++ base ∷ []) bases_over))
+              ap (input_from reading absolute told 0 sum) (take_all n (done ++ name ∷ []) names_over) ∙ whole
+              ∙ ap (λ l. Ok (records_in l)) (sym (take_all n (bases ++ base ∷ []) bases_over))
           | inr within ↦
               let bases_within : n ≤ length bases = omega (arith, one_each) in
-              ap (input_from reading absolute told 0 sum) (take-append-le n done (name ∷ []) within) ∙ front ∙ ap (λ l. Ok (records_in l)) (sym (take-append-le n bases (base ∷ []) bases_within))
+              ap (input_from reading absolute told 0 sum) (take-append-le n done (name ∷ []) within) ∙ front
+              ∙ ap (λ l. Ok (records_in l)) (sym (take-append-le n bases (base ∷ []) bases_within))
         ]
 
     -- one more file was read
@@ -150,18 +159,21 @@ module _ {R : Type 0} (reading : List ℕ → Result R Reason) (absolute : R →
           next = next;
           front = λ n. both_told files.contents _ _ _
               (λ told next front. front_more name base told read.one_each
-              (ap (input_from reading absolute told 0 sum) (sym (append-nil (done ++ name ∷ []))) ∙ next [] ∙ ap Ok (append-nil (records_in (bases ++ base ∷ [])))) n front)
+              (ap (input_from reading absolute told 0 sum) (sym (append-nil (done ++ name ∷ []))) ∙ next []
+              ∙ ap Ok (append-nil (records_in (bases ++ base ∷ [])))) n front)
               next (read.front n);
         }
 
   -- all files were read
-  pub read_all : (sum : ℕ) (files new : FilesState) (names : List (List ℕ)) (v : View R) (bases : List (ℕ × List R)) → AreRead sum files names v bases → new ≡ files
+  pub read_all : (sum : ℕ) (files new : FilesState) (names : List (List ℕ)) (v : View R) (bases : List (ℕ × List R))
+      → AreRead sum files names v bases → new ≡ files
       → ReadsAll reading absolute sum files new names bases
   read_all sum files new names v bases read same = record {
     same = same;
     fits = read.fits;
     one_each = read.one_each;
-    all = one_told files.contents _ _ (λ told next. ap (input_from reading absolute told 0 sum) (sym (append-nil names)) ∙ next [] ∙ ap Ok (append-nil (records_in bases))) read.next;
+    all = one_told files.contents _ _ (λ told next. ap (input_from reading absolute told 0 sum) (sym (append-nil names))
+        ∙ next [] ∙ ap Ok (append-nil (records_in bases))) read.next;
     front = read.front;
   }
 
@@ -171,10 +183,12 @@ module _ {R : Type 0} (reading : List ℕ → Result R Reason) (absolute : R →
       (λ s. input_from reading absolute told (v.lines.before + content_length reading absolute content) s more) ≡ Err (refused_line name refusal)
   refused_here told name v refusal None more refused = absurd refused
   refused_here told name v refusal (Some bytes) more refused =
-      ap (λ r. after_file reading absolute name (carried_of v.base) (Some r) (λ s. input_from reading absolute told (v.lines.before + length bytes) s more)) refused
+      ap (λ r. after_file reading absolute name (carried_of v.base) (Some r)
+      (λ s. input_from reading absolute told (v.lines.before + length bytes) s more)) refused
 
   refused_after : (sum : ℕ) (files : FilesState) (names : List (List ℕ)) (i : ℕ) (name : List ℕ) (v : View R) (bases : List (ℕ × List R)) (refusal : Refusal)
-      → IsAt names i name → AreRead sum files (take i names) v bases → IfSome files.contents (λ told. IsSomeAnd (told name) (RefusesFile reading absolute v refusal))
+      → IsAt names i name → AreRead sum files (take i names) v bases
+      → IfSome files.contents (λ told. IsSomeAnd (told name) (RefusesFile reading absolute v refusal))
       → IfTold reading absolute files sum names (λ input. input ≡ Err (refused_line name refusal))
   refused_after sum files names i name v bases refusal at read refused =
       let more = drop (i + 1) names in
@@ -191,7 +205,8 @@ module _ {R : Type 0} (reading : List ℕ → Result R Reason) (absolute : R →
       one_told files.contents _ _ (λ told next. subst IsOk (sym (ap (input_from reading absolute told 0 sum) (sym (append-nil done)) ∙ next [])) refl) read.next
 
   -- reading stopped in a file
-  pub read_stopped : (carried : ℤ) (files new : FilesState) (names : List (List ℕ)) (i : ℕ) (name : List ℕ) (v : View R) (bases : List (ℕ × List R)) (stop : InputStop)
+  pub read_stopped : (carried : ℤ) (files new : FilesState) (names : List (List ℕ)) (i : ℕ) (name : List ℕ) (v : View R)
+      (bases : List (ℕ × List R)) (stop : InputStop)
       → IsAt names i name → AreRead (unsigned_abs carried) files (take i names) v bases → StopsAt files new name (RefusesFile reading absolute v) stop
       → ReadsFiles reading absolute carried files new names (Err stop)
   read_stopped carried files new names i name v bases (Refused k number reason) at read stops =
@@ -200,7 +215,8 @@ module _ {R : Type 0} (reading : List ℕ → Result R Reason) (absolute : R →
       record {
         same = stops.1;
         named = subst (Contains names) (sym stops.0) (i, slice_get_within names i name at.place, get_or_from_slice_get names i name name at.place);
-        first = subst (λ text. IfTold reading absolute files (unsigned_abs carried) names (λ input. input ≡ Err (refused_line text refusal))) (sym stops.0) first;
+        first = subst (λ text. IfTold reading absolute files (unsigned_abs carried) names
+            (λ input. input ≡ Err (refused_line text refusal))) (sym stops.0) first;
       }
   read_stopped carried files new names i name v bases (ReadFailed k) at read stops = (
     i,

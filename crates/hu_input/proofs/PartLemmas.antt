@@ -1,5 +1,6 @@
 -- Parts one after the other.
-use Rattle.std.proofs.Common.{◌≡◌, ℕ, suc, ◌+◌, ◌<◌, ◌≤◌, List, ◌∷◌, ◌++◌, length, get_or, take, drop, sym, ap, ◌∙◌, subst, arith, length-append, take-append-drop}
+use Rattle.std.proofs.Common.{◌≡◌, ℕ, suc, ◌+◌, ◌<◌, ◌≤◌, List, ◌∷◌, ◌++◌, length, get_or, take, drop, sym, ap, ◌∙◌}
+use Rattle.std.proofs.Common.{subst, arith, length-append, take-append-drop}
 use Rattle.std.specs.Prelude.{flat_map, Result, Ok, Err, IsErr}
 use Rattle.std.specs.Io.KnownBytes.{Appends}
 use Rattle.std.proofs.KnownBytes.{Appends-trans}
@@ -24,7 +25,8 @@ take-inside k front text rest within =
     take-append-add front (text ++ rest) k ∙ ap (λ l. front ++ l) (take-append-le k text rest inside)
 
 -- texts were appended, and then a line broke off
-pub Appended-Broke : (old now new : SinkState) (front text rest : List ℕ) → Appended old now front → Broke now new text → Broke old new (front ++ (text ++ rest))
+pub Appended-Broke : (old now new : SinkState) (front text rest : List ℕ) → Appended old now front → Broke now new text
+    → Broke old new (front ++ (text ++ rest))
 Appended-Broke old now new front text rest first then_ =
     let k = then_.front.0 in record {
       front = (
@@ -39,6 +41,7 @@ Appended-Broke old now new front text rest first then_ =
     }
 
 -- a text that broke off is a failure
-pub PutsAll-Broke : {E : Type 0} (old new : SinkState) (result : Result (Unit {0}) E) (text : List ℕ) → IsErr result → Broke old new text → PutsAll old new result text
+pub PutsAll-Broke : {E : Type 0} (old new : SinkState) (result : Result (Unit {0}) E) (text : List ℕ) → IsErr result
+    → Broke old new text → PutsAll old new result text
 PutsAll-Broke old new (Ok _) text failed broke = cc
 PutsAll-Broke old new (Err _) text failed broke = broke

@@ -12,7 +12,8 @@ use Rattle.hu_input.specs.declared.input.InputStop.TheVariants.{Refused, ReadFai
 use Rattle.hu_input.specs.View.{View}
 use Rattle.hu_input.specs.Input.{Refusal, with_front}
 use Rattle.hu_input.specs.Input as spec
-use Rattle.hu_input.specs.Intake.{IsFresh, IfHas, IfRefused, IsStopAt, StopsAt, bytes_in, outcome, outcome_at, RefusesLast, Closes, TookPiece, RefusesPiece, TookFile, RefusesFile}
+use Rattle.hu_input.specs.Intake.{IsFresh, IfHas, IfRefused, IsStopAt, StopsAt, bytes_in, outcome, outcome_at}
+use Rattle.hu_input.specs.Intake.{RefusesLast, Closes, TookPiece, RefusesPiece, TookFile, RefusesFile}
 use Rattle.hu_input.proofs.FrontLemmas.{begun_same}
 use Rattle.hu_input.proofs.FileLemmas.{stops_at}
 
@@ -24,7 +25,8 @@ with_front-nil (Err e) = refl
 abbrev pub IfThere : FilesState → List ℕ → (List ℕ → Type 0) → Type 0
 IfThere files name IsSo = IfSome files.contents (λ told. IfSome (told name) IsSo)
 
-pub there_by : (contents : Option (List ℕ → Option (List ℕ))) (name : List ℕ) (P : List ℕ → Type 0) → ((content : List ℕ) → P content) → IfSome contents (λ told. IfSome (told name) P)
+pub there_by : (contents : Option (List ℕ → Option (List ℕ))) (name : List ℕ) (P : List ℕ → Type 0)
+    → ((content : List ℕ) → P content) → IfSome contents (λ told. IfSome (told name) P)
 there_by None name P always = tt
 there_by (Some told) name P always = content_by (told name)
   where
@@ -32,7 +34,8 @@ there_by (Some told) name P always = content_by (told name)
     content_by None = tt
     content_by (Some content) = always content
 
-pub both_by : (contents : Option (List ℕ → Option (List ℕ))) (name : List ℕ) (P Q S : List ℕ → Type 0) → ((content : List ℕ) → P content → Q content → S content)
+pub both_by : (contents : Option (List ℕ → Option (List ℕ))) (name : List ℕ) (P Q S : List ℕ → Type 0)
+    → ((content : List ℕ) → P content → Q content → S content)
     → IfSome contents (λ told. IfSome (told name) P) → IfSome contents (λ told. IsSomeAnd (told name) Q) → IfSome contents (λ told. IsSomeAnd (told name) S)
 both_by None name P Q S so first second = tt
 both_by (Some told) name P Q S so first second = content_by (told name) first second
@@ -41,7 +44,8 @@ both_by (Some told) name P Q S so first second = content_by (told name) first se
     content_by None p q = absurd q
     content_by (Some content) p q = so content p q
 
-pub weaker_by : (contents : Option (List ℕ → Option (List ℕ))) (name : List ℕ) (P : List ℕ → Type 0) → IfSome contents (λ told. IsSomeAnd (told name) P) → IfSome contents (λ told. IfSome (told name) P)
+pub weaker_by : (contents : Option (List ℕ → Option (List ℕ))) (name : List ℕ) (P : List ℕ → Type 0)
+    → IfSome contents (λ told. IsSomeAnd (told name) P) → IfSome contents (λ told. IfSome (told name) P)
 weaker_by None name P known = tt
 weaker_by (Some told) name P known = content_by (told name) known
   where
@@ -65,7 +69,9 @@ module _ {R : Type 0} (reading : List ℕ → Result R Reason) (absolute : R →
 
   -- what was read so far is a front of the content, and what is left of it decides the rest
   abbrev pub ReadSoFar : View R → View R → ℕ → List ℕ → Type 0
-  ReadSoFar v u at content = (at ≤ length content) × (outcome reading absolute u.lines u.base (drop at content) ≡ outcome reading absolute v.lines v.base content)
+  ReadSoFar v u at content =
+      (at ≤ length content) × (outcome reading absolute u.lines u.base (drop at content)
+      ≡ outcome reading absolute v.lines v.base content)
 
   pub so_far_none : (v : View R) (files : FilesState) (name : List ℕ) → IfThere files name (ReadSoFar v v 0)
   so_far_none v files name = there_by files.contents name (ReadSoFar v v 0) (λ content. (omega arith, refl))
@@ -85,7 +91,8 @@ module _ {R : Type 0} (reading : List ℕ → Result R Reason) (absolute : R →
       → TookPiece reading absolute u w old new name at n → n ≡ 0
       → IfHas first name (λ content. (length content ≡ at) × (outcome reading absolute w.lines w.base [] ≡ outcome reading absolute v.lines v.base content))
   so_far_ended v u w first old new name at n so_far same took none =
-      both_by first.contents name (ReadSoFar v u at) _ (λ content. (length content ≡ at) × (outcome reading absolute w.lines w.base [] ≡ outcome reading absolute v.lines v.base content))
+      both_by first.contents name (ReadSoFar v u at) _ (λ content. (length content ≡ at)
+      × (outcome reading absolute w.lines w.base [] ≡ outcome reading absolute v.lines v.base content))
       (λ content known piece.
       let more = piece known.0 in
       let size : length content ≡ at = more.1 none in
@@ -96,10 +103,13 @@ module _ {R : Type 0} (reading : List ℕ → Result R Reason) (absolute : R →
 
   has_by : (contents : Option (List ℕ → Option (List ℕ))) (name : List ℕ) (P Q : List ℕ → Type 0) → ((content : List ℕ) → P content → Q content)
       → IfSome contents (λ told. IsSomeAnd (told name) P) → IfSome contents (λ told. IsSomeAnd (told name) Q)
-  has_by contents name P Q so known = both_by contents name (λ _. Unit {0}) P Q (λ content _ p. so content p) (there_by contents name (λ _. Unit {0}) (λ _. tt)) known
+  has_by contents name P Q so known =
+      both_by contents name (λ _. Unit {0}) P Q (λ content _ p. so content p)
+      (there_by contents name (λ _. Unit {0}) (λ _. tt)) known
 
   -- the file was read to its end
-  pub file_read : (v u w x : View R) (first old new : FilesState) (name : List ℕ) (at n : ℕ) (base : ℕ × List R) → IsFresh v → IfThere first name (ReadSoFar v u at) → old ≡ first
+  pub file_read : (v u w x : View R) (first old new : FilesState) (name : List ℕ) (at n : ℕ) (base : ℕ × List R)
+      → IsFresh v → IfThere first name (ReadSoFar v u at) → old ≡ first
       → TookPiece reading absolute u w old new name at n → n ≡ 0 → bytes_in u.lines ≡ bytes_in v.lines + at → carried_of u.base ≡ carried_of v.base
       → Closes reading absolute w x base → TookFile reading absolute v x first new name base
   file_read v u w x first old new name at n base fresh so_far same took none count carried closes = record {
@@ -125,7 +135,8 @@ module _ {R : Type 0} (reading : List ℕ → Result R Reason) (absolute : R →
   refused_at_end v w first name at line.NoMemory fresh known refused = tt
 
   -- the last line of the file is refused
-  pub file_refused : (v u w : View R) (first old new : FilesState) (name : List ℕ) (at n : ℕ) (stop : LineStop) (result : InputStop) → IsFresh v → IfThere first name (ReadSoFar v u at) → old ≡ first
+  pub file_refused : (v u w : View R) (first old new : FilesState) (name : List ℕ) (at n : ℕ) (stop : LineStop)
+      (result : InputStop) → IsFresh v → IfThere first name (ReadSoFar v u at) → old ≡ first
       → TookPiece reading absolute u w old new name at n → n ≡ 0
       → RefusesLast reading absolute w stop → IsStopAt name stop result → StopsAt first new name (RefusesFile reading absolute v) result
   file_refused v u w first old new name at n stop result fresh so_far same took none refused is =

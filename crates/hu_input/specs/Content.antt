@@ -1,5 +1,21 @@
 -- What the reading of the content of a file answers. The content counts where it is told.
-use Rattle.std.specs.Prelude.{◌≡◌, ℕ, ◌+◌, ◌≤◌, ◌↔◌, Result, Ok, Err, List, ◌++◌, length, take, drop, IfSome, IsSomeAnd}
+use Rattle.std.specs.Prelude.{
+  ◌≡◌,
+  ℕ,
+  ◌+◌,
+  ◌≤◌,
+  ◌↔◌,
+  Result,
+  Ok,
+  Err,
+  List,
+  ◌++◌,
+  length,
+  take,
+  drop,
+  IfSome,
+  IsSomeAnd,
+}
 use Rattle.std.specs.declared.vec.Vec.{Vec}
 use Rattle.std.specs.declared.alloc.Global.{Global}
 use Rattle.hu_io.specs.State.{FilesState, Missed}

@@ -1,7 +1,24 @@
 -- The input of a job: the records of all its files in order, as one list, or the first line that is refused, or the
 -- first file that isn't there. A line is judged after the bytes of the run that come before it, and after the absolute
 -- sum of the records accepted before it.
-use Rattle.std.specs.Prelude.{ℕ, ◌+◌, ◌^◌, nat_lt, Option, None, Some, Result, Ok, Err, List, [], ◌∷◌, ◌++◌, length, if◌then◌else◌}
+use Rattle.std.specs.Prelude.{
+  ℕ,
+  ◌+◌,
+  ◌^◌,
+  nat_lt,
+  Option,
+  None,
+  Some,
+  Result,
+  Ok,
+  Err,
+  List,
+  [],
+  ◌∷◌,
+  ◌++◌,
+  length,
+  if◌then◌else◌,
+}
 use Rattle.std.specs.Option.{option_map, option_map_or}
 use Rattle.std.specs.Result.{result_map_both}
 use Rattle.std.specs.List.{sum_by}
@@ -44,10 +61,13 @@ module _ {R : Type 0} (reading : List ℕ → Result R Reason) (absolute : R →
 
   -- what a piece of a file says, as line `number` and after `before` bytes of the run: the limit that it passes comes first
   abbrev pub piece_record : ℕ → ℕ → ℕ → List ℕ → Result (Option R) Reason
-  piece_record number before sum piece = option_map_or (λ fault. Err (limit_reason fault)) (refusal number before piece) (line_record sum (line_of piece))
+  piece_record number before sum piece =
+      option_map_or (λ fault. Err (limit_reason fault)) (refusal number before piece)
+      (line_record sum (line_of piece))
 
   -- the records of a first line and of those after it, which are told the new sum
-  abbrev pub after_line : ℕ → ℕ → Result (Option R) Reason → (ℕ → Result (List R) Refusal) → Result (List R) Refusal
+  abbrev pub after_line : ℕ → ℕ → Result (Option R) Reason → (ℕ → Result (List R) Refusal)
+      → Result (List R) Refusal
   after_line number sum (Err reason) later = Err (record { number = number; reason = reason })
   after_line number sum (Ok None) later = later sum
   after_line number sum (Ok (Some r)) later = with_front (r ∷ []) (later (sum + absolute r))
@@ -56,14 +76,16 @@ module _ {R : Type 0} (reading : List ℕ → Result R Reason) (absolute : R →
   abbrev pub records_from : ℕ → ℕ → ℕ → List (List ℕ) → Result (List R) Refusal
   records_from number before sum [] = Ok []
   records_from number before sum (piece ∷ later) =
-      after_line number sum (piece_record number before sum piece) (λ s. records_from (number + 1) (before + length piece) s later)
+      after_line number sum (piece_record number before sum piece)
+      (λ s. records_from (number + 1) (before + length piece) s later)
 
   -- the records of a file
   abbrev pub records_of : ℕ → ℕ → List ℕ → Result (List R) Refusal
   records_of before sum content = records_from 1 before sum (pieces content)
 
   -- the records of a file and of those after it, which are told the new sum
-  abbrev pub after_file : List ℕ → ℕ → Option (Result (List R) Refusal) → (ℕ → Result (List R) Unread) → Result (List R) Unread
+  abbrev pub after_file : List ℕ → ℕ → Option (Result (List R) Refusal)
+      → (ℕ → Result (List R) Unread) → Result (List R) Unread
   after_file name sum None later = Err (missing_file name)
   after_file name sum (Some (Err refusal)) later = Err (refused_line name refusal)
   after_file name sum (Some (Ok records)) later = with_front records (later (sum + sum_by absolute records))
@@ -77,7 +99,8 @@ module _ {R : Type 0} (reading : List ℕ → Result R Reason) (absolute : R →
   abbrev pub input_from : (List ℕ → Option (List ℕ)) → ℕ → ℕ → List (List ℕ) → Result (List R) Unread
   input_from contents before sum [] = Ok []
   input_from contents before sum (name ∷ names) =
-      after_file name sum (option_map (records_of before sum) (contents name)) (λ s. input_from contents (before + content_length (contents name)) s names)
+      after_file name sum (option_map (records_of before sum) (contents name))
+      (λ s. input_from contents (before + content_length (contents name)) s names)
 
   -- the input of the files that are named
   abbrev pub input : (List ℕ → Option (List ℕ)) → List (List ℕ) → Result (List R) Unread

@@ -1,5 +1,24 @@
 -- What is so far taken in of the files of a run, and what it makes of the bytes to come.
-use Rattle.std.specs.Prelude.{◌≡◌, ℕ, ◌+◌, ◌<◌, ◌≤◌, ◌^◌, false, None, Result, Ok, Err, IfSome, IsSomeAnd, List, [], ◌++◌, length, drop}
+use Rattle.std.specs.Prelude.{
+  ◌≡◌,
+  ℕ,
+  ◌+◌,
+  ◌<◌,
+  ◌≤◌,
+  ◌^◌,
+  false,
+  None,
+  Result,
+  Ok,
+  Err,
+  IfSome,
+  IsSomeAnd,
+  List,
+  [],
+  ◌++◌,
+  length,
+  drop,
+}
 use Rattle.std.specs.Option.{option_to_list}
 use Rattle.hu_base.specs.Base.{carried_of, records_of, sum_of}
 use Rattle.hu_io.specs.State.{FilesState, Missed}
@@ -72,7 +91,8 @@ module _ {R : Type 0} (reading : List ℕ → Result R Reason) (absolute : R →
   -- these and then the file ends
   abbrev pub outcome_at : ℕ → ℕ → List ℕ → ℕ × List R → List ℕ → Result (List R) Refusal
   outcome_at number before bytes base tail =
-      with_front (records_of base) (records_from reading absolute number before (sum_of absolute base) (pieces (bytes ++ tail)))
+      with_front (records_of base) (records_from reading absolute number before
+      (sum_of absolute base) (pieces (bytes ++ tail)))
 
   -- the same for the line that is held next
   abbrev pub outcome : State → ℕ × List R → List ℕ → Result (List R) Refusal
@@ -80,10 +100,12 @@ module _ {R : Type 0} (reading : List ℕ → Result R Reason) (absolute : R →
 
   -- a line was judged: its record, if it has one, joined the base; or it is refused for the reason that it has
   abbrev pub Judges : State → ℕ × List R → ℕ × List R → Result (Unit {0}) LineStop → Type 0
-  Judges s old new (Ok _) = (r : _) × (line_record reading absolute (sum_of absolute old) (line_of s.bytes) ≡ Ok r)
+  Judges s old new (Ok _) =
+      (r : _) × (line_record reading absolute (sum_of absolute old) (line_of s.bytes) ≡ Ok r)
       × (new ≡ (carried_of old, records_of old ++ option_to_list r))
   Judges s old new (Err (line.Refused number reason)) =
-      (line_record reading absolute (sum_of absolute old) (line_of s.bytes) ≡ Err reason) × (number ≡ s.number)
+      (line_record reading absolute (sum_of absolute old) (line_of s.bytes) ≡ Err reason)
+      × (number ≡ s.number)
   Judges s old new (Err line.NoMemory) = Unit {0}
 
   -- n more bytes were taken in, the front of these, whatever comes after them
@@ -93,11 +115,14 @@ module _ {R : Type 0} (reading : List ℕ → Result R Reason) (absolute : R →
     pub carried : carried_of new.base ≡ carried_of old.base
     pub within : n ≤ length bytes
     pub some : 0 < length bytes → 0 < n
-    pub outcome : (tail : List ℕ) → outcome new.lines new.base (drop n bytes ++ tail) ≡ outcome old.lines old.base (bytes ++ tail)
+    pub outcome : (tail : List ℕ) → outcome new.lines new.base (drop n bytes ++ tail)
+        ≡ outcome old.lines old.base (bytes ++ tail)
 
   -- of these bytes a line is refused, whatever comes after them
   abbrev pub Refuses : View R → List ℕ → LineStop → Type 0
-  Refuses old bytes stop = IfRefused (λ refusal. (tail : List ℕ) → outcome old.lines old.base (bytes ++ tail) ≡ Err refusal) stop
+  Refuses old bytes stop =
+      IfRefused (λ refusal. (tail : List ℕ) → outcome old.lines old.base (bytes ++ tail)
+      ≡ Err refusal) stop
 
   -- at the end of the file the line that is held is refused
   abbrev pub RefusesLast : View R → LineStop → Type 0
@@ -124,12 +149,14 @@ module _ {R : Type 0} (reading : List ℕ → Result R Reason) (absolute : R →
     pub opened : IsOpen w.lines
     pub count : bytes_in w.lines ≡ bytes_in v.lines + n
     pub carried : carried_of w.base ≡ carried_of v.base
-    pub told : IfHas old name (λ content. at ≤ length content → (at + n ≤ length content) × (n ≡ 0 → length content ≡ at)
+    pub told : IfHas old name (λ content. at ≤ length content
+        → (at + n ≤ length content) × (n ≡ 0 → length content ≡ at)
         × (outcome w.lines w.base (drop (at + n) content) ≡ outcome v.lines v.base (drop at content)))
 
   -- of the content of a file from a place on a line is refused
   abbrev pub RefusesPiece : View R → ℕ → Refusal → List ℕ → Type 0
-  RefusesPiece v at refusal content = at ≤ length content → outcome v.lines v.base (drop at content) ≡ Err refusal
+  RefusesPiece v at refusal content = at ≤ length content → outcome v.lines v.base (drop at content)
+      ≡ Err refusal
 
   -- what the reading of a piece of a file answers
   abbrev pub ReadsPiece : View R → View R → FilesState → FilesState → List ℕ → ℕ → Result ℕ InputStop → Type 0
@@ -144,13 +171,16 @@ module _ {R : Type 0} (reading : List ℕ → Result R Reason) (absolute : R →
     pub carried : carried_of base ≡ carried_of v.base
     pub fits : sum_of absolute base < 2 ^ 127
     pub told : IfHas old name (λ content. (w.lines.before ≡ v.lines.before + length content)
-        × (spec.records_of reading absolute v.lines.before (carried_of v.base) content ≡ Ok (records_of base)))
+        × (spec.records_of reading absolute v.lines.before (carried_of v.base) content
+        ≡ Ok (records_of base)))
 
   -- a line of a file is refused
   abbrev pub RefusesFile : View R → Refusal → List ℕ → Type 0
-  RefusesFile v refusal content = spec.records_of reading absolute v.lines.before (carried_of v.base) content ≡ Err refusal
+  RefusesFile v refusal content =
+      spec.records_of reading absolute v.lines.before (carried_of v.base) content ≡ Err refusal
 
   -- what the reading of a file answers
-  abbrev pub ReadsFile : View R → View R → FilesState → FilesState → List ℕ → Result (ℕ × List R) InputStop → Type 0
+  abbrev pub ReadsFile : View R → View R → FilesState → FilesState → List ℕ
+      → Result (ℕ × List R) InputStop → Type 0
   ReadsFile v w old new name (Ok base) = TookFile v w old new name base
   ReadsFile v w old new name (Err stop) = StopsAt old new name (RefusesFile v) stop

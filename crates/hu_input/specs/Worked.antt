@@ -1,6 +1,24 @@
 -- Worked rows: the input of small files, by computation. A form of this file alone reads a line as the list of its
 -- bytes, and refuses one that begins with `x`; the absolute sum of a record is the number of its bytes.
-use Rattle.std.specs.Prelude.{◌≡◌, ℕ, ◌-◌, ◌^◌, ◌==◌, Option, Result, Ok, Err, List, [], ◌∷◌, length, codes, slice_index, refl, if◌then◌else◌}
+use Rattle.std.specs.Prelude.{
+  ◌≡◌,
+  ℕ,
+  ◌-◌,
+  ◌^◌,
+  ◌==◌,
+  Option,
+  Result,
+  Ok,
+  Err,
+  List,
+  [],
+  ◌∷◌,
+  length,
+  codes,
+  slice_index,
+  refl,
+  if◌then◌else◌,
+}
 use Rattle.std.specs.Map.{lookup}
 use Rattle.std.specs.Str.{bytes_eq}
 use Rattle.hu_trans.specs.declared.fault.Fault.TheVariants.{NoItems}

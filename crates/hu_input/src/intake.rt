@@ -159,7 +159,8 @@ impl<T: Format> Intake<T> {
     /// Takes in a piece of the file.
     fn take(&mut self, piece: &[u8]) -> Result<(), LineStop>
         requires { IsOpen self.old.lines }
-        ensures ok { OnOk result (Took T.reading T.Record.absolute self.old self.new piece.now (length piece.now)) }
+        ensures ok { OnOk result (Took T.reading T.Record.absolute self.old self.new piece.now
+            (length piece.now)) }
         ensures err { IfErr result (Refuses T.reading T.Record.absolute self.old piece.now) }
     {
         let mut rest = piece;

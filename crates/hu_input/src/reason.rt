@@ -118,7 +118,8 @@ fn count_parts(first: &'static str, count: u32, second: &'static str) -> Parts
 
 /// Two texts, each with a number behind it.
 fn number_parts(first: &'static str, one: i128, second: &'static str, other: i128) -> Parts
-    ensures { flat_map part_text result ≡ first.now ++ (signed_decimal one ++ (second.now ++ (signed_decimal other ++ []))) }
+    ensures { flat_map part_text result
+        ≡ first.now ++ (signed_decimal one ++ (second.now ++ (signed_decimal other ++ []))) }
 {
     [
         Part::Text(first),

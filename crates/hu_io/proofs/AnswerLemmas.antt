@@ -15,7 +15,8 @@ Puts-answered (Err _) (Err _) old new piece answered within some =
     record { bytes = tt; rose = omega (arith, answered.1); later = answered.2; plan = refl }
 
 -- a read
-pub Gets-answered : {E F : Type 0} (given : Result ℕ E) (result : Result ℕ F) (old new : ℕ) (name : List ℕ) (at : ℕ) (into : List ℕ) → Answers given result old new
+pub Gets-answered : {E F : Type 0} (given : Result ℕ E) (result : Result ℕ F) (old new : ℕ) (name : List ℕ) (at : ℕ)
+    (into : List ℕ) → Answers given result old new
     → Gets (system_files old) (system_files new) name at into result
 Gets-answered (Ok n) result old new name at into answered =
     subst (Gets (system_files old) (system_files new) name at into) (sym answered.0) (record { told = tt; same = ap system_files answered.1 })

@@ -17,17 +17,21 @@ abbrev pub pairs_of : {Y X : Type 0} → (X → List ℕ) → List (String Y × 
 pairs_of g es = map (λ e. (string_bytes e.0, g e.1)) es
 
 -- a value that is read after a choice is chosen among values that are read
-option_map-cond : {X Y : Type 0} (g : X → Y) (b : Bool) (x : X) (p : Option Y) (q : Option X) → p ≡ option_map g q → cond b (Some (g x)) p ≡ option_map g (cond b (Some x) q)
+option_map-cond : {X Y : Type 0} (g : X → Y) (b : Bool) (x : X) (p : Option Y) (q : Option X) → p ≡ option_map g q
+    → cond b (Some (g x)) p ≡ option_map g (cond b (Some x) q)
 option_map-cond g true x p q e = refl
 option_map-cond g false x p q e = e
 
 -- the pairs find by its bytes what the entries find by the order of texts
-pub content_in-pairs : {Y X : Type 0} (g : X → List ℕ) (name : List ℕ) (es : List (String Y × X)) → content_in (pairs_of g es) name ≡ option_map g (lookup (λ k. is_eq (slice_cmp nat_cmp name (string_bytes k))) es)
+pub content_in-pairs : {Y X : Type 0} (g : X → List ℕ) (name : List ℕ) (es : List (String Y × X))
+    → content_in (pairs_of g es) name ≡ option_map g (lookup (λ k. is_eq (slice_cmp nat_cmp name (string_bytes k))) es)
 content_in-pairs g name [] = refl
 content_in-pairs g name ((k, x) ∷ es) = rw is_eq-slice_cmp (option_map-cond g _ x _ _ (content_in-pairs g name es))
 
 -- a value set at a name is what the pairs find there, and the other names are as before
-pub Adds-pairs : {Y X : Type 0} (g : X → List ℕ) (name : List ℕ) (m n : BTreeMap (String Y) X) (x : X) → UpdatesBy string_cmp (λ k. slice_cmp nat_cmp name (string_bytes k)) m n (Some x) → Adds (pairs_of g m.entries) (pairs_of g n.entries) name (g x)
+pub Adds-pairs : {Y X : Type 0} (g : X → List ℕ) (name : List ℕ) (m n : BTreeMap (String Y) X) (x : X)
+    → UpdatesBy string_cmp (λ k. slice_cmp nat_cmp name (string_bytes k)) m n (Some x)
+    → Adds (pairs_of g m.entries) (pairs_of g n.entries) name (g x)
 Adds-pairs g name m n x h = record {
   added = content_in-pairs g name n.entries ∙ ap (option_map g) h.1;
   others = λ other ne.

@@ -13,7 +13,8 @@ system_files faults = record { contents = None; faults = λ _. faults; plan = []
 -- a number of bytes is answered as it is, and an error by an error and one more fault
 abbrev pub Answers : {E F : Type 0} → Result ℕ E → Result ℕ F → ℕ → ℕ → Type 0
 Answers given result old new =
-    MatchResult given (λ n. (result ≡ Ok n) × (new ≡ old)) (λ _. IsErr result × (new ≡ one_more old) × (old ≤ new))
+    MatchResult given (λ n. (result ≡ Ok n) × (new ≡ old))
+    (λ _. IsErr result × (new ≡ one_more old) × (old ≤ new))
 
 -- the place after a read from this place, at most the greatest `u64`
 abbrev pub next_place : {E : Type 0} → ℕ → Result ℕ E → ℕ

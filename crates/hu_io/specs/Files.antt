@@ -1,5 +1,23 @@
 -- What a call of `Files::get` gives, and files by name as a list of pairs (name, bytes).
-use Rattle.std.specs.Prelude.{◌≡◌, ◌≢◌, ℕ, ◌<◌, ◌≤◌, ◌↔◌, ⊤, List, length, take, drop, Option, None, Some, MatchOption, [], unwrap_or}
+use Rattle.std.specs.Prelude.{
+  ◌≡◌,
+  ◌≢◌,
+  ℕ,
+  ◌<◌,
+  ◌≤◌,
+  ◌↔◌,
+  ⊤,
+  List,
+  length,
+  take,
+  drop,
+  Option,
+  None,
+  Some,
+  MatchOption,
+  [],
+  unwrap_or,
+}
 use Rattle.std.specs.Str.{bytes_eq}
 use Rattle.std.specs.Map.{lookup}
 

@@ -1,5 +1,26 @@
 -- Files in memory, of which chosen calls fail.
-use Rattle.std.specs.Prelude.{◌≡◌, ℕ, codes, refl, ◌∷◌, ◌+◌, ◌-◌, ◌^◌, ◌||◌, ◌==◌, min, Bool, List, [], length, is_some, is_none, IsSome, Some, if◌then◌else◌}
+use Rattle.std.specs.Prelude.{
+  ◌≡◌,
+  ℕ,
+  codes,
+  refl,
+  ◌∷◌,
+  ◌+◌,
+  ◌-◌,
+  ◌^◌,
+  ◌||◌,
+  ◌==◌,
+  min,
+  Bool,
+  List,
+  [],
+  length,
+  is_some,
+  is_none,
+  IsSome,
+  Some,
+  if◌then◌else◌,
+}
 use Rattle.hu_io.specs.Count.{one_more, Rose}
 use Rattle.hu_io.specs.Files.{content_in, content_or_empty}
 use Rattle.hu_io.specs.State.{FilesState}
@@ -46,7 +67,11 @@ bytes_given m name at room = min (min m.most room) (length (content_or_empty m.f
 abbrev pub after_get : FilesView → List ℕ → FilesView
 after_get m name =
     if next_fails m.plan then record m { plan = after_call m.plan; planned = one_more m.planned }
-    else if is_none (content_in m.files name) then record m { plan = after_call m.plan; missing = one_more m.missing }
+    else if is_none (content_in m.files name) then record m {
+      plan = after_call m.plan;
+      missing =
+          one_more m.missing;
+    }
     else record m { plan = after_call m.plan }
 
 -- `f` holds `abc`, and the fourth call is to fail
@@ -67,6 +92,8 @@ small_faults = refl
 -- while no call is to fail, the count of a name that is there doesn't rise where contents and plan stay
 abbrev pub NamedFilesNeverFail : Type 0
 NamedFilesNeverFail =
-    (before now : FilesView) (name : List ℕ) → before.plan.failing ≡ [] → IsSome (content_in before.files name)
-    → (files_state now).plan ≡ (files_state before).plan → (files_state now).contents ≡ (files_state before).contents
+    (before now : FilesView) (name : List ℕ) → before.plan.failing ≡ []
+    → IsSome (content_in before.files name)
+    → (files_state now).plan ≡ (files_state before).plan → (files_state now).contents
+    ≡ (files_state before).contents
     → ¬ Rose ((files_state before).faults name) ((files_state now).faults name)

@@ -1,5 +1,26 @@
 -- A sink in memory with a fixed room, of which chosen calls fail.
-use Rattle.std.specs.Prelude.{◌≡◌, ℕ, codes, refl, ◌+◌, ◌-◌, ◌≤◌, ◌∷◌, ◌==◌, ◌||◌, ◌&&◌, Bool, nat_lt, List, [], ◌++◌, length, take, Some, if◌then◌else◌}
+use Rattle.std.specs.Prelude.{
+  ◌≡◌,
+  ℕ,
+  codes,
+  refl,
+  ◌+◌,
+  ◌-◌,
+  ◌≤◌,
+  ◌∷◌,
+  ◌==◌,
+  ◌||◌,
+  ◌&&◌,
+  Bool,
+  nat_lt,
+  List,
+  [],
+  ◌++◌,
+  length,
+  take,
+  Some,
+  if◌then◌else◌,
+}
 use Rattle.hu_io.specs.Count.{one_more}
 use Rattle.hu_io.specs.State.{SinkState, Broke}
 use Rattle.hu_io.specs.Plan.{PlanView, after_call, listing, next_fails, no_plan}
@@ -48,5 +69,6 @@ failed_by_plan = refl
 -- while no call is to fail, a text that has room doesn't break
 abbrev pub RoomySinksNeverFail : Type 0
 RoomySinksNeverFail =
-    (before now : SinkView) (text : List ℕ) → before.plan.failing ≡ [] → length before.bytes + length text ≤ before.room
+    (before now : SinkView) (text : List ℕ) → before.plan.failing ≡ []
+    → length before.bytes + length text ≤ before.room
     → ¬ Broke (sink_state before) (sink_state now) text

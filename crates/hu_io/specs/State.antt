@@ -64,4 +64,5 @@ pub record Missed (old new : FilesState) (name : List ℕ) : Type 0 where
 
 -- one call of `get`: Ok(n) read n bytes and nothing failed, after Failed the count of the called name rose
 abbrev pub Gets : {E : Type 0} → FilesState → FilesState → List ℕ → ℕ → List ℕ → Result ℕ E → Type 0
-Gets old new name at into result = MatchResult result (λ n. Got old new name at into n) (λ _. Missed old new name)
+Gets old new name at into result =
+    MatchResult result (λ n. Got old new name at into n) (λ _. Missed old new name)

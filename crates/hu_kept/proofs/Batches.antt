@@ -1,5 +1,6 @@
 -- What sets earn, how many records hold them and whether they are closed, with a batch of further records.
-use Rattle.std.proofs.Common.{◌≡◌, ◌∙◌, ℕ, ◌+◌, ◌<◌, ℤ, pos, negsuc, ◌+ℤ◌, ◌≤ℤ◌, int_lt, Bool, true, false, not, cond, ◌&&◌, ◌||◌, eqb, List, [], ◌∷◌, ◌++◌, refl, sym, ap, inl, inr, arith, flat_map}
+use Rattle.std.proofs.Common.{◌≡◌, ◌∙◌, ℕ, ◌+◌, ◌<◌, ℤ, pos, negsuc, ◌+ℤ◌, ◌≤ℤ◌, int_lt, Bool, true, false, not, cond}
+use Rattle.std.proofs.Common.{◌&&◌, ◌||◌, eqb, List, [], ◌∷◌, ◌++◌, refl, sym, ap, inl, inr, arith, flat_map}
 use Rattle.std.specs.List.{AllByRecursion, list_all, list_any}
 use Rattle.std.proofs.lemmas.Bool.{and_parts, and_from}
 use Rattle.std.proofs.lemmas.Int.{ints}
@@ -33,7 +34,8 @@ pub utility-append : (records batch : List (List (ℕ × ℤ))) (items : List �
 utility-append [] batch items = omega (arith, ints)
 utility-append (r ∷ rs) batch items = let ih = utility-append rs batch items in omega (arith, ints, ih)
 
-goes_with-append : (records batch : List (List (ℕ × ℤ))) (items : List ℕ) (i : ℕ) → goes_with (records ++ batch) items i ≡ (goes_with records items i && goes_with batch items i)
+goes_with-append : (records batch : List (List (ℕ × ℤ))) (items : List ℕ) (i : ℕ) → goes_with (records ++ batch) items i
+    ≡ (goes_with records items i && goes_with batch items i)
 goes_with-append records batch items i = list_all-append (λ r. not (holds items r) || has i r) records batch
 
 -- ---- records that don't hold a set
@@ -73,7 +75,8 @@ keeps_untouched records batch items h = (
 abbrev inside : ℕ → List ℕ → Bool
 inside i items = list_any (λ j. eqb i j) items
 
-closed-from : (records : List (List (ℕ × ℤ))) (items : List ℕ) → ((i : ℕ) → inside i items ≡ false → goes_with records items i ≡ false) → is_closed records items ≡ true
+closed-from : (records : List (List (ℕ × ℤ))) (items : List ℕ)
+    → ((i : ℕ) → inside i items ≡ false → goes_with records items i ≡ false) → is_closed records items ≡ true
 closed-from records items f = all-from (λ i. inside i items || not (goes_with records items i)) (items_of records) (λ i. by i (inside i items) refl)
   where
     by : (i : ℕ) (b : Bool) → inside i items ≡ b → (inside i items || not (goes_with records items i)) ≡ true
@@ -81,7 +84,8 @@ closed-from records items f = all-from (λ i. inside i items || not (goes_with r
     by i false e = rw (e, f i e) refl
 
 -- an item that goes with a set that a record holds occurs
-goes_with-occurs : (records : List (List (ℕ × ℤ))) (items : List ℕ) (i : ℕ) → 0 < support records items → goes_with records items i ≡ true → Member i (items_of records)
+goes_with-occurs : (records : List (List (ℕ × ℤ))) (items : List ℕ) (i : ℕ) → 0 < support records items
+    → goes_with records items i ≡ true → Member i (items_of records)
 goes_with-occurs records items i held h =
     let found = counted (holds items) records held in
     let one : (not (holds items found.0) || has i found.0) ≡ true = all-at (λ r. not (holds items r) || has i r) found.0 records h found.1 in
@@ -95,13 +99,16 @@ closed-at records items held closed i out = by (goes_with records items i) refl
     by : (b : Bool) → goes_with records items i ≡ b → b ≡ false
     by false e = refl
     by true e =
-        let one : (inside i items || not (goes_with records items i)) ≡ true = all-at (λ i. inside i items || not (goes_with records items i)) i (items_of records) closed (goes_with-occurs records items i held e) in
+        let one : (inside i items || not (goes_with records items i)) ≡ true =
+        all-at (λ i. inside i items || not (goes_with records items i)) i (items_of records) closed
+        (goes_with-occurs records items i held e) in
         let no : false ≡ true = rw (out, e) at one in
         cc
 
 pub stays_closed : StaysClosed
 stays_closed records batch items held closed =
-    closed-from (records ++ batch) items (λ i out. let free = closed-at records items held closed i out in goes_with-append records batch items i ∙ rw free refl)
+    closed-from (records ++ batch) items (λ i out. let free =
+    closed-at records items held closed i out in goes_with-append records batch items i ∙ rw free refl)
 
 and_free : (a b : Bool) → b ≡ true → (a && b) ≡ false → a ≡ false
 and_free true b h k = sym h ∙ k

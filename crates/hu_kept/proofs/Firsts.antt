@@ -1,5 +1,6 @@
 -- Which elements are among the first k of a list in order: those before which fewer than k others stand.
-use Rattle.std.proofs.Common.{◌≡◌, ◌∙◌, ℕ, zero, suc, ◌+◌, ◌<◌, ◌≤◌, Bool, true, false, cond, List, [], ◌∷◌, take, refl, sym, ap, inl, inr, arith, Ordering, Less, Equal, Greater}
+use Rattle.std.proofs.Common.{◌≡◌, ◌∙◌, ℕ, zero, suc, ◌+◌, ◌<◌, ◌≤◌, Bool, true, false, cond, List, [], ◌∷◌, take, refl}
+use Rattle.std.proofs.Common.{sym, ap, inl, inr, arith, Ordering, Less, Equal, Greater}
 use Rattle.std.specs.List.{AllByRecursion, count_by}
 use Rattle.std.specs.List.Sorted.{IsStrictlySortedBy}
 use Rattle.std.specs.Ordering.{is_lt}

@@ -12,7 +12,9 @@ use Rattle.hu_kept.specs.Entries.{entries_from, entry_from, held_of}
 abbrev keys : List Entry → List (List ℤ)
 keys entries = map (λ e. e.key) entries
 
-later : (key : List ℤ) (front : List Entry) (entry : Entry) (rest : List Entry) → AllByRecursion (λ k. pointwise int_eq key k ≡ false) (keys (front ++ entry ∷ rest)) → pointwise int_eq key entry.key ≡ false
+later : (key : List ℤ) (front : List Entry) (entry : Entry) (rest : List Entry)
+    → AllByRecursion (λ k. pointwise int_eq key k ≡ false) (keys (front ++ entry ∷ rest))
+    → pointwise int_eq key entry.key ≡ false
 later key [] entry rest all = all.0
 later key (e ∷ es) entry rest all = later key es entry rest all.1
 
@@ -24,7 +26,8 @@ insert-new (h ∷ hs) entry rest apart =
     let other : pointwise int_eq entry.key h.0 ≡ false = (lists_equiv int_eq_equiv).symm entry.key h.0 ∙ later h.0 (entries_from hs) entry rest apart.0 in
     rw other (ap (λ es. entry_from h ∷ es) (insert-new hs entry rest apart.1))
 
-pub put-new : (held new : List (List ℤ × Held)) (entry : Entry) (rest all : List Entry) → IsDistinct (pointwise int_eq) (keys all) → entries_from held ++ entry ∷ rest ≡ all
+pub put-new : (held new : List (List ℤ × Held)) (entry : Entry) (rest all : List Entry)
+    → IsDistinct (pointwise int_eq) (keys all) → entries_from held ++ entry ∷ rest ≡ all
     → (one : Held) → one ≡ held_of entry → new ≡ insert_entry (pointwise int_eq) held entry.key one → entries_from new ++ rest ≡ all
 put-new held new entry rest all apart whole one same is =
     let distinct = subst (λ es. IsDistinct (pointwise int_eq) (keys es)) (sym whole) apart in

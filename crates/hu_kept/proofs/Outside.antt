@@ -1,5 +1,7 @@
 -- An untouched pattern outside the first k stays outside: each that came before it still does.
-use Rattle.std.proofs.Common.{◌≡◌, ◌∙◌, ◌≢◌, ◌⊎◌, ℕ, zero, suc, ◌≤◌, ℤ, ◌<ℤ◌, ◌≤ℤ◌, int_le, Bool, true, false, Option, None, Some, List, [], ◌∷◌, ◌++◌, map, take, refl, sym, ap, subst, inl, inr, arith, filter, Contains, Ordering, Less, Equal, Greater}
+use Rattle.std.proofs.Common.{◌≡◌, ◌∙◌, ◌≢◌, ◌⊎◌, ℕ, zero, suc, ◌≤◌, ℤ, ◌<ℤ◌, ◌≤ℤ◌, int_le, Bool, true, false, Option}
+use Rattle.std.proofs.Common.{None, Some, List, [], ◌∷◌, ◌++◌, map, take, refl, sym, ap, subst, inl, inr, arith, filter}
+use Rattle.std.proofs.Common.{Contains, Ordering, Less, Equal, Greater}
 use Rattle.std.specs.List.{AllByRecursion, IsDistinct, count_by}
 use Rattle.std.specs.List.Sorted.{IsStrictlySortedBy}
 use Rattle.std.specs.Ordering.{int_cmp, int_eq, is_lt, nat_cmp}
@@ -47,7 +49,8 @@ module _ (P : Entry → Type 0) (alone : (a b : Entry) → P a → P b → a.key
   keys-distinct [] up all = tt
   keys-distinct (x ∷ xs) up all = (each xs up.0 all.1, keys-distinct xs up.1 all.1)
     where
-      each : (ys : List Entry) → AllByRecursion (λ y. entry_cmp x y ≡ Less) ys → AllByRecursion P ys → AllByRecursion (λ k. pointwise int_eq x.key k ≡ false) (map (λ e. e.key) ys)
+      each : (ys : List Entry) → AllByRecursion (λ y. entry_cmp x y ≡ Less) ys → AllByRecursion P ys
+          → AllByRecursion (λ k. pointwise int_eq x.key k ≡ false) (map (λ e. e.key) ys)
       each [] below rest = tt
       each (y ∷ ys) below rest = (
         apart x.key y.key (λ e.
@@ -71,7 +74,8 @@ keys-cmp a b h =
     ap (λ (e : Entry). e.key) (entry_exact first second tied)
 
 -- by the key, where the utilities are the same
-key-before : (y x g : Entry) (o : Ordering) → slice_cmp int_cmp y.key x.key ≡ o → y.key ≢ x.key → g.key ≡ y.key → x.utility ≡ y.utility → x.utility ≡ g.utility → entry_cmp y x ≡ Less → entry_cmp g x ≡ Less
+key-before : (y x g : Entry) (o : Ordering) → slice_cmp int_cmp y.key x.key ≡ o → y.key ≢ x.key → g.key ≡ y.key
+    → x.utility ≡ y.utility → x.utility ≡ g.utility → entry_cmp y x ≡ Less → entry_cmp g x ≡ Less
 unfolding entry_cmp
 key-before y x g Less h other key low high less =
     let tied : int_cmp x.utility g.utility ≡ Equal = sym (int_cmp_is x.utility g.utility Equal high) in
@@ -114,7 +118,9 @@ module _ (closed : Bool) (least : ℤ) (records : List (List (ℕ × ℤ))) wher
 
   IsFound-from_member : (entry : Entry) → Member entry (ranked_patterns closed least records) → IsFound entry
   IsFound-from_member entry m =
-      let both = Member-from_filter (λ (e : Entry). int_le least e.utility) entry (patterns_of closed records) (Member-from_ranking entry_cmp entry (found least (patterns_of closed records)) m) in
+      let both =
+      Member-from_filter (λ (e : Entry). int_le least e.utility) entry (patterns_of closed records)
+      (Member-from_ranking entry_cmp entry (found least (patterns_of closed records)) m) in
       record { pattern = IsPattern-from_member closed records entry both.0; reaches = both.1 }
 
   Member-from_found : (entry : Entry) → IsFound entry → Member entry (ranked_patterns closed least records)
@@ -153,11 +159,15 @@ module _ (closed : Bool) (least : ℤ) (records batch : List (List (ℕ × ℤ))
       reach : (y g : Entry) → int_le least y.utility ≡ true → y.utility ≤ℤ g.utility → int_le least g.utility ≡ true
       reach y g h more = grind (arith, ints)
 
-  count-kept : count_by (before entry_cmp x) (ranked_patterns closed least records) ≤ count_by (before entry_cmp x) (ranked_patterns closed least (records ++ batch))
+  count-kept : count_by (before entry_cmp x) (ranked_patterns closed least records)
+      ≤ count_by (before entry_cmp x) (ranked_patterns closed least (records ++ batch))
   count-kept =
       let key = λ (e : Entry). e.key in
       let up = IsStrictlySortedBy-filter entry_cmp (before entry_cmp x) (ranked_patterns closed least records) (sorted closed least records) in
-      let all = by_members (IsPattern closed records) old (λ y m. (IsFound-from_member closed least records y (Member-from_filter (before entry_cmp x) y (ranked_patterns closed least records) m).0).pattern) in
+      let all =
+      by_members (IsPattern closed records) old
+      (λ y m. (IsFound-from_member closed least records y
+      (Member-from_filter (before entry_cmp x) y (ranked_patterns closed least records) m).0).pattern) in
       let less = length-le_from_is_member (lists_equiv int_eq_equiv) (map key old) (map key new)
       (keys-distinct (IsPattern closed records) (same_key closed records) old up all)
       (λ q h.
@@ -165,7 +175,13 @@ module _ (closed : Bool) (least : ℤ) (records batch : List (List (ℕ × ℤ))
       let g = still-before y.0 y.1 in
       (is_member-Decides signed_items (map key new) q).1
       (Contains-from_member q (map key new) (subst (λ k. Member k (map key new)) (g.2 ∙ y.2) (Member-map key g.0 new g.1)))) in
-      omega (arith, length-map old key, length-map new key, length-filter (before entry_cmp x) (ranked_patterns closed least records), length-filter (before entry_cmp x) (ranked_patterns closed least (records ++ batch)))
+      omega (
+        arith,
+        length-map old key,
+        length-map new key,
+        length-filter (before entry_cmp x) (ranked_patterns closed least records),
+        length-filter (before entry_cmp x) (ranked_patterns closed least (records ++ batch)),
+      )
 
 -- ---- the law
 
@@ -184,9 +200,12 @@ pub answer-distinct : (kept : Keeping) → IsDistinct (pointwise int_eq) (map (�
 answer-distinct kept =
     let ranked = ranked_patterns kept.closed kept.least kept.records in
     let first = cut kept.top ranked in
-    let all = by_members (IsPattern kept.closed kept.records) first (λ e m. (IsFound-from_member kept.closed kept.least kept.records e (Member-cut kept.top e ranked m)).pattern) in
+    let all =
+    by_members (IsPattern kept.closed kept.records) first
+    (λ e m. (IsFound-from_member kept.closed kept.least kept.records e (Member-cut kept.top e ranked m)).pattern) in
     subst (λ es. IsDistinct (pointwise int_eq) (map (λ (e : Entry). e.key) es)) (sym (answer-patterns kept))
-    (keys-distinct (IsPattern kept.closed kept.records) (same_key kept.closed kept.records) first (sorted-cut entry_cmp kept.top ranked (sorted kept.closed kept.least kept.records)) all)
+    (keys-distinct (IsPattern kept.closed kept.records) (same_key kept.closed kept.records) first
+    (sorted-cut entry_cmp kept.top ranked (sorted kept.closed kept.least kept.records)) all)
 
 module _ (closed : Bool) (least : ℤ) (records batch : List (List (ℕ × ℤ))) (x : Entry) (out : is_touched batch x.key ≡ false) where
   found-before : IsFound closed least (records ++ batch) x → IsFound closed least records x
@@ -200,11 +219,14 @@ module _ (closed : Bool) (least : ℤ) (records batch : List (List (ℕ × ℤ))
       let was = found-before (IsFound-from_member closed least (records ++ batch) x (Member-take x k (ranked_patterns closed least (records ++ batch)) m)) in
       let few = count-first entry_cmp entry_cmp_total x k (ranked_patterns closed least (records ++ batch)) (sorted closed least (records ++ batch)) m in
       let fewer = count-kept closed least records batch none x was.pattern in
-      first-count entry_cmp entry_cmp_total x k (ranked_patterns closed least records) (sorted closed least records) (Member-from_found closed least records x was) (omega (arith, few, fewer))
+      first-count entry_cmp entry_cmp_total x k (ranked_patterns closed least records) (sorted closed least records)
+      (Member-from_found closed least records x was) (omega (arith, few, fewer))
 
 pub stays_outside : StaysOutside
 stays_outside kept batch either entry out c =
     let new = answer kept.least kept.top (patterns_of kept.closed (kept.records ++ batch)) in
     let old = answer kept.least kept.top (patterns_of kept.closed kept.records) in
     let m = Member-from_contains entry new (subst (λ es. Contains es entry) (answer-patterns (with_batch kept batch)) c) in
-    subst (λ es. Contains es entry) (sym (answer-patterns kept)) (Contains-from_member entry old (stays-outside kept.closed kept.least kept.records batch entry out kept.top either m))
+    subst (λ es. Contains es entry) (sym (answer-patterns kept))
+    (Contains-from_member entry old
+    (stays-outside kept.closed kept.least kept.records batch entry out kept.top either m))

@@ -1,10 +1,12 @@
 -- The old entries that a batch doesn't touch and the touched patterns make the answer with the batch.
-use Rattle.std.proofs.Common.{◌≡◌, ◌∙◌, ◌⊎◌, ℕ, ℤ, int_le, Bool, true, false, not, Option, None, List, [], ◌∷◌, ◌++◌, refl, sym, ap, inl, inr, append-nil, filter}
+use Rattle.std.proofs.Common.{◌≡◌, ◌∙◌, ◌⊎◌, ℕ, ℤ, int_le, Bool, true, false, not, Option, None, List, [], ◌∷◌, ◌++◌}
+use Rattle.std.proofs.Common.{refl, sym, ap, inl, inr, append-nil, filter}
 use Rattle.std.specs.List.{AllByRecursion}
 use Rattle.hu_kind.specs.declared.entry.Entry.{Entry}
 use Rattle.hu_kind.specs.Order.{cut, entry_cmp, ranking}
 use Rattle.hu_kind.specs.Answer.{answer, found}
-use Rattle.hu_kind.proofs.lemmas.Members.{Contains-from_member, Member, Member-append_cases, Member-append_left, Member-append_right, Member-filter, Member-from_contains, Member-from_filter}
+use Rattle.hu_kind.proofs.lemmas.Members.{Contains-from_member, Member, Member-append_cases, Member-append_left}
+use Rattle.hu_kind.proofs.lemmas.Members.{Member-append_right, Member-filter, Member-from_contains, Member-from_filter}
 use Rattle.hu_kind.proofs.lemmas.Occurring.{by_members}
 use Rattle.hu_collect.specs.Rule.{Rule, made, passes, rule_of}
 use Rattle.hu_collect.proofs.lemmas.Made.{kept-made, makes_by_members, makes_by_passing, makes_in_turn}
@@ -34,10 +36,13 @@ module _ (least : ℤ) (top : Option ℕ) (all some : List Entry) where
   -- what is made makes itself
   first-again : made rule [] first ≡ first
   first-again =
-      let each = filter-all (passes rule) first (by_members (λ x. passes rule x ≡ true) first (λ x m. (Member-from_filter (λ (e : Entry). int_le least e.utility) x all (first-found x m)).1)) in
+      let each =
+      filter-all (passes rule) first (by_members (λ x. passes rule x ≡ true) first
+      (λ x m. (Member-from_filter (λ (e : Entry). int_le least e.utility) x all (first-found x m)).1)) in
       ap (λ xs. cut top (ranking entry_cmp xs)) (each ∙ sym (append-nil first)) ∙ kept-made rule [] all
 
-  pub made-between : ((x : Entry) → Member x first → Member x some) → ((x : Entry) → passes rule x ≡ true → Member x some → Member x all) → made rule [] some ≡ first
+  pub made-between : ((x : Entry) → Member x first → Member x some)
+      → ((x : Entry) → passes rule x ≡ true → Member x some → Member x all) → made rule [] some ≡ first
   made-between above below =
       let some-first : made rule [] some ≡ made rule [] (first ++ some) = makes_by_members rule [] some (first ++ some) (λ x. (
         λ c. Contains-from_member x (first ++ some) (Member-append_right x first some (Member-from_contains x some c)),
@@ -76,7 +81,8 @@ module _ (kept : Keeping) (batch : List (List (ℕ × ℤ))) (either : (kept.top
           Member-append_right x (untouched batch before') (touched batch after) (Member-filter (λ (e : Entry). is_touched batch e.key) x after pattern e)
       by false e =
           let was = stays-outside kept.closed kept.least kept.records batch x e kept.top either m in
-          Member-append_left x (untouched batch before') (touched batch after) (Member-filter (λ (e : Entry). not (is_touched batch e.key)) x before' was (ap not e))
+          Member-append_left x (untouched batch before') (touched batch after)
+          (Member-filter (λ (e : Entry). not (is_touched batch e.key)) x before' was (ap not e))
 
   not-touched : (b : Bool) → not b ≡ true → b ≡ false
   not-touched true e = cc
@@ -86,13 +92,17 @@ module _ (kept : Keeping) (batch : List (List (ℕ × ℤ))) (either : (kept.top
   in-patterns x m = elim (Member-append_cases x (untouched batch before') (touched batch after) m) [
     | inl old ↦
         let both = Member-from_filter (λ (e : Entry). not (is_touched batch e.key)) x before' old in
-        let pattern = (Member-from_filter (λ (e : Entry). int_le kept.least e.utility) x (patterns_of kept.closed kept.records) (first-found kept.least kept.top (patterns_of kept.closed kept.records) [] x both.0)).0 in
+        let pattern =
+        (Member-from_filter (λ (e : Entry). int_le kept.least e.utility) x (patterns_of kept.closed kept.records)
+        (first-found kept.least kept.top (patterns_of kept.closed kept.records) [] x both.0)).0 in
         Member-from_pattern kept.closed (kept.records ++ batch) x
-        (pattern-after kept.closed kept.records batch x (not-touched (is_touched batch x.key) both.1) (IsPattern-from_member kept.closed kept.records x pattern))
+        (pattern-after kept.closed kept.records batch x (not-touched (is_touched batch x.key) both.1)
+        (IsPattern-from_member kept.closed kept.records x pattern))
     | inr new ↦ (Member-from_filter (λ (e : Entry). is_touched batch e.key) x after new).0
   ]
 
-  pub made-parts : made (rule_of kept.least kept.top) (made (rule_of kept.least kept.top) [] (untouched batch (answer_of kept))) (touched batch after) ≡ answer_of (with_batch kept batch)
+  pub made-parts : made (rule_of kept.least kept.top) (made (rule_of kept.least kept.top) []
+      (untouched batch (answer_of kept))) (touched batch after) ≡ answer_of (with_batch kept batch)
   made-parts =
       let r = rule_of kept.least kept.top in
       ap (λ old. made r (made r [] (untouched batch old)) (touched batch after)) (answer-patterns kept)

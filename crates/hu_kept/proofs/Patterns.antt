@@ -1,5 +1,6 @@
 -- Patterns of a task, before and after a batch.
-use Rattle.std.proofs.Common.{◌≡◌, ◌∙◌, ℕ, ◌<◌, ℤ, pos, ◌≤ℤ◌, unsigned_abs, nat_lt, Bool, true, false, cond, List, [], ◌∷◌, ◌++◌, map, refl, sym, ap, subst, arith, filter}
+use Rattle.std.proofs.Common.{◌≡◌, ◌∙◌, ℕ, ◌<◌, ℤ, pos, ◌≤ℤ◌, unsigned_abs, nat_lt, Bool, true, false, cond, List, []}
+use Rattle.std.proofs.Common.{◌∷◌, ◌++◌, map, refl, sym, ap, subst, arith, filter}
 use Rattle.std.proofs.lemmas.Bool.{le-ltb, ltb-false}
 use Rattle.std.proofs.lemmas.Int.{ints}
 use Rattle.hu_kind.specs.declared.entry.Entry.{Entry}
@@ -18,7 +19,9 @@ use Rattle.hu_kept.proofs.Batches.{keeps_closedness, keeps_untouched, never_lose
 pub answer-patterns : (kept : Keeping) → answer_of kept ≡ answer kept.least kept.top (patterns_of kept.closed kept.records)
 answer-patterns kept = by kept.closed
   where
-    by : (b : Bool) → cond b (answer kept.least kept.top (closed_patterns kept.records)) (answer kept.least kept.top (item_patterns kept.records)) ≡ answer kept.least kept.top (patterns_of b kept.records)
+    by : (b : Bool) → cond b (answer kept.least kept.top (closed_patterns kept.records))
+        (answer kept.least kept.top (item_patterns kept.records))
+        ≡ answer kept.least kept.top (patterns_of b kept.records)
     by true = refl
     by false = refl
 
@@ -29,7 +32,8 @@ pub record IsPattern (closed : Bool) (records : List (List (ℕ × ℤ))) (entry
   pub occurs : Occurs records items
   pub closes : closed ≡ true → is_closed records items ≡ true
 
-pub IsPattern-from_member : (closed : Bool) (records : List (List (ℕ × ℤ))) (entry : Entry) → Member entry (patterns_of closed records) → IsPattern closed records entry
+pub IsPattern-from_member : (closed : Bool) (records : List (List (ℕ × ℤ))) (entry : Entry)
+    → Member entry (patterns_of closed records) → IsPattern closed records entry
 IsPattern-from_member true records entry m =
     let set = Member-from_map (item_entry records) entry (filter (is_closed records) (occurring_sets records)) m in
     let both = Member-from_filter (is_closed records) set.0 (occurring_sets records) set.1 in
@@ -38,16 +42,19 @@ IsPattern-from_member false records entry m =
     let set = Member-from_map (item_entry records) entry (occurring_sets records) m in
     record { items = set.0; is = set.2; occurs = Occurs-from_member records set.0 set.1; closes = λ e. cc }
 
-pub Member-from_pattern : (closed : Bool) (records : List (List (ℕ × ℤ))) (entry : Entry) → IsPattern closed records entry → Member entry (patterns_of closed records)
+pub Member-from_pattern : (closed : Bool) (records : List (List (ℕ × ℤ))) (entry : Entry)
+    → IsPattern closed records entry → Member entry (patterns_of closed records)
 Member-from_pattern true records entry p =
     let sets = filter (is_closed records) (occurring_sets records) in
     let m = Member-filter (is_closed records) p.items (occurring_sets records) (Member-from_occurs records p.items p.occurs) (p.closes refl) in
     subst (λ e. Member e (map (item_entry records) sets)) p.is (Member-map (item_entry records) p.items sets m)
 Member-from_pattern false records entry p =
-    subst (λ e. Member e (map (item_entry records) (occurring_sets records))) p.is (Member-map (item_entry records) p.items (occurring_sets records) (Member-from_occurs records p.items p.occurs))
+    subst (λ e. Member e (map (item_entry records) (occurring_sets records))) p.is
+    (Member-map (item_entry records) p.items (occurring_sets records) (Member-from_occurs records p.items p.occurs))
 
 -- an entry is told by its utility and its support
-entry-same : (records others : List (List (ℕ × ℤ))) (items : List ℕ) → utility records items ≡ utility others items → support records items ≡ support others items
+entry-same : (records others : List (List (ℕ × ℤ))) (items : List ℕ) → utility records items ≡ utility others items
+    → support records items ≡ support others items
     → item_entry others items ≡ item_entry records items
 entry-same records others items u s = (λ j. record { key = map pos items; utility = sym u j; support = sym s j })
 

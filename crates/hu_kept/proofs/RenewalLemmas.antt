@@ -17,7 +17,8 @@ pub anew-answer : (aim : Aim) (records : List (List (ℕ × ℤ))) (rule : Rule)
 anew-answer aim records rule content by empty =
     (λ j. made (by j) (empty j) (patterns_of aim.closed records)) ∙ sym (answer-patterns (keeping aim records))
 
-pub continued-answer : (aim : Aim) (records batch : List (List (ℕ × ℤ))) (old : List Entry) (rule : Rule) (content : List Entry) → Continues aim records old batch
+pub continued-answer : (aim : Aim) (records batch : List (List (ℕ × ℤ))) (old : List Entry) (rule : Rule)
+    (content : List Entry) → Continues aim records old batch
     → rule ≡ rule_of aim.least aim.top → content ≡ made (rule_of aim.least aim.top) [] (untouched batch old)
     → made (touched_rule rule batch) content (patterns_of aim.closed records) ≡ answer_of (keeping aim records)
 continued-answer aim records batch old rule content c by is =
@@ -42,14 +43,16 @@ cut-nil None = refl
 cut-nil (Some zero) = refl
 cut-nil (Some (suc k)) = refl
 
-pub Offers-first : (r : Rule) (batch : List (List (ℕ × ℤ))) (old : List Entry) (rule : Rule) (content rest : List Entry) → rule ≡ r → content ≡ [] → rest ≡ old → Offers r batch old rule content rest
+pub Offers-first : (r : Rule) (batch : List (List (ℕ × ℤ))) (old : List Entry) (rule : Rule) (content rest : List Entry)
+    → rule ≡ r → content ≡ [] → rest ≡ old → Offers r batch old rule content rest
 Offers-first r batch old rule content rest by empty all = record {
   by = by;
   kept = subst (IsKept r) (sym empty) (cut-nil r.limit);
   whole = (λ j. made r (empty j) (untouched batch (all j)));
 }
 
-pub Offers-next : (r : Rule) (batch : List (List (ℕ × ℤ))) (old : List Entry) (rule next : Rule) (content after : List Entry) (entry : Entry) (rest : List Entry) → Offers r batch old rule content (entry ∷ rest)
+pub Offers-next : (r : Rule) (batch : List (List (ℕ × ℤ))) (old : List Entry) (rule next : Rule)
+    (content after : List Entry) (entry : Entry) (rest : List Entry) → Offers r batch old rule content (entry ∷ rest)
     → next ≡ rule → after ≡ cond (is_touched batch entry.key) content (made rule content (entry ∷ [])) → Offers r batch old next after rest
 Offers-next r batch old rule next content after entry rest o same is = go (is_touched batch entry.key) refl is
   where
@@ -57,7 +60,8 @@ Offers-next r batch old rule next content after entry rest o same is = go (is_to
     go true e h = record {
       by = same ∙ o.by;
       kept = subst (IsKept r) (sym h) o.kept;
-      whole = ap (λ c. made r c (untouched batch rest)) h ∙ ap (λ b. made r content (cond (not b) (entry ∷ untouched batch rest) (untouched batch rest))) (sym e) ∙ o.whole;
+      whole = ap (λ c. made r c (untouched batch rest)) h ∙ ap
+          (λ b. made r content (cond (not b) (entry ∷ untouched batch rest) (untouched batch rest))) (sym e) ∙ o.whole;
     }
     go false e h =
         let here : after ≡ made r content (entry ∷ []) = h ∙ ap (λ x. made x content (entry ∷ [])) o.by in
@@ -70,5 +74,6 @@ Offers-next r batch old rule next content after entry rest o same is = go (is_to
               ∙ o.whole;
         }
 
-pub Offers-last : (r : Rule) (batch : List (List (ℕ × ℤ))) (old : List Entry) (rule : Rule) (content rest : List Entry) → Offers r batch old rule content rest → rest ≡ [] → content ≡ made r [] (untouched batch old)
+pub Offers-last : (r : Rule) (batch : List (List (ℕ × ℤ))) (old : List Entry) (rule : Rule) (content rest : List Entry)
+    → Offers r batch old rule content rest → rest ≡ [] → content ≡ made r [] (untouched batch old)
 Offers-last r batch old rule content rest o none = sym o.kept ∙ ap (λ es. made r content (untouched batch es)) (sym none) ∙ o.whole

@@ -1,5 +1,6 @@
 -- What a collector of touched patterns makes of entries, and which keys grow out of one that a batch doesn't touch.
-use Rattle.std.proofs.Common.{◌≡◌, ◌∙◌, ℕ, ℤ, pos, ◌<ℤ◌, int_le, Bool, true, false, cond, ◌&&◌, Option, None, Some, List, [], ◌∷◌, ◌++◌, map, refl, sym, ap, subst, inl, inr, arith, filter}
+use Rattle.std.proofs.Common.{◌≡◌, ◌∙◌, ℕ, ℤ, pos, ◌<ℤ◌, int_le, Bool, true, false, cond, ◌&&◌, Option, None, Some}
+use Rattle.std.proofs.Common.{List, [], ◌∷◌, ◌++◌, map, refl, sym, ap, subst, inl, inr, arith, filter}
 use Rattle.std.specs.Ordering.{int_eq}
 use Rattle.std.specs.List.{AllByRecursion, list_all}
 use Rattle.std.proofs.lemmas.Bool.{and_left, and_right, and_parts, and_from, le-ltb}
@@ -22,22 +23,26 @@ use Rattle.hu_kept.specs.Touched.{is_touched, touched, touched_rule}
 
 -- ---- entries that change nothing
 
-pub touched-below : (inner : Rule) (batch : List (List (ℕ × ℤ))) (content : List Entry) (entry : Entry) → IsKept inner content → entry.utility <ℤ floor_of inner content
+pub touched-below : (inner : Rule) (batch : List (List (ℕ × ℤ))) (content : List Entry) (entry : Entry)
+    → IsKept inner content → entry.utility <ℤ floor_of inner content
     → made (touched_rule inner batch) content (entry ∷ []) ≡ content
 touched-below inner batch content entry kept low = leaves_below_floor (touched_rule inner batch) content entry kept low
 
-pub touched-outside : (inner : Rule) (batch : List (List (ℕ × ℤ))) (content : List Entry) (entry : Entry) → IsKept inner content → is_touched batch entry.key ≡ false
+pub touched-outside : (inner : Rule) (batch : List (List (ℕ × ℤ))) (content : List Entry) (entry : Entry)
+    → IsKept inner content → is_touched batch entry.key ≡ false
     → made (touched_rule inner batch) content (entry ∷ []) ≡ content
 touched-outside inner batch content entry kept out =
     let fails : passes (touched_rule inner batch) entry ≡ false =
-    and_left (inner.wants entry.key && is_touched batch entry.key) (int_le inner.start entry.utility) (and_right (inner.wants entry.key) (is_touched batch entry.key) out) in
+    and_left (inner.wants entry.key && is_touched batch entry.key) (int_le inner.start entry.utility)
+    (and_right (inner.wants entry.key) (is_touched batch entry.key) out) in
     ap (λ b. cut inner.limit (ranking entry_cmp (content ++ cond b (entry ∷ []) []))) fails ∙ kept
 
 -- an entry that a batch touches is one to the inner rule
 pub touched-inside : (inner : Rule) (batch : List (List (ℕ × ℤ))) (content : List Entry) (entry : Entry) → is_touched batch entry.key ≡ true
     → made inner content (entry ∷ []) ≡ made (touched_rule inner batch) content (entry ∷ [])
 touched-inside inner batch content entry h =
-    let same : passes inner entry ≡ passes (touched_rule inner batch) entry = by (inner.wants entry.key) (is_touched batch entry.key) (int_le inner.start entry.utility) h in
+    let same : passes inner entry ≡ passes (touched_rule inner batch) entry =
+    by (inner.wants entry.key) (is_touched batch entry.key) (int_le inner.start entry.utility) h in
     ap (λ b. cut inner.limit (ranking entry_cmp (content ++ cond b (entry ∷ []) []))) same
   where
     by : (w t l : Bool) → t ≡ true → (w && l) ≡ ((w && t) && l)
@@ -60,7 +65,8 @@ filter-twice p q r f [] = refl
 filter-twice p q r f (x ∷ xs) = filter-twice-cons p q r x xs (q x) refl (f x) (filter-twice p q r f xs)
 
 -- by the rule of touched keys entries make what the touched ones make by the inner rule
-pub made-touched : (inner : Rule) (batch : List (List (ℕ × ℤ))) (content entries : List Entry) → made (touched_rule inner batch) content entries ≡ made inner content (touched batch entries)
+pub made-touched : (inner : Rule) (batch : List (List (ℕ × ℤ))) (content entries : List Entry)
+    → made (touched_rule inner batch) content entries ≡ made inner content (touched batch entries)
 made-touched inner batch content entries =
     ap (λ es. cut inner.limit (ranking entry_cmp (content ++ es)))
     (filter-twice (passes (touched_rule inner batch)) (λ e. is_touched batch e.key) (passes inner)
@@ -101,7 +107,8 @@ all-part p (n ∷ ns) grown f h = and_from (p n) (list_all p ns) (at p n grown h
     at p n (k ∷ ks) h (inr m) = at p n ks (and_parts (p k) (list_all p ks) h).1 m
 
 -- records that don't hold a key hold none that has its numbers
-support-part : (key grown : List ℤ) → ((n : ℤ) → Member n key → Member n grown) → (batch : List (List (ℕ × ℤ))) → key_support batch key ≡ 0 → key_support batch grown ≡ 0
+support-part : (key grown : List ℤ) → ((n : ℤ) → Member n key → Member n grown) → (batch : List (List (ℕ × ℤ)))
+    → key_support batch key ≡ 0 → key_support batch grown ≡ 0
 support-part key grown f [] h = refl
 support-part key grown f (r ∷ rs) h =
     let parts = unheld (holds_key key r) refl in
@@ -129,7 +136,8 @@ part-members (x ∷ xs) (y ∷ ys) h n m = by (int_eq x y) refl h (λ k q. part-
     by true e k both skip (inr q) = inr (both k q)
     by false e k both skip q = skip k
 
-table-members : (table before more : List ℕ) (last : ℕ) (n : ℤ) → Member n (key_of table (before ++ last ∷ [])) → Member n (key_of table (before ++ last ∷ more))
+table-members : (table before more : List ℕ) (last : ℕ) (n : ℤ) → Member n (key_of table (before ++ last ∷ []))
+    → Member n (key_of table (before ++ last ∷ more))
 table-members table before more last n m =
     let ranks = before ++ last ∷ [] in
     let grown = before ++ last ∷ more in
@@ -149,7 +157,8 @@ grown-members (Some table) key last grown g n m =
     subst (λ k. Member n k) (sym g.4) (table-members table g.0 g.1 last n (subst (λ k. Member n k) g.3 m))
 
 -- where no record of the batch holds a key, none that grows from it is wanted
-pub wants-untouched : (inner : Rule) (batch : List (List (ℕ × ℤ))) (key : List ℤ) (last : ℕ) → key_support batch key ≡ 0 → IsShut (touched_rule inner batch) key last
+pub wants-untouched : (inner : Rule) (batch : List (List (ℕ × ℤ))) (key : List ℤ) (last : ℕ) → key_support batch key ≡ 0
+    → IsShut (touched_rule inner batch) key last
 wants-untouched inner batch key last none grown g =
     let out = support-part key grown (grown-members inner.table key last grown g) batch none in
     and_right (inner.wants grown) (is_touched batch grown) (le-ltb 0 (key_support batch grown) (omega (arith, out)))

@@ -1,5 +1,20 @@
 -- How two answers differ. Entries are told apart by their keys.
-use Rattle.std.specs.Prelude.{◌==◌, ℕ, ℤ, Bool, false, not, ◌&&◌, Option, None, Some, List, [], ◌∷◌, if◌then◌else◌}
+use Rattle.std.specs.Prelude.{
+  ◌==◌,
+  ℕ,
+  ℤ,
+  Bool,
+  false,
+  not,
+  ◌&&◌,
+  Option,
+  None,
+  Some,
+  List,
+  [],
+  ◌∷◌,
+  if◌then◌else◌,
+}
 use Rattle.std.specs.List.{count_by}
 use Rattle.std.specs.Option.{is_some}
 use Rattle.std.specs.Ordering.{int_eq}
@@ -27,4 +42,10 @@ other_values other entries = count_by (λ e. tells_other (entry_at e.key other) 
 
 -- what an answer has more than an older one, what in both differs, and what it has no more
 abbrev pub changes : List Entry → List Entry → Changes
-changes old new = record { added = more_keys old new; changed = other_values old new; dropped = more_keys new old }
+changes old new =
+    record {
+      added = more_keys old new;
+      changed = other_values old new;
+      dropped =
+          more_keys new old;
+    }

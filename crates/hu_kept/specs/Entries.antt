@@ -1,5 +1,25 @@
 -- The entries of an answer in a map from their keys, which keeps their order.
-use Rattle.std.specs.Prelude.{◌≡◌, ℕ, ◌≤◌, ◌==◌, ℤ, pos, ◌≤ℤ◌, Bool, false, not, ◌&&◌, Option, None, Some, ◌⊎◌, List, ◌++◌, map, IfSome}
+use Rattle.std.specs.Prelude.{
+  ◌≡◌,
+  ℕ,
+  ◌≤◌,
+  ◌==◌,
+  ℤ,
+  pos,
+  ◌≤ℤ◌,
+  Bool,
+  false,
+  not,
+  ◌&&◌,
+  Option,
+  None,
+  Some,
+  ◌⊎◌,
+  List,
+  ◌++◌,
+  map,
+  IfSome,
+}
 use Rattle.std.specs.List.{count_by}
 use Rattle.std.specs.Map.{lookup}
 use Rattle.std.specs.Option.{is_some}
@@ -34,14 +54,16 @@ pub record IsAim (aim : Aim) : Type 0 where
   pub some : IfSome aim.top (λ k. 1 ≤ k)
 
 -- the rules of a kept answer: nothing is counted that isn't there, and its entries are the answer of its records
-pub record IsKeeping (aim : Aim) (base : ℕ × List (List (ℕ × ℤ))) (entries : List (List ℤ × Held)) : Type 0 where
+pub record IsKeeping (aim : Aim) (base : ℕ × List (List (ℕ × ℤ)))
+    (entries : List (List ℤ × Held)) : Type 0 where
   pub asked : IsAim aim
   pub own : carried_of base ≡ 0
   pub answer : entries_from entries ≡ answer_of (keeping aim (records_of base))
 
 -- a batch whose records are the last ones, and old entries that are the answer of those before: without a limit or without a
 -- value below 0 in the batch it is enough to search what the batch touches
-pub record Continues (aim : Aim) (records : List (List (ℕ × ℤ))) (old : List Entry) (batch : List (List (ℕ × ℤ))) : Type 0 where
+pub record Continues (aim : Aim) (records : List (List (ℕ × ℤ))) (old : List Entry)
+    (batch : List (List (ℕ × ℤ))) : Type 0 where
   pub before : List (List (ℕ × ℤ))
   pub joined : before ++ batch ≡ records
   pub answer : old ≡ answer_of (keeping aim before)

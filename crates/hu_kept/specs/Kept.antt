@@ -17,7 +17,9 @@ patterns_of closed records = if closed then closed_patterns records else item_pa
 
 -- the answer of the records
 abbrev pub answer_of : Keeping → List Entry
-answer_of kept = if kept.closed then closed_answer kept.records kept.least kept.top else item_answer kept.records kept.least kept.top
+answer_of kept =
+    if kept.closed then closed_answer kept.records kept.least kept.top else item_answer kept.records
+    kept.least kept.top
 
 -- a task without records
 abbrev pub fresh : ℤ → Option ℕ → Bool → Keeping
@@ -25,4 +27,11 @@ fresh least top closed = record { records = []; least = least; top = top; closed
 
 -- the same task with further records
 abbrev pub with_batch : Keeping → List (List (ℕ × ℤ)) → Keeping
-with_batch kept batch = record { records = kept.records ++ batch; least = kept.least; top = kept.top; closed = kept.closed }
+with_batch kept batch =
+    record {
+      records = kept.records ++ batch;
+      least = kept.least;
+      top = kept.top;
+      closed =
+          kept.closed;
+    }

@@ -15,11 +15,13 @@ NoneBelow batch = All (λ cells. any_negative cells ≡ false) batch
 -- a set in no record of a batch keeps its utility and its support
 abbrev pub KeepsUntouched : Type 0
 KeepsUntouched = (records batch : List (List (ℕ × ℤ))) (items : List ℕ) → support batch items ≡ 0
-    → (utility (records ++ batch) items ≡ utility records items) × (support (records ++ batch) items ≡ support records items)
+    → (utility (records ++ batch) items ≡ utility records items)
+    × (support (records ++ batch) items ≡ support records items)
 
 -- and where a record holds it, it is closed where it was
 abbrev pub KeepsClosedness : Type 0
-KeepsClosedness = (records batch : List (List (ℕ × ℤ))) (items : List ℕ) → support batch items ≡ 0 → 0 < support records items
+KeepsClosedness = (records batch : List (List (ℕ × ℤ))) (items : List ℕ) → support batch items ≡ 0
+    → 0 < support records items
     → is_closed (records ++ batch) items ≡ is_closed records items
 
 -- a set that a record holds stays closed
@@ -29,10 +31,12 @@ StaysClosed = (records batch : List (List (ℕ × ℤ))) (items : List ℕ) → 
 
 -- a set loses nothing by a batch without values below 0
 abbrev pub NeverLoses : Type 0
-NeverLoses = (records batch : List (List (ℕ × ℤ))) (items : List ℕ) → NoneBelow batch → utility records items ≤ℤ utility (records ++ batch) items
+NeverLoses = (records batch : List (List (ℕ × ℤ))) (items : List ℕ) → NoneBelow batch
+    → utility records items ≤ℤ utility (records ++ batch) items
 
 -- an untouched entry of the answer with a batch was in the answer before, where there is no limit or no value below 0 in the
 -- batch: an untouched pattern outside the first k stays outside
 abbrev pub StaysOutside : Type 0
-StaysOutside = (kept : Keeping) (batch : List (List (ℕ × ℤ))) → (kept.top ≡ None) ⊎ NoneBelow batch → (entry : Entry) → is_touched batch entry.key ≡ false
+StaysOutside = (kept : Keeping) (batch : List (List (ℕ × ℤ))) → (kept.top ≡ None) ⊎ NoneBelow batch
+    → (entry : Entry) → is_touched batch entry.key ≡ false
     → Contains (answer_of (with_batch kept batch)) entry → Contains (answer_of kept) entry

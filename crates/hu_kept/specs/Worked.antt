@@ -30,11 +30,13 @@ three_more = refl
 abbrev top_three : Keeping
 top_three = with_batch (fresh (pos 1) (Some 2) false) (take 3 base_a)
 
-pub one_for_one : changes (answer_of top_three) (answer_of (with_batch top_three (drop 3 base_a))) ≡ record { added = 1; changed = 0; dropped = 1 }
+pub one_for_one : changes (answer_of top_three) (answer_of (with_batch top_three (drop 3 base_a)))
+    ≡ record { added = 1; changed = 0; dropped = 1 }
 unfolding entry_cmp
 one_for_one = refl
 
-pub pair_enters : answer_of (with_batch top_three (drop 3 base_a)) ≡ entry_of (2 ∷ 3 ∷ 4 ∷ 5 ∷ []) 40 2 ∷ entry_of (2 ∷ 3 ∷ 5 ∷ []) 37 3 ∷ []
+pub pair_enters : answer_of (with_batch top_three (drop 3 base_a))
+    ≡ entry_of (2 ∷ 3 ∷ 4 ∷ 5 ∷ []) 40 2 ∷ entry_of (2 ∷ 3 ∷ 5 ∷ []) 37 3 ∷ []
 unfolding entry_cmp
 pair_enters = refl
 
@@ -46,6 +48,8 @@ pub lost : answer_of (with_batch first (((1, negsuc 2) ∷ []) ∷ [])) ≡ entr
 unfolding entry_cmp
 lost = refl
 
-pub lost_for_other : changes (answer_of first) (answer_of (with_batch first (((1, negsuc 2) ∷ []) ∷ []))) ≡ record { added = 1; changed = 0; dropped = 1 }
+pub lost_for_other : changes (answer_of first)
+    (answer_of (with_batch first (((1, negsuc 2) ∷ []) ∷ [])))
+    ≡ record { added = 1; changed = 0; dropped = 1 }
 unfolding entry_cmp
 lost_for_other = refl

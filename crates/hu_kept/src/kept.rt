@@ -80,9 +80,11 @@ impl Kept {
     /// the kept answer is as before, and the batch is dropped.
     pub fn append(&mut self, batch: Base<Record>) -> Result<Changes, AppendFault>
         ensures ok { OnOk result (self.new ≡ with_batch self.old (records_of batch)) }
-        ensures changes { IfOk result (λ told. told ≡ changes (answer_of self.old) (answer_of (with_batch self.old (records_of batch)))) }
+        ensures changes { IfOk result (λ told. told ≡ changes (answer_of self.old)
+            (answer_of (with_batch self.old (records_of batch)))) }
         ensures err { OnErr result (self.new ≡ self.old) }
-        ensures fits { sum_by absolute_of (self.old).records + sum_by absolute_of (records_of batch) < 2 ^ 127 → IsOkUnless result AppendFault.NoMemory }
+        ensures fits { sum_by absolute_of (self.old).records + sum_by absolute_of (records_of batch) < 2 ^ 127
+            → IsOkUnless result AppendFault.NoMemory }
         ensures too_large { 2 ^ 127 ≤ sum_by absolute_of (self.old).records + sum_by absolute_of (records_of batch)
             → result ≡ Err (AppendFault.SumTooLarge (pos (sum_by absolute_of (self.old).records)) (pos (sum_by absolute_of (records_of batch)))) }
     {
@@ -96,9 +98,11 @@ impl Kept {
         gates: &G,
     ) -> Result<Changes, AppendFault>
         ensures ok { OnOk result (self.new ≡ with_batch self.old (records_of batch)) }
-        ensures changes { IfOk result (λ told. told ≡ changes (answer_of self.old) (answer_of (with_batch self.old (records_of batch)))) }
+        ensures changes { IfOk result (λ told. told ≡ changes (answer_of self.old)
+            (answer_of (with_batch self.old (records_of batch)))) }
         ensures err { OnErr result (self.new ≡ self.old) }
-        ensures fits { sum_by absolute_of (self.old).records + sum_by absolute_of (records_of batch) < 2 ^ 127 → IsOkUnless result AppendFault.NoMemory }
+        ensures fits { sum_by absolute_of (self.old).records + sum_by absolute_of (records_of batch) < 2 ^ 127
+            → IsOkUnless result AppendFault.NoMemory }
         ensures too_large { 2 ^ 127 ≤ sum_by absolute_of (self.old).records + sum_by absolute_of (records_of batch)
             → result ≡ Err (AppendFault.SumTooLarge (pos (sum_by absolute_of (self.old).records)) (pos (sum_by absolute_of (records_of batch)))) }
     {
@@ -138,9 +142,13 @@ impl Kept {
 
     /// Refuses a batch with which the absolute sums would pass 2^127 - 1.
     fn room(&self, batch: &Base<Record>) -> Result<(), AppendFault>
-        ensures fits { OnOk result (sum_by absolute_of (self.now).records + sum_by absolute_of (records_of batch.now) < 2 ^ 127) }
-        ensures too_large { OnErr result (2 ^ 127 ≤ sum_by absolute_of (self.now).records + sum_by absolute_of (records_of batch.now)) }
-        ensures cause { OnErr result (result ≡ Err (AppendFault.SumTooLarge (pos (sum_by absolute_of (self.now).records)) (pos (sum_by absolute_of (records_of batch.now))))) }
+        ensures fits { OnOk result (sum_by absolute_of (self.now).records + sum_by absolute_of
+            (records_of batch.now) < 2 ^ 127) }
+        ensures too_large { OnErr result (2 ^ 127 ≤ sum_by absolute_of (self.now).records + sum_by absolute_of
+            (records_of batch.now)) }
+        ensures cause { OnErr result
+            (result ≡ Err (AppendFault.SumTooLarge (pos (sum_by absolute_of (self.now).records))
+            (pos (sum_by absolute_of (records_of batch.now))))) }
     {
         let before = self.records.sum();
         let added = batch.sum() - batch.carried();
@@ -159,7 +167,8 @@ fn touched_sets(
     batch: &Base<Record>,
 ) -> Result<Option<RecordSets>, NoMemory>
     ensures sets { IfOk result (λ found. IfSome found (λ sets. sets ≡ records_of batch.now)) }
-    ensures either { IfOk result (λ found. IfSome found (λ sets. (top ≡ None) ⊎ NoneBelow (records_of batch.now))) }
+    ensures either { IfOk result
+        (λ found. IfSome found (λ sets. (top ≡ None) ⊎ NoneBelow (records_of batch.now))) }
 {
     if top.is_some() && any_negative(batch.records()) {
         return Ok(None);

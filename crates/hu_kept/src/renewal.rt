@@ -34,8 +34,10 @@ pub(crate) fn renewed<G: Gates>(
     gates: &G,
 ) -> Result<IndexMap<Key, Held>, NoMemory>
     requires aim { IsAim aim }
-    requires continues { IfSome touched (λ batch. Continues aim (records_of base.now) (entries_from old.now.entries) batch.now) }
-    ensures { IfOk result (λ held. entries_from held.entries ≡ answer_of (keeping aim (records_of base.now))) }
+    requires continues { IfSome touched (λ batch. Continues aim (records_of base.now)
+        (entries_from old.now.entries) batch.now) }
+    ensures { IfOk result (λ held. entries_from held.entries
+        ≡ answer_of (keeping aim (records_of base.now))) }
 {
     let entries = new_entries(alloc, base, aim, old, touched, gates)?;
     by_key(alloc, entries)
@@ -51,7 +53,8 @@ fn new_entries<G: Gates>(
     gates: &G,
 ) -> Result<Vec<Entry>, NoMemory>
     requires aim { IsAim aim }
-    requires continues { IfSome touched (λ batch. Continues aim (records_of base.now) (entries_from old.now.entries) batch.now) }
+    requires continues { IfSome touched (λ batch. Continues aim (records_of base.now)
+        (entries_from old.now.entries) batch.now) }
     ensures { IfOk result (λ entries. entries.items ≡ answer_of (keeping aim (records_of base.now))) }
 {
     match touched {
@@ -100,7 +103,9 @@ fn with_untouched(
 ) -> Result<Limited, NoMemory>
     requires { IsAim aim }
     ensures rule { IfOk result (λ collect. rule_in collect ≡ rule_of aim.least aim.top) }
-    ensures content { IfOk result (λ collect. content_in collect ≡ made (rule_of aim.least aim.top) [] (untouched batch.now (entries_from old.now.entries))) }
+    ensures content { IfOk result (λ collect. content_in collect
+        ≡ made (rule_of aim.least aim.top) [] (untouched batch.now
+        (entries_from old.now.entries))) }
 {
     let mut collect = Limited::new(alloc, aim.top, aim.least);
     for (key, held) in old.iter() {
@@ -136,7 +141,9 @@ fn entries_of<G: Gates>(
     collect: Limited,
     batch: Option<&RecordSets>,
 ) -> Result<Vec<Entry>, NoMemory>
-    ensures { IfOk result (λ entries. entries.items ≡ made (within (option_copied batch.entry) (rule_in collect)) (content_in collect) (patterns_of closed (records_of base.now))) }
+    ensures { IfOk result (λ entries. entries.items ≡ made
+        (within (option_copied batch.entry) (rule_in collect)) (content_in collect)
+        (patterns_of closed (records_of base.now))) }
 {
     let totals = Totals::of(alloc, base)?;
     let ranked = Ranked::ordered(alloc, base, &totals, collect.floor(), RankOrder::Value)?;
@@ -160,7 +167,9 @@ fn closed_entries<G: Gates>(
     requires patterns { KeepsPatterns (records_of base.now) ranked.now }
     requires floor { ranked.now.floor ≤ℤ floor_of (rule_in collect) (content_in collect) }
     requires rests { (rule_in collect).table ≡ None }
-    ensures { IfOk result (λ entries. entries.items ≡ made (within (option_copied batch.entry) (rule_in collect)) (content_in collect) (closed_patterns (records_of base.now))) }
+    ensures { IfOk result (λ entries. entries.items ≡ made
+        (within (option_copied batch.entry) (rule_in collect)) (content_in collect)
+        (closed_patterns (records_of base.now))) }
 {
     let sets = RecordSets::of(alloc, base)?;
     let collect = ClosedOnly::new(collect, &sets, ranked);

@@ -46,7 +46,8 @@ impl<'a, C: Collect> Touched<'a, C> {
     /// Whether an entry may change the content: it is not below the floor, and a record of the batch holds its key.
     fn lets_in(&self, entry: &Entry) -> bool
         ensures passes { result ≡ true → is_touched (batch_in self.now) entry.now.key ≡ true }
-        ensures leaves { result ≡ false → offered (⟦<Touched<'a, C> as Collect>⟧.state self.now) (entry.now ∷ []) ≡ ⟦<Touched<'a, C> as Collect>⟧.state self.now }
+        ensures leaves { result ≡ false → offered (⟦<Touched<'a, C> as Collect>⟧.state self.now) (entry.now ∷ [])
+            ≡ ⟦<Touched<'a, C> as Collect>⟧.state self.now }
     {
         entry.utility >= self.inner.floor() && self.batch.support(&entry.key) > 0
     }

@@ -1,5 +1,7 @@
 -- The first token of a text, read as a number.
-use Rattle.std.proofs.Common.{◌≡◌, ℕ, zero, suc, ◌+◌, ◌-◌, ◌<◌, ◌≤◌, ◌==◌, ℤ, pos, neg_ℤ, true, false, Option, None, Some, Result, Ok, Err, add-one, List, [], ◌∷◌, length, take, drop, slice_index, refl, sym, ap, ◌∙◌, arith, position, subst}
+use Rattle.std.proofs.Common.{◌≡◌, ℕ, zero, suc, ◌+◌, ◌-◌, ◌<◌, ◌≤◌, ◌==◌, ℤ, pos, neg_ℤ, true, false, Option, None}
+use Rattle.std.proofs.Common.{Some, Result, Ok, Err, add-one, List, [], ◌∷◌, length, take, drop, slice_index, refl, sym}
+use Rattle.std.proofs.Common.{ap, ◌∙◌, arith, position, subst}
 use Rattle.std.specs.List.{position_or_len}
 use Rattle.std.specs.Result.{result_map_both}
 use Rattle.std.specs.Str.Parse.{AllDigits, digits_value}
@@ -15,7 +17,8 @@ use Rattle.hu_kind.proofs.TokenLemmas.{tokens-next, token-some}
 use Rattle.hu_kind.proofs.lemmas.Numerals.{digit_not, digits_from-value, front-small}
 
 -- a text that begins with digits, which a space or the end of the text follows
-pub digits-end : (text : List ℕ) (count : ℕ) → count ≤ length text → AllDigits 10 (take count text) → (count < length text → slice_index text count ≡ 32) → count ≡ position_or_len is_space text
+pub digits-end : (text : List ℕ) (count : ℕ) → count ≤ length text → AllDigits 10 (take count text)
+    → (count < length text → slice_index text count ≡ 32) → count ≡ position_or_len is_space text
 digits-end [] count within digits ends = omega arith
 digits-end (b ∷ bs) zero within digits ends =
     let here : slice_index (b ∷ bs) 0 ≡ 32 = ends (omega arith) in
@@ -25,7 +28,8 @@ digits-end (b ∷ bs) (suc count) within digits ends =
     let rest = digits-end bs count (omega arith) digits.1 (λ more. ends (omega arith)) in
     rw other (omega arith)
 
-pub BeginsWith-digits : (text : List ℕ) (count : ℕ) → 0 < count → count ≤ 18 → count ≤ length text → AllDigits 10 (take count text) → (count < length text → slice_index text count ≡ 32)
+pub BeginsWith-digits : (text : List ℕ) (count : ℕ) → 0 < count → count ≤ 18 → count ≤ length text
+    → AllDigits 10 (take count text) → (count < length text → slice_index text count ≡ 32)
     → BeginsWith number text (pos (digits_value 10 (take count text))) count
 BeginsWith-digits text count some few within digits ends = record {
   some = some;
@@ -34,7 +38,8 @@ BeginsWith-digits text count some few within digits ends = record {
   said =
       let size = length-take-le count text within in
       let small = front-small text count 18 digits within few in
-      ap (result_map_both pos (λ fault. fault)) (digits_from-value 0 (digits_value 10 (take count text)) (take count text) (omega arith) digits (omega arith) refl (omega arith));
+      ap (result_map_both pos (λ fault. fault)) (digits_from-value 0 (digits_value 10 (take count text))
+      (take count text) (omega arith) digits (omega arith) refl (omega arith));
 }
 
 ok_from : (r : Result ℕ NumberFault) (n : ℕ) → result_map_both pos (λ fault. fault) r ≡ Ok (pos n) → r ≡ Ok n
@@ -68,7 +73,8 @@ BeginsWith-minus (b ∷ bs) n count minus begins =
     }
 
 -- another byte in front
-pub BeginsWith-plain : (text : List ℕ) (n count : ℕ) → (slice_index text 0 == 45) ≡ false → BeginsWith number text (pos n) count → BeginsWith signed_number text (pos n) count
+pub BeginsWith-plain : (text : List ℕ) (n count : ℕ) → (slice_index text 0 == 45) ≡ false
+    → BeginsWith number text (pos n) count → BeginsWith signed_number text (pos n) count
 BeginsWith-plain [] n count other begins = absurd (omega (arith, begins.some, begins.within))
 BeginsWith-plain (b ∷ bs) n zero other begins = absurd (omega (arith, begins.some))
 BeginsWith-plain (b ∷ bs) n (suc count) other begins = record {
@@ -80,14 +86,17 @@ BeginsWith-plain (b ∷ bs) n (suc count) other begins = record {
 
 -- the first token is read
 pub read-from : (read : List ℕ → Result ℤ NumberFault) (text begun rest : List ℕ) (start len : ℕ) (said : Result ℤ NumberFault)
-    → position is_no_space text ≡ Some start → begun ≡ drop start text → len ≡ position_or_len is_space begun → rest ≡ drop len begun → read (take len begun) ≡ said
+    → position is_no_space text ≡ Some start → begun ≡ drop start text → len ≡ position_or_len is_space begun → rest
+    ≡ drop len begun → read (take len begun) ≡ said
     → IsFirstRead read text rest said × (length rest < length text)
 read-from read text begun rest start len said found begins ends left is =
     let len_is : len ≡ position_or_len is_space (drop start text) = ends ∙ ap (position_or_len is_space) begins in
     let some = token-some text start found in (
       record {
         token = take len begun;
-        first = tokens-next text start len found len_is ∙ (λ j. take len (sym begins j) ∷ tokens (drop len (sym begins j))) ∙ ap (λ more. take len begun ∷ tokens more) (sym left);
+        first = tokens-next text start len found len_is
+            ∙ (λ j. take len (sym begins j) ∷ tokens (drop len (sym begins j)))
+            ∙ ap (λ more. take len begun ∷ tokens more) (sym left);
         value = is;
       },
       omega (arith, some.0, some.1, ap length left, length-drop len begun, ap length begins, length-drop start text),

@@ -1,5 +1,7 @@
 -- The tokens of a text, from the first on.
-use Rattle.std.proofs.Common.{◌≡◌, ℕ, ◌+◌, ◌<◌, ◌≤◌, Bool, true, false, not, None, Some, List, [], ◌∷◌, length, take, drop, refl, sym, ap, ◌∙◌, arith, filter, position, get_or, drop-cons, add-one, unwrap_or, inl, inr, suc}
+use Rattle.std.proofs.Common.{◌≡◌, ℕ, ◌+◌, ◌<◌, ◌≤◌, Bool, true, false, not, None, Some, List, [], ◌∷◌, length, take}
+use Rattle.std.proofs.Common.{drop, refl, sym, ap, ◌∙◌, arith, filter, position, get_or, drop-cons, add-one, unwrap_or}
+use Rattle.std.proofs.Common.{inl, inr, suc}
 use Rattle.std.specs.List.{slice_split, onto_first, position_or_len}
 use Rattle.std.proofs.lemmas.Bool.{cases_lt}
 use Rattle.std.proofs.lemmas.Bool.Decides.{nat_tests}
@@ -16,7 +18,8 @@ tokens-from_start : (text : List ℕ) → tokens (drop (position_or_len is_no_sp
 tokens-from_start [] = refl
 tokens-from_start (b ∷ bs) = step (is_space b) refl (tokens-from_start bs)
   where
-    step : (t : Bool) → is_space b ≡ t → tokens (drop (position_or_len is_no_space bs) bs) ≡ tokens bs → tokens (drop (position_or_len is_no_space (b ∷ bs)) (b ∷ bs)) ≡ tokens (b ∷ bs)
+    step : (t : Bool) → is_space b ≡ t → tokens (drop (position_or_len is_no_space bs) bs) ≡ tokens bs
+        → tokens (drop (position_or_len is_no_space (b ∷ bs)) (b ∷ bs)) ≡ tokens (b ∷ bs)
     step true h more =
         let next : position_or_len is_no_space (b ∷ bs) ≡ suc (position_or_len is_no_space bs) = grind (arith, nat_tests) in
         rw next (more ∙ sym (tokens-space b bs h))
@@ -38,7 +41,8 @@ at_space : (text : List ℕ) (n : ℕ) → n ≡ position_or_len is_space text �
 at_space text n is some within =
     let split : slice_split is_space text ≡ take n text ∷ slice_split is_space (drop (n + 1) text) = rw is (slice_split_first is_space text 0 (omega arith)) in
     let here : is_space (get_or text n 0) ≡ true = rw is (passes_at_first is_space text 0 (omega arith)) in
-    let rest : tokens (drop n text) ≡ tokens (drop (n + 1) text) = rw (add-one, drop-cons text n 0 within) (tokens-space (get_or text n 0) (drop (suc n) text) here) in
+    let rest : tokens (drop n text) ≡ tokens (drop (n + 1) text) =
+    rw (add-one, drop-cons text n 0 within) (tokens-space (get_or text n 0) (drop (suc n) text) here) in
     let front : length (take n text) ≡ n = length-take-le n text (omega arith) in
     ap (filter has_byte) split ∙ filter_full (take n text) (slice_split is_space (drop (n + 1) text)) (omega arith) ∙ ap (λ more. take n text ∷ more) (sym rest)
 
@@ -64,7 +68,9 @@ token-some text start found =
     let begins : is_no_space (get_or text start 0) ≡ true = rw start_is (passes_at_first is_no_space text 0 within) in
     (omega arith, rw (drop-cons text start 0 (omega arith)) (no_space_first (get_or text start 0) (drop (suc start) text) begins))
 
-pub tokens-next : (text : List ℕ) (start len : ℕ) → position is_no_space text ≡ Some start → len ≡ position_or_len is_space (drop start text) → tokens text ≡ take len (drop start text) ∷ tokens (drop len (drop start text))
+pub tokens-next : (text : List ℕ) (start len : ℕ) → position is_no_space text ≡ Some start → len
+    ≡ position_or_len is_space (drop start text) → tokens text
+    ≡ take len (drop start text) ∷ tokens (drop len (drop start text))
 tokens-next text start len found is =
     let start_is : start ≡ position_or_len is_no_space text = grind (arith, nat_tests) in
     let some = (token-some text start found).1 in
@@ -91,4 +97,9 @@ length-tokens (b ∷ bs) = step (is_space b) refl (length-tokens bs)
   where
     step : (t : Bool) → is_space b ≡ t → length (tokens bs) ≤ length bs → length (tokens (b ∷ bs)) ≤ length (b ∷ bs)
     step true h fewer = omega (arith, ap length (tokens-space b bs h))
-    step false h fewer = omega (arith, ap (λ pieces. length (filter has_byte pieces)) (slice_split-cons_no is_space b bs h), shorter b (slice_split is_space bs))
+    step false h fewer =
+        omega (
+          arith,
+          ap (λ pieces. length (filter has_byte pieces)) (slice_split-cons_no is_space b bs h),
+          shorter b (slice_split is_space bs),
+        )

@@ -1,5 +1,25 @@
 -- What makes a set of cells of the pairs (item, value) that a line tells.
-use Rattle.std.specs.Prelude.{◌≡◌, ℕ, ◌<◌, ◌≤◌, ◌==◌, nat_lt, ℤ, pos, negsuc, Option, None, Some, min, List, [], ◌∷◌, filter, count_by, refl}
+use Rattle.std.specs.Prelude.{
+  ◌≡◌,
+  ℕ,
+  ◌<◌,
+  ◌≤◌,
+  ◌==◌,
+  nat_lt,
+  ℤ,
+  pos,
+  negsuc,
+  Option,
+  None,
+  Some,
+  min,
+  List,
+  [],
+  ◌∷◌,
+  filter,
+  count_by,
+  refl,
+}
 use Rattle.std.specs.declared.cmp.Ordering.{Ordering}
 use Rattle.std.specs.List.{reduce}
 use Rattle.std.specs.Ordering.{nat_cmp, int_cmp, ordering_then}
@@ -27,7 +47,8 @@ pub record IsFirstTwice (items : List ℕ) (item : ℕ) : Type 0 where
   pub least : (other : ℕ) → 1 < times other items → item ≤ other
 
 -- an example of each
-pub four_pairs : by_item ((3, pos 3) ∷ (5, pos 3) ∷ (2, pos 8) ∷ (4, negsuc 5) ∷ []) ≡ (2, pos 8) ∷ (3, pos 3) ∷ (4, negsuc 5) ∷ (5, pos 3) ∷ []
+pub four_pairs : by_item ((3, pos 3) ∷ (5, pos 3) ∷ (2, pos 8) ∷ (4, negsuc 5) ∷ [])
+    ≡ (2, pos 8) ∷ (3, pos 3) ∷ (4, negsuc 5) ∷ (5, pos 3) ∷ []
 four_pairs = refl
 
 pub two_repeated : twice (7 ∷ 4 ∷ 9 ∷ 7 ∷ 4 ∷ []) ≡ Some 4

@@ -1,5 +1,21 @@
 -- All itemsets of a database, the closed ones among them, and the entry of each.
-use Rattle.std.specs.Prelude.{ℕ, ℤ, pos, ◌==◌, nat_lt, Bool, not, ◌&&◌, ◌||◌, List, [], ◌∷◌, ◌++◌, map, length}
+use Rattle.std.specs.Prelude.{
+  ℕ,
+  ℤ,
+  pos,
+  ◌==◌,
+  nat_lt,
+  Bool,
+  not,
+  ◌&&◌,
+  ◌||◌,
+  List,
+  [],
+  ◌∷◌,
+  ◌++◌,
+  map,
+  length,
+}
 use Rattle.std.specs.List.{filter, list_all, list_any}
 use Rattle.hu_kind.specs.declared.entry.Entry.{Entry}
 use Rattle.hu_kind.specs.Record.{has, holds}
@@ -16,15 +32,19 @@ goes_with records items item = list_all (λ r. not (holds items r) || has item r
 
 -- whether a set is closed: no occurring item outside it stands in every record that holds it
 abbrev pub is_closed : List (List (ℕ × ℤ)) → List ℕ → Bool
-is_closed records items = list_all (λ i. list_any (λ j. i == j) items || not (goes_with records items i)) (items_of records)
+is_closed records items =
+    list_all (λ i. list_any (λ j. i == j) items || not (goes_with records items i))
+    (items_of records)
 
 -- the non-empty sets of items that some record holds
 abbrev pub occurring_sets : List (List (ℕ × ℤ)) → List (List ℕ)
-occurring_sets records = filter (λ s. nat_lt 0 (length s) && nat_lt 0 (support records s)) (sublists (items_of records))
+occurring_sets records =
+    filter (λ s. nat_lt 0 (length s) && nat_lt 0 (support records s)) (sublists (items_of records))
 
 -- the entry of a set: its items ascending, its utility and its support
 abbrev pub item_entry : List (List (ℕ × ℤ)) → List ℕ → Entry
-item_entry records items = record { key = map pos items; utility = utility records items; support = support records items }
+item_entry records items =
+    record { key = map pos items; utility = utility records items; support = support records items }
 
 -- the entries of all itemsets
 abbrev pub item_patterns : List (List (ℕ × ℤ)) → List Entry

@@ -13,13 +13,17 @@ use Rattle.hu_kind.specs.declared.entry.Entry.{Entry}
 
 -- the one order
 unfoldable pub entry_cmp : Entry → Entry → Ordering
-entry_cmp = then_cmp (flip_args (on (λ e. e.utility) int_cmp)) (then_cmp (on (λ e. e.key) (slice_cmp int_cmp)) (on (λ e. e.support) nat_cmp))
+entry_cmp =
+    then_cmp (flip_args (on (λ e. e.utility) int_cmp))
+    (then_cmp (on (λ e. e.key) (slice_cmp int_cmp)) (on (λ e. e.support) nat_cmp))
 
 -- the one order is total
 pub entry_cmp_total : IsTotalOrder entry_cmp
 unfolding entry_cmp
 entry_cmp_total =
-    then_total (back_total (on_total (λ e. e.utility) int_cmp_total)) (then_total (on_total (λ e. e.key) (lists_total int_cmp_total)) (on_total (λ e. e.support) nat_cmp_total))
+    then_total (back_total (on_total (λ e. e.utility) int_cmp_total))
+    (then_total (on_total (λ e. e.key) (lists_total int_cmp_total))
+    (on_total (λ e. e.support) nat_cmp_total))
 
 -- an entry comes before another
 abbrev pub Before : Entry → Entry → Type 0

@@ -1,6 +1,25 @@
 -- A record as a list of pairs (item, value) with the items ascending, and what a set of items earns in it.
 -- After HUI-Miner (Liu and Qu, 2012).
-use Rattle.std.specs.Prelude.{ℕ, ◌^◌, ◌<◌, ◌≤◌, ◌==◌, ℤ, pos, negsuc, ◌+ℤ◌, unsigned_abs, int_lt, Bool, List, [], ◌∷◌, map, length, if◌then◌else◌}
+use Rattle.std.specs.Prelude.{
+  ℕ,
+  ◌^◌,
+  ◌<◌,
+  ◌≤◌,
+  ◌==◌,
+  ℤ,
+  pos,
+  negsuc,
+  ◌+ℤ◌,
+  unsigned_abs,
+  int_lt,
+  Bool,
+  List,
+  [],
+  ◌∷◌,
+  map,
+  length,
+  if◌then◌else◌,
+}
 use Rattle.std.specs.List.{All, AllAdjacentBelow, list_all, list_any, sum_by}
 
 -- the items of a record

@@ -1,6 +1,29 @@
 -- A sequence record is a list of elements, each a list of pairs (item, value) with the items ascending; a sequence
 -- is a list of itemsets. Its utility in a record is the greatest over all its occurrences. After USpan (Yin, Zheng and Cao, 2012).
-use Rattle.std.specs.Prelude.{◌≡◌, ℕ, ◌^◌, ◌<◌, ◌≤◌, ℤ, pos, negsuc, ◌+ℤ◌, false, Option, None, Some, is_some, nat_lt, List, [], ◌∷◌, ◌++◌, map, length, if◌then◌else◌}
+use Rattle.std.specs.Prelude.{
+  ◌≡◌,
+  ℕ,
+  ◌^◌,
+  ◌<◌,
+  ◌≤◌,
+  ℤ,
+  pos,
+  negsuc,
+  ◌+ℤ◌,
+  false,
+  Option,
+  None,
+  Some,
+  is_some,
+  nat_lt,
+  List,
+  [],
+  ◌∷◌,
+  ◌++◌,
+  map,
+  length,
+  if◌then◌else◌,
+}
 use Rattle.std.specs.Int.{int_max}
 use Rattle.std.specs.Option.{option_map, unwrap_or}
 use Rattle.std.specs.List.{filter, flat_map, count_by, list_any, sum_by, AllByRecursion}
@@ -48,11 +71,19 @@ sequence_key pattern = flat_map (λ items. map pos items ++ negsuc 0 ∷ []) pat
 
 -- the entry of a sequence: its key, its utility and its support
 abbrev pub sequence_entry : List (List (List (ℕ × ℤ))) → List (List ℕ) → Entry
-sequence_entry records pattern = record { key = sequence_key pattern; utility = sequence_utility records pattern; support = sequence_support records pattern }
+sequence_entry records pattern =
+    record {
+      key = sequence_key pattern;
+      utility = sequence_utility records pattern;
+      support =
+          sequence_support records pattern;
+    }
 
 -- the entries of all non-empty sequences that occur
 abbrev pub sequence_patterns : List (List (List (ℕ × ℤ))) → List Entry
-sequence_patterns records = flat_map (λ r. map (sequence_entry records) (filter (λ p. nat_lt 0 (length p)) (subsequences r))) records
+sequence_patterns records =
+    flat_map
+    (λ r. map (sequence_entry records) (filter (λ p. nat_lt 0 (length p)) (subsequences r))) records
 
 -- the rules of a sequence record: there is an element, each is an itemset, the cells are at most 4,096 together,
 -- no value is below 0, and the values sum to at most 2 ^ 127 - 1

@@ -11,7 +11,8 @@ entry_of items earned records = record { key = map pos items; utility = pos earn
 
 -- the entry of a sequence
 abbrev pub sequence_entry_of : List (List ℕ) → ℕ → ℕ → Entry
-sequence_entry_of pattern earned records = record { key = sequence_key pattern; utility = pos earned; support = records }
+sequence_entry_of pattern earned records =
+    record { key = sequence_key pattern; utility = pos earned; support = records }
 
 -- base A: five transactions over seven items
 abbrev pub base_a : List (List (ℕ × ℤ))
@@ -66,7 +67,8 @@ item_of_utility_0 = refl
 
 -- signed records: an item earns in one record and costs in another
 pub signed_at_10 : item_answer
-    (((1, negsuc 9) ∷ (2, pos 3) ∷ []) ∷ ((1, pos 4) ∷ (2, pos 1) ∷ (3, pos 6) ∷ []) ∷ ((2, pos 2) ∷ (3, pos 3) ∷ []) ∷ [])
+    (((1, negsuc 9) ∷ (2, pos 3) ∷ []) ∷ ((1, pos 4) ∷ (2, pos 1) ∷ (3, pos 6) ∷ [])
+    ∷ ((2, pos 2) ∷ (3, pos 3) ∷ []) ∷ [])
     (pos 10)
     None ≡
     entry_of (2 ∷ 3 ∷ []) 12 2 ∷ entry_of (1 ∷ 2 ∷ 3 ∷ []) 11 1 ∷ entry_of (1 ∷ 3 ∷ []) 10 1 ∷ []

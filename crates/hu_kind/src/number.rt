@@ -109,7 +109,8 @@ fn fault_after(at: usize, text: &[u8], from: usize) -> NumberFault
     requires room { at + length text.now < 2 ^ 64 }
     requires within { from ≤ length text.now }
     requires digits { AllDigits 10 (take from text.now) }
-    ensures { result ≡ option_map_or (λ place. NumberFault.NotDigit (at + place)) (other_place text.now) NumberFault.TooLarge }
+    ensures { result ≡ option_map_or (λ place. NumberFault.NotDigit (at + place))
+        (other_place text.now) NumberFault.TooLarge }
 {
     match other_place(&text[from..]) {
         Some(place) => NumberFault::NotDigit(at + from + place),

@@ -133,7 +133,8 @@ fn is_in_range(cells: &[Cell]) -> bool
 /// A sum with the absolute values of the cells, where that is at most 2^127 - 1.
 pub(crate) fn sum_after(sum: i128, cells: &[Cell]) -> Option<i128>
     requires { pos 0 ≤ℤ sum }
-    ensures { SomeIff result (unsigned_abs sum + sum_by absolute_value cells.now < 2 ^ 127) (pos (unsigned_abs sum + sum_by absolute_value cells.now)) }
+    ensures { SomeIff result (unsigned_abs sum + sum_by absolute_value cells.now < 2 ^ 127)
+        (pos (unsigned_abs sum + sum_by absolute_value cells.now)) }
 {
     let mut after = sum;
     for cell in cells {

@@ -68,7 +68,8 @@ impl Element {
     /// A sum with the absolute values of the cells, where that is at most 2^127 - 1.
     fn sum_after(&self, sum: i128) -> Option<i128>
         requires { pos 0 ≤ℤ sum }
-        ensures { SomeIff result (unsigned_abs sum + absolute_of self.now < 2 ^ 127) (pos (unsigned_abs sum + absolute_of self.now)) }
+        ensures { SomeIff result (unsigned_abs sum + absolute_of self.now < 2 ^ 127)
+            (pos (unsigned_abs sum + absolute_of self.now)) }
     {
         sum_after(sum, &self.cells)
     }
@@ -170,7 +171,8 @@ fn any_below(elements: &[Element]) -> bool
 
 /// The sum of the absolute values, where that is at most 2^127 - 1.
 fn sum_of(elements: &[Element]) -> Option<i128>
-    ensures { SomeIff result (sum_by absolute_of elements.now < 2 ^ 127) (pos (sum_by absolute_of elements.now)) }
+    ensures { SomeIff result (sum_by absolute_of elements.now < 2 ^ 127)
+        (pos (sum_by absolute_of elements.now)) }
 {
     let mut sum = 0;
     for element in elements {

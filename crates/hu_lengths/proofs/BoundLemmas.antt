@@ -172,7 +172,9 @@ module _ (before more : List ℕ) (last room : ℕ) (up : Ascend ((before ++ las
           let equal : sum_of (take room (falling (later_values set cells))) ≡ best last room cells = ap (λ vs. first_sum room (falling vs)) same in
           let part = (positive_part-upper (values_of set cells +ℤ sum_of (take room (falling (later_values set cells))))).0 in
           omega (arith, ints, sum, within, equal, part)
-      by true false h = (positive_part-upper (values_of (before ++ last ∷ []) cells +ℤ sum_of (take room (falling (later_values (before ++ last ∷ []) cells))))).1
+      by true false h =
+          (positive_part-upper (values_of (before ++ last ∷ []) cells
+          +ℤ sum_of (take room (falling (later_values (before ++ last ∷ []) cells))))).1
       by false c h = omega (arith, ints)
 
   pub utility-bounded : (records : List (List (ℕ × ℤ))) → AllByRecursion (λ cells. Ascend (items_in cells)) records

@@ -1,6 +1,7 @@
 -- Places of values and cells, and the nodes of a set's list.
 use Rattle.std.proofs.Common.{◌≡◌, ℕ, zero, suc, ◌<◌, ◌≤◌, ◌+◌, Bool, true, false, cond, not, ltb, nat_lt, int_lt, ◌&&◌, inl, inr, ℤ, pos, negsuc}
-use Rattle.std.proofs.Common.{◌+ℤ◌, ◌≤ℤ◌, unsigned_abs, unwrap_or, List, [], ◌∷◌, ◌++◌, map, take, drop, length, get_or, insert, refl, sym, ap, ◌∙◌, subst, arith, one-add, sum_by}
+use Rattle.std.proofs.Common.{◌+ℤ◌, ◌≤ℤ◌, unsigned_abs, unwrap_or, List, [], ◌∷◌, ◌++◌, map, take, drop, length, get_or}
+use Rattle.std.proofs.Common.{insert, refl, sym, ap, ◌∙◌, subst, arith, one-add, sum_by}
 use Rattle.std.specs.List.{AllByRecursion, position, position_or_len, list_all}
 use Rattle.std.proofs.lemmas.Bool.{cases_lt, lt-ltb, le-ltb}
 use Rattle.std.proofs.lemmas.Int.{ints}
@@ -156,7 +157,13 @@ module _ (all : List (List (ℕ × ℤ))) (before : List ℕ) (last : ℕ) (up :
       }
 
       by : (b : Bool) → AllByRecursion (IsNodeAt all last) (nodes_from (place + 1) records (before ++ last ∷ []))
-          → AllByRecursion (IsNodeAt all last) (cond b (record { place = place; own = values_of (before ++ last ∷ []) cells; rest = rest_after (before ++ last ∷ []) cells } ∷ []) [] ++ nodes_from (place + 1) records (before ++ last ∷ []))
+          → AllByRecursion (IsNodeAt all last)
+          (cond b (record {
+            place = place;
+            own = values_of (before ++ last ∷ []) cells;
+            rest =
+                rest_after (before ++ last ∷ []) cells;
+          } ∷ []) [] ++ nodes_from (place + 1) records (before ++ last ∷ []))
       by true rest = (is, rest)
       by false rest = rest
 
@@ -169,7 +176,13 @@ module _ (all : List (List (ℕ × ℤ))) (before : List ℕ) (last : ℕ) (up :
       same = ap (values_after last) (window-here w) ∙ sym (later_values-last before last cells up)
 
       by : (b : Bool) → most_of all last room (nodes_from (place + 1) records (before ++ last ∷ [])) ≡ sized_bound records (before ++ last ∷ []) room
-          → most_of all last room (cond b (record { place = place; own = values_of (before ++ last ∷ []) cells; rest = rest_after (before ++ last ∷ []) cells } ∷ []) [] ++ nodes_from (place + 1) records (before ++ last ∷ []))
+          → most_of all last room
+          (cond b (record {
+            place = place;
+            own = values_of (before ++ last ∷ []) cells;
+            rest =
+                rest_after (before ++ last ∷ []) cells;
+          } ∷ []) [] ++ nodes_from (place + 1) records (before ++ last ∷ []))
           ≡ (cond b (sized_most (before ++ last ∷ []) room cells) (pos 0) +ℤ sized_bound records (before ++ last ∷ []) room)
       by true rest = λ j. positive_part (values_of (before ++ last ∷ []) cells +ℤ sum_of (take room (falling (same j)))) +ℤ rest j
       by false rest = omega (arith, ints, rest)

@@ -1,6 +1,26 @@
 -- The most that a set of ranks with so many later ranks can earn. After FHM+ (Fournier-Viger, Lin, Duong and Dam, 2016), with
 -- values of either sign.
-use Rattle.std.specs.Prelude.{◌≡◌, ℕ, nat_lt, ◌≤◌, ℤ, pos, int_lt, ◌+ℤ◌, ◌≤ℤ◌, ◌&&◌, List, [], ◌∷◌, ◌++◌, take, length, slice_index_or, ◌<◌, if◌then◌else◌}
+use Rattle.std.specs.Prelude.{
+  ◌≡◌,
+  ℕ,
+  nat_lt,
+  ◌≤◌,
+  ℤ,
+  pos,
+  int_lt,
+  ◌+ℤ◌,
+  ◌≤ℤ◌,
+  ◌&&◌,
+  List,
+  [],
+  ◌∷◌,
+  ◌++◌,
+  take,
+  length,
+  slice_index_or,
+  ◌<◌,
+  if◌then◌else◌,
+}
 use Rattle.std.specs.List.{list_all}
 use Rattle.hu_kind.specs.Record.{holds, values_of, positive_part, items_in}
 use Rattle.hu_kind.specs.Database.{utility}
@@ -14,12 +34,15 @@ use Rattle.hu_search.specs.Growth.{InTable}
 abbrev pub later_values : List ℕ → List (ℕ × ℤ) → List ℤ
 later_values set [] = []
 later_values set (cell ∷ cells) =
-    (if list_all (λ rank. nat_lt rank cell.0) set && int_lt (pos 0) cell.1 then cell.1 ∷ [] else []) ++ later_values set cells
+    (if list_all (λ rank. nat_lt rank cell.0) set && int_lt (pos 0) cell.1 then cell.1 ∷ [] else [])
+    ++ later_values set cells
 
 -- the same at ranks after one
 abbrev pub values_after : ℕ → List (ℕ × ℤ) → List ℤ
 values_after last [] = []
-values_after last (cell ∷ cells) = (if nat_lt last cell.0 && int_lt (pos 0) cell.1 then cell.1 ∷ [] else []) ++ values_after last cells
+values_after last (cell ∷ cells) =
+    (if nat_lt last cell.0 && int_lt (pos 0) cell.1 then cell.1 ∷ [] else [])
+    ++ values_after last cells
 
 -- a value put into falling ones
 abbrev pub put : ℤ → List ℤ → List ℤ
@@ -38,17 +61,21 @@ sum_of (value ∷ values) = value +ℤ sum_of values
 
 -- what a set and the greatest values after it come to in a record, so many of them, where that is above 0
 abbrev pub sized_most : List ℕ → ℕ → List (ℕ × ℤ) → ℤ
-sized_most set room cells = positive_part (values_of set cells +ℤ sum_of (take room (falling (later_values set cells))))
+sized_most set room cells =
+    positive_part (values_of set cells +ℤ sum_of (take room (falling (later_values set cells))))
 
 -- the sum of that over the records that hold the set
 abbrev pub sized_bound : List (List (ℕ × ℤ)) → List ℕ → ℕ → ℤ
 sized_bound [] set room = pos 0
-sized_bound (cells ∷ records) set room = (if holds set cells then sized_most set room cells else pos 0) +ℤ sized_bound records set room
+sized_bound (cells ∷ records) set room =
+    (if holds set cells then sized_most set room cells else pos 0) +ℤ sized_bound records set room
 
 -- the same at a node of a list, by the place of its record and the set's last rank
 abbrev pub most_at : List (List (ℕ × ℤ)) → ℕ → ℕ → Node → ℤ
 most_at records last room node =
-    positive_part (node.own +ℤ sum_of (take room (falling (values_after last (slice_index_or records node.place [])))))
+    positive_part
+    (node.own
+    +ℤ sum_of (take room (falling (values_after last (slice_index_or records node.place [])))))
 
 -- the sum of that over nodes
 abbrev pub most_of : List (List (ℕ × ℤ)) → ℕ → ℕ → List Node → ℤ
@@ -75,9 +102,11 @@ IsList r nodes last = (set : List ℕ) × IsListOf r nodes last set
 
 -- the bound of a list's set
 abbrev pub IsSizedBound : Ranking → List Node → ℕ → ℕ → ℤ → Type 0
-IsSizedBound r nodes last room bound = (set : List ℕ) → IsListOf r nodes last set → bound ≡ sized_bound r.records set room
+IsSizedBound r nodes last room bound = (set : List ℕ) → IsListOf r nodes last set → bound
+    ≡ sized_bound r.records set room
 
 -- no set earns more than a bound that is a list's set with at most so many later ranks
 abbrev pub BoundsSized : Ranking → List Node → ℕ → ℕ → ℤ → Type 0
-BoundsSized r nodes last room bound = (set more : List ℕ) → IsListOf r nodes last set → Ascend (set ++ more) → length more ≤ room
+BoundsSized r nodes last room bound = (set more : List ℕ) → IsListOf r nodes last set
+    → Ascend (set ++ more) → length more ≤ room
     → utility r.records (set ++ more) ≤ℤ bound

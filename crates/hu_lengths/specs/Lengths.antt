@@ -20,4 +20,5 @@ upto_length long entries = filter (λ e. nat_le (length e.key) long) entries
 
 -- the answer among the itemsets of such lengths: those that reach the least utility, each once, in the one order, cut after k
 abbrev pub sized_answer : List (List (ℕ × ℤ)) → ℤ → Option ℕ → ℕ → ℕ → List Entry
-sized_answer records least top short long = cut top (ranking entry_cmp (of_lengths short long (found least (item_patterns records))))
+sized_answer records least top short long =
+    cut top (ranking entry_cmp (of_lengths short long (found least (item_patterns records))))

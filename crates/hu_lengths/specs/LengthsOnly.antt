@@ -41,4 +41,5 @@ Leaves state entry = offered state (entry ∷ []) ≡ state
 -- offered any patterns, it is around what the inner one is that was offered those of these lengths
 abbrev pub MakesSized : ℕ → ℕ → State → Type 0
 MakesSized short long inner = (patterns : List Entry) →
-    offered (sized_state short long inner) patterns ≡ sized_state short long (offered inner (of_lengths short long patterns))
+    offered (sized_state short long inner) patterns
+    ≡ sized_state short long (offered inner (of_lengths short long patterns))

@@ -19,7 +19,8 @@ unfolding entry_cmp
 two_to_three = refl
 
 -- the first two single items
-pub first_two_items : sized_answer base_a (pos 1) (Some 2) 1 1 ≡ entry_of (2 ∷ []) 22 3 ∷ entry_of (1 ∷ []) 20 3 ∷ []
+pub first_two_items : sized_answer base_a (pos 1) (Some 2) 1 1
+    ≡ entry_of (2 ∷ []) 22 3 ∷ entry_of (1 ∷ []) 20 3 ∷ []
 unfolding entry_cmp
 first_two_items = refl
 

@@ -75,7 +75,8 @@ fn total(values: &[i128]) -> i128
 /// The values above 0 after a rank, the greatest first, `room` of them at most.
 fn greatest(alloc: Global, cells: &[Dense], last: u32, room: u32) -> Result<Vec<i128>, NoMemory>
     requires ascending { Ascend (items_in (map dense_pair cells.now)) }
-    ensures { IfOk result (λ best. best.items ≡ take room (falling (values_after last (map dense_pair cells.now)))) }
+    ensures { IfOk result (λ best. best.items ≡ take room
+        (falling (values_after last (map dense_pair cells.now)))) }
 {
     let mut best = Vec::new(alloc);
     for back in 0..cells.len() {
@@ -90,7 +91,10 @@ fn greatest(alloc: Global, cells: &[Dense], last: u32, room: u32) -> Result<Vec<
 
 /// Puts a value above 0 into falling ones, of which the first `room` stay.
 fn keep_above_none(best: &mut Vec<i128>, value: i128, room: u32) -> Result<(), NoMemory>
-    ensures { OnOk result (best.new.items ≡ (if int_lt (pos 0) value then take room (put value best.old.items) else best.old.items)) }
+    ensures { OnOk result
+        (best.new.items
+        ≡ (if int_lt (pos 0) value then take room
+        (put value best.old.items) else best.old.items)) }
 {
     if value > 0 {
         let place = place_of(best, value);

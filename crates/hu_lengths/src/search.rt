@@ -24,7 +24,8 @@ pub fn mine_sized<C: Collect>(
 ) -> Result<(), NoMemory>
     requires ranked_floor { ranked.now.floor ≤ℤ floor_in (sized_in C.state collect.old) }
     requires rests { RestsOn (sized_in C.state collect.old).rule.table ranked.now.items }
-    ensures { Mines (sized_in C.state collect.old) (item_patterns (unranked ranked.now)) (sized_in C.state collect.new) result }
+    ensures { Mines (sized_in C.state collect.old) (item_patterns (unranked ranked.now))
+        (sized_in C.state collect.new) result }
 {
     // These tell the proof the rules of ranked records, and that a floor is at least 1.
     let _records = ranked.records();
@@ -45,7 +46,8 @@ pub fn mine<C: Collect>(
     requires some { 1 ≤ long }
     requires ranked_floor { ranked.now.floor ≤ℤ floor_in (C.state collect.old) }
     requires rests { RestsOn (C.state collect.old).rule.table ranked.now.items }
-    ensures { Mines (C.state collect.old) (upto_length long (item_patterns (unranked ranked.now))) (C.state collect.new) result }
+    ensures { Mines (C.state collect.old) (upto_length long (item_patterns (unranked ranked.now)))
+        (C.state collect.new) result }
 {
     let floor = collect.floor();
     let entries = entries_upto(alloc, ranked, long, floor)?;
@@ -61,7 +63,8 @@ fn entries_upto(
 ) -> Result<Vec<Entry>, NoMemory>
     requires least { pos 1 ≤ℤ floor }
     requires ranked_floor { ranked.now.floor ≤ℤ floor }
-    ensures { IfOk result (λ entries. entries.items ≡ sized_answer (unranked ranked.now) floor None 0 long) }
+    ensures { IfOk result (λ entries. entries.items ≡ sized_answer
+        (unranked ranked.now) floor None 0 long) }
 {
     let mut collect = LengthsOnly::around(All::new(alloc, floor), 0, long);
     mine_sized(alloc, ranked, &mut collect)?;

@@ -7,7 +7,8 @@ use Rattle.hu_lines.specs.Lines.{State, begun, grown, ended_piece, IsHeld}
 
 -- bytes that end with their only line feed are a piece, and what follows them has its own
 abbrev pub WholePieceComesFirst : Type 0
-WholePieceComesFirst = (piece rest : List ℕ) → first_piece piece ≡ piece → has_line_feed piece ≡ true → pieces (piece ++ rest) ≡ piece ∷ pieces rest
+WholePieceComesFirst = (piece rest : List ℕ) → first_piece piece ≡ piece → has_line_feed piece
+    ≡ true → pieces (piece ++ rest) ≡ piece ∷ pieces rest
 
 -- bytes without a line feed are one piece, where there are any
 abbrev pub RestIsOnePiece : Type 0
@@ -15,7 +16,8 @@ RestIsOnePiece = (rest : List ℕ) → has_line_feed rest ≡ false → 0 < leng
 
 -- bytes have their first piece, and then the pieces of what is left
 abbrev pub FirstPieceComesFirst : Type 0
-FirstPieceComesFirst = (bytes : List ℕ) → 0 < length bytes → pieces bytes ≡ first_piece bytes ∷ pieces (drop (length (first_piece bytes)) bytes)
+FirstPieceComesFirst = (bytes : List ℕ) → 0 < length bytes → pieces bytes
+    ≡ first_piece bytes ∷ pieces (drop (length (first_piece bytes)) bytes)
 
 -- what is refused before its line ends stays refused, however the line goes on
 abbrev pub RefusalStands : Type 0
@@ -25,13 +27,18 @@ RefusalStands = (number before : ℕ) (begun more : List ℕ) (fault : LineFault
 -- so it is of the first piece of bytes, whatever bytes come after them
 abbrev pub FirstRefusalStands : Type 0
 FirstRefusalStands = (number before : ℕ) (bytes more : List ℕ) (fault : LineFault)
-    → refusal number before (first_piece bytes) ≡ Some fault → refusal number before (first_piece (bytes ++ more)) ≡ Some fault
+    → refusal number before (first_piece bytes) ≡ Some fault
+    → refusal number before (first_piece (bytes ++ more)) ≡ Some fault
 
 -- of what a `Lines` holds and what comes after it, the piece that has ended comes first
 abbrev pub HeldComesFirst : Type 0
-HeldComesFirst = (s : State) (rest : List ℕ) → IsHeld s → pieces (s.bytes ++ rest) ≡ ended_piece s ++ pieces ((begun s).bytes ++ rest)
+HeldComesFirst = (s : State) (rest : List ℕ) → IsHeld s → pieces (s.bytes ++ rest)
+    ≡ ended_piece s ++ pieces ((begun s).bytes ++ rest)
 
 -- so it is of what was held, a piece that is fed, and what comes after it: what `now` holds has taken the front of the piece
 abbrev pub FedComesFirst : Type 0
-FedComesFirst = (old now : State) (piece rest : List ℕ) → now ≡ grown (begun old) (first_piece piece) → IsHeld now
-    → pieces ((begun old).bytes ++ (piece ++ rest)) ≡ ended_piece now ++ pieces ((begun now).bytes ++ (drop (length (first_piece piece)) piece ++ rest))
+FedComesFirst = (old now : State) (piece rest : List ℕ) → now
+    ≡ grown (begun old) (first_piece piece) → IsHeld now
+    → pieces ((begun old).bytes ++ (piece ++ rest))
+    ≡ ended_piece now ++ pieces ((begun now).bytes
+    ++ (drop (length (first_piece piece)) piece ++ rest))

@@ -1,5 +1,20 @@
 -- The limits of a line and of a run: 1,048,576 bytes of a line before its line feed, 268,435,456 bytes of all files.
-use Rattle.std.specs.Prelude.{ℕ, ◌+◌, ◌==◌, nat_lt, nat_le, not, ◌&&◌, Option, None, Some, List, [], ◌∷◌, if◌then◌else◌}
+use Rattle.std.specs.Prelude.{
+  ℕ,
+  ◌+◌,
+  ◌==◌,
+  nat_lt,
+  nat_le,
+  not,
+  ◌&&◌,
+  Option,
+  None,
+  Some,
+  List,
+  [],
+  ◌∷◌,
+  if◌then◌else◌,
+}
 use Rattle.std.specs.Option.{option_or}
 use Rattle.hu_lines.specs.declared.limits.LineFault.{LineFault}
 use Rattle.hu_lines.specs.declared.limits.LineFault.TheVariants.{LineTooLong, InputTooLarge}
@@ -16,7 +31,8 @@ passed_by longest largest number at before byte =
 abbrev pub first_passed : (longest largest number at before : ℕ) → List ℕ → Option LineFault
 first_passed longest largest number at before [] = None
 first_passed longest largest number at before (byte ∷ bytes) =
-    option_or (passed_by longest largest number at before byte) (first_passed longest largest number (at + 1) (before + 1) bytes)
+    option_or (passed_by longest largest number at before byte)
+    (first_passed longest largest number (at + 1) (before + 1) bytes)
 
 -- the refusal of a piece, whole or not yet ended: it is of line `number`, and begins after `before` bytes of the run
 abbrev pub refusal_under : ℕ → ℕ → ℕ → ℕ → List ℕ → Option LineFault

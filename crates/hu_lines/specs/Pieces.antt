@@ -1,6 +1,19 @@
 -- Bytes are cut into pieces: one for each line feed (byte 10), which ends it, and one more for the bytes after the
 -- last line feed, where there are any. A piece without its line feed and one carriage return (byte 13) is a line.
-use Rattle.std.specs.Prelude.{ℕ, ◌-◌, ◌==◌, Bool, List, [], ◌∷◌, map, length, take, slice_index, if◌then◌else◌}
+use Rattle.std.specs.Prelude.{
+  ℕ,
+  ◌-◌,
+  ◌==◌,
+  Bool,
+  List,
+  [],
+  ◌∷◌,
+  map,
+  length,
+  take,
+  slice_index,
+  if◌then◌else◌,
+}
 use Rattle.std.specs.List.{list_any}
 
 -- whether a line feed stands among bytes
@@ -24,7 +37,8 @@ pieces (b ∷ bs) = if b == 10 then (b ∷ []) ∷ pieces bs else in_front b (pi
 
 -- bytes without one such byte at their end
 abbrev pub without_last : ℕ → List ℕ → List ℕ
-without_last b bytes = if slice_index bytes (length bytes - 1) == b then take (length bytes - 1) bytes else bytes
+without_last b bytes =
+    if slice_index bytes (length bytes - 1) == b then take (length bytes - 1) bytes else bytes
 
 -- a piece without its line feed
 abbrev pub body_of : List ℕ → List ℕ

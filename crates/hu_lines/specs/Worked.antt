@@ -14,7 +14,8 @@ pub no_empty_last_piece : pieces (97 ∷ 10 ∷ []) ≡ (97 ∷ 10 ∷ []) ∷ [
 no_empty_last_piece = refl
 
 -- one carriage return goes with the line feed, and from the end of the last piece; others stay
-pub lines_of_three : lines (13 ∷ 97 ∷ 13 ∷ 13 ∷ 10 ∷ 10 ∷ 98 ∷ 13 ∷ []) ≡ (13 ∷ 97 ∷ 13 ∷ []) ∷ [] ∷ (98 ∷ []) ∷ []
+pub lines_of_three : lines (13 ∷ 97 ∷ 13 ∷ 13 ∷ 10 ∷ 10 ∷ 98 ∷ 13 ∷ [])
+    ≡ (13 ∷ 97 ∷ 13 ∷ []) ∷ [] ∷ (98 ∷ []) ∷ []
 lines_of_three = refl
 
 -- under limits of 3 bytes a line and 10 a run, a line of 3 bytes with its line feed is taken

@@ -1,5 +1,6 @@
 -- Cells after a rank.
-use Rattle.std.proofs.Common.{◌≡◌, ℕ, zero, suc, ◌+◌, ◌<◌, ◌≤◌, Bool, true, false, cond, eqb, nat_lt, ◌&&◌, ◌||◌, ℤ, unsigned_abs, ◌+ℤ◌, List, [], ◌∷◌, length, get_or, drop, inl, inr, refl, ap, arith}
+use Rattle.std.proofs.Common.{◌≡◌, ℕ, zero, suc, ◌+◌, ◌<◌, ◌≤◌, Bool, true, false, cond, eqb, nat_lt, ◌&&◌, ◌||◌, ℤ}
+use Rattle.std.proofs.Common.{unsigned_abs, ◌+ℤ◌, List, [], ◌∷◌, length, get_or, drop, inl, inr, refl, ap, arith}
 use Rattle.std.specs.List.{AllByRecursion}
 use Rattle.std.proofs.lemmas.Bool.{ne_eqb, eq-eqb, eqb-true, ltb-true, ltb-false, lt-ltb, le-ltb}
 use Rattle.std.proofs.lemmas.List.Sums.{sum_by-cons}
@@ -24,7 +25,8 @@ pub value_of-after : (z s : ℕ) (cells : List (ℕ × ℤ)) → z < s → value
 value_of-after z s [] above = refl
 value_of-after z s (cell ∷ cells) above = by (nat_lt z cell.0) refl (value_of-after z s cells above)
   where
-    by : (b : Bool) → nat_lt z cell.0 ≡ b → value_of s (after z cells) ≡ value_of s cells → value_of s (cond b (cell ∷ after z cells) (after z cells)) ≡ value_of s (cell ∷ cells)
+    by : (b : Bool) → nat_lt z cell.0 ≡ b → value_of s (after z cells) ≡ value_of s cells
+        → value_of s (cond b (cell ∷ after z cells) (after z cells)) ≡ value_of s (cell ∷ cells)
     by true h ih = ap (λ r. cond (eqb s cell.0) cell.1 r) ih
     by false h ih = let no : eqb s cell.0 ≡ false = other z s cell above h in rw no ih
 
@@ -32,7 +34,8 @@ pub holds-after : (z : ℕ) (set : List ℕ) (cells : List (ℕ × ℤ)) → All
 holds-after z [] cells above = refl
 holds-after z (s ∷ set) cells above = λ j. has-after z s cells above.0 j && holds-after z set cells above.1 j
 
-pub values_of-after : (z : ℕ) (set : List ℕ) (cells : List (ℕ × ℤ)) → AllByRecursion (λ rank. z < rank) set → values_of set (after z cells) ≡ values_of set cells
+pub values_of-after : (z : ℕ) (set : List ℕ) (cells : List (ℕ × ℤ)) → AllByRecursion (λ rank. z < rank) set
+    → values_of set (after z cells) ≡ values_of set cells
 values_of-after z [] cells above = refl
 values_of-after z (s ∷ set) cells above = λ j. value_of-after z s cells above.0 j +ℤ values_of-after z set cells above.1 j
 
@@ -64,7 +67,8 @@ pub record IsPlace (z : ℕ) (cells : List (ℕ × ℤ)) (value : ℤ) (rest : L
   pub worth : value_of z cells ≡ value
   pub tail : after z cells ≡ rest
 
-pub IsPlace-at : (cells : List (ℕ × ℤ)) (i : ℕ) (d : ℕ × ℤ) → Ascend (items_in cells) → i < length cells → IsPlace (get_or cells i d).0 cells (get_or cells i d).1 (drop (suc i) cells)
+pub IsPlace-at : (cells : List (ℕ × ℤ)) (i : ℕ) (d : ℕ × ℤ) → Ascend (items_in cells) → i < length cells
+    → IsPlace (get_or cells i d).0 cells (get_or cells i d).1 (drop (suc i) cells)
 IsPlace-at [] i d up within = absurd (omega arith)
 IsPlace-at (cell ∷ cells) zero d up within =
     let here : eqb cell.0 cell.0 ≡ true = eq-eqb cell.0 cell.0 refl in
@@ -91,7 +95,12 @@ absolute_of-after z (cell ∷ cells) = by (nat_lt z cell.0) (eqb z cell.0) refl 
     by : (b c : Bool) → nat_lt z cell.0 ≡ b → eqb z cell.0 ≡ c → absolute_of (after z cells) + unsigned_abs (value_of z cells) ≤ absolute_of cells
         → absolute_of (cond b (cell ∷ after z cells) (after z cells)) + unsigned_abs (cond c cell.1 (value_of z cells)) ≤ absolute_of (cell ∷ cells)
     by true true h e ih = let low = ltb-true z cell.0 h in let same = eqb-true z cell.0 e in absurd (omega arith)
-    by true false h e ih = omega (arith, sum_by-cons (λ (c : ℕ × ℤ). unsigned_abs c.1) cell (after z cells), sum_by-cons (λ (c : ℕ × ℤ). unsigned_abs c.1) cell cells)
+    by true false h e ih =
+        omega (
+          arith,
+          sum_by-cons (λ (c : ℕ × ℤ). unsigned_abs c.1) cell (after z cells),
+          sum_by-cons (λ (c : ℕ × ℤ). unsigned_abs c.1) cell cells,
+        )
     by false true h e ih = omega (arith, sum_by-cons (λ (c : ℕ × ℤ). unsigned_abs c.1) cell cells)
     by false false h e ih = omega (arith, sum_by-cons (λ (c : ℕ × ℤ). unsigned_abs c.1) cell cells)
 

@@ -1,5 +1,6 @@
 -- The children that are chosen to be entered, and their tails.
-use Rattle.std.proofs.Common.{◌≡◌, ℕ, zero, suc, ◌<◌, true, false, eqb, ℤ, ◌≤ℤ◌, ◌<ℤ◌, List, [], ◌∷◌, length, get_or, take, inl, inr, ◌⊎◌, sym, ◌∙◌, subst, arith, Contains, nat_eq}
+use Rattle.std.proofs.Common.{◌≡◌, ℕ, zero, suc, ◌<◌, true, false, eqb, ℤ, ◌≤ℤ◌, ◌<ℤ◌, List, [], ◌∷◌, length, get_or}
+use Rattle.std.proofs.Common.{take, inl, inr, ◌⊎◌, sym, ◌∙◌, subst, arith, Contains, nat_eq}
 use Rattle.std.specs.List.{AllByRecursion, IsDistinct}
 use Rattle.std.specs.List.Sorted.{IsPermutation}
 use Rattle.std.proofs.lemmas.Bool.{eq-eqb, cases_eq, ne_eqb}
@@ -26,7 +27,8 @@ member-take child (suc n) (c ∷ cs) (inl e) = inl e
 member-take child (suc n) (c ∷ cs) (inr m) = inr (member-take child n cs m)
 
 -- a child is among the first, or its bound is no greater than that of the next
-parts : (floor : ℤ) (children : List Child) (n : ℕ) (child : Child) → Fall children → ((d : Child) → n < length children → (get_or children n d).bound <ℤ floor) → Member child children
+parts : (floor : ℤ) (children : List Child) (n : ℕ) (child : Child) → Fall children
+    → ((d : Child) → n < length children → (get_or children n d).bound <ℤ floor) → Member child children
     → Member child (take n children) ⊎ (child.bound <ℤ floor)
 parts floor [] n child fall cut m = absurd m
 parts floor (c ∷ cs) zero child fall cut (inl e) = inr (let low = cut c (omega arith) in subst (λ (x : Child). x.bound <ℤ floor) e low)
@@ -44,7 +46,8 @@ distinct-take zero xs once = tt
 distinct-take (suc n) [] once = tt
 distinct-take (suc n) (x ∷ xs) once = (front n xs once.0, distinct-take n xs once.1)
   where
-    front : (n : ℕ) (cs : List Child) → AllByRecursion (λ y. eqb x.rank y ≡ false) (ranks_of cs) → AllByRecursion (λ y. eqb x.rank y ≡ false) (ranks_of (take n cs))
+    front : (n : ℕ) (cs : List Child) → AllByRecursion (λ y. eqb x.rank y ≡ false) (ranks_of cs)
+        → AllByRecursion (λ y. eqb x.rank y ≡ false) (ranks_of (take n cs))
     front zero cs all = tt
     front (suc n) [] all = tt
     front (suc n) (c ∷ cs) all = (all.0, front n cs all.1)
@@ -65,5 +68,6 @@ chosen-is floor children sorted n same fall once cut = record {
     | inl here ↦ inl (Contains-from_member child (take n sorted) here)
     | inr low ↦ inr low
   ];
-  once = distinct-take n sorted (IsDistinct-IsPermutation nat_eq flips (ranks_of children) (ranks_of sorted) (IsPermutation-map (λ (child : Child). child.rank) children sorted same) once);
+  once = distinct-take n sorted (IsDistinct-IsPermutation nat_eq flips (ranks_of children) (ranks_of sorted)
+      (IsPermutation-map (λ (child : Child). child.rank) children sorted same) once);
 }

@@ -1,5 +1,7 @@
 -- What passes over tails come to: sums of what sets with a rank more earn, bounds on them, and their tails.
-use Rattle.std.proofs.Common.{◌≡◌, ℕ, ◌+◌, ◌<◌, Bool, true, false, cond, eqb, nat_lt, ◌&&◌, ℤ, pos, ◌+ℤ◌, ◌≤ℤ◌, List, [], ◌∷◌, ◌++◌, length, filter, inl, inr, refl, sym, ap, ◌∙◌, subst, arith, append_assoc, append-nil}
+use Rattle.std.proofs.Common.{◌≡◌, ℕ, ◌+◌, ◌<◌, Bool, true, false, cond, eqb, nat_lt, ◌&&◌, ℤ, pos, ◌+ℤ◌, ◌≤ℤ◌, List}
+use Rattle.std.proofs.Common.{[], ◌∷◌, ◌++◌, length, filter, inl, inr, refl, sym, ap, ◌∙◌, subst, arith, append_assoc}
+use Rattle.std.proofs.Common.{append-nil}
 use Rattle.std.specs.List.{AllByRecursion}
 use Rattle.std.proofs.lemmas.Bool.{ne_eqb, eq-eqb, eqb-true, and_parts, or_cases, cases_eq, le-ltb}
 use Rattle.std.proofs.lemmas.Int.{ints}
@@ -29,11 +31,13 @@ has-among z (s ∷ set) cells m h =
 -- a rank that all cells are above doesn't stand among them
 has-below : (z : ℕ) (cells : List (ℕ × ℤ)) → AllByRecursion (λ y. z < y) (items_in cells) → has z cells ≡ false
 has-below z [] below = refl
-has-below z (cell ∷ cells) below = let other : eqb z cell.0 ≡ false = ne_eqb z cell.0 (λ e. let low = below.0 in absurd (omega arith)) in rw other (has-below z cells below.1)
+has-below z (cell ∷ cells) below = let other : eqb z cell.0 ≡ false =
+    ne_eqb z cell.0 (λ e. let low = below.0 in absurd (omega arith)) in rw other (has-below z cells below.1)
 
 -- what a pass leaves at a rank: what its cell makes, by the cells after it
 module _ {A : Type 0} (make : ℕ × ℤ → List (ℕ × ℤ) → A → A) (z : ℕ) where
-  pub met-is : (cells : List (ℕ × ℤ)) (a : A) → Ascend (items_in cells) → met make z cells a ≡ cond (has z cells) (make (z, value_of z cells) (after z cells) a) a
+  pub met-is : (cells : List (ℕ × ℤ)) (a : A) → Ascend (items_in cells) → met make z cells a
+      ≡ cond (has z cells) (make (z, value_of z cells) (after z cells) a) a
   met-is [] a up = refl
   met-is (cell ∷ cells) a up = elim (cases_eq z cell.0) [
     | inl e ↦
@@ -50,7 +54,9 @@ module _ {A : Type 0} (make : ℕ × ℤ → List (ℕ × ℤ) → A → A) (z :
     where
       by : (b : Bool) → has z cells ≡ b → cond b (make (z, value_of z cells) (after z cells) a) a
           ≡ cond b (make (z, value_of z cells) (cond (nat_lt z cell.0) (cell ∷ after z cells) (after z cells)) a) a
-      by true h = let low = at_member (λ y. cell.0 < y) z (items_in cells) up.0 (has-member z cells h) in let no : nat_lt z cell.0 ≡ false = le-ltb z cell.0 (omega (arith, low)) in rw no refl
+      by true h = let low =
+          at_member (λ y. cell.0 < y) z (items_in cells) up.0 (has-member z cells h) in let no : nat_lt z cell.0
+          ≡ false = le-ltb z cell.0 (omega (arith, low)) in rw no refl
       by false h = refl
 
 -- the ranks of each tail ascend
@@ -59,14 +65,16 @@ AllUp tails = AllByRecursion (λ tail. Ascend (items_in tail.cells)) tails
 
 -- ---- gains
 
-gained-one : (keep : List ℕ) (z : ℕ) (tail : TailOf) (a : ℤ) → Ascend (items_in tail.cells) → among z keep ≡ true → met (gaining keep tail) z tail.cells a ≡ a +ℤ cond (has z tail.cells) (share keep tail) (pos 0)
+gained-one : (keep : List ℕ) (z : ℕ) (tail : TailOf) (a : ℤ) → Ascend (items_in tail.cells) → among z keep ≡ true
+    → met (gaining keep tail) z tail.cells a ≡ a +ℤ cond (has z tail.cells) (share keep tail) (pos 0)
 gained-one keep z tail a up kept = met-is (gaining keep tail) z tail.cells a up ∙ rw kept (by (has z tail.cells))
   where
     by : (b : Bool) → cond b (a +ℤ share keep tail) a ≡ a +ℤ cond b (share keep tail) (pos 0)
     by true = refl
     by false = omega (arith, ints)
 
-pub gained : (keep : List ℕ) (z : ℕ) (tails : List TailOf) (a : ℤ) → AllUp tails → among z keep ≡ true → met_in (gaining keep) z tails a ≡ a +ℤ gain_with keep tails z
+pub gained : (keep : List ℕ) (z : ℕ) (tails : List TailOf) (a : ℤ) → AllUp tails → among z keep ≡ true
+    → met_in (gaining keep) z tails a ≡ a +ℤ gain_with keep tails z
 gained keep z [] a ups kept = omega (arith, ints)
 gained keep z (tail ∷ tails) a ups kept =
     let one = gained-one keep z tail a ups.0 kept in
@@ -94,21 +102,25 @@ gain-unheld keep z (tail ∷ tails) none = by (has z tail.cells) none (gain-unhe
     by true none rest = absurd (omega (arith, none))
     by false none rest = let zero = rest (omega (arith, none)) in omega (arith, ints, zero)
 
-earned-share : (keep set : List ℕ) (z : ℕ) (tail : TailOf) → Ascend (items_in tail.cells) → Ascend set → AllByRecursion (λ rank. among rank keep ≡ true) set → among z set ≡ true
+earned-share : (keep set : List ℕ) (z : ℕ) (tail : TailOf) → Ascend (items_in tail.cells) → Ascend set
+    → AllByRecursion (λ rank. among rank keep ≡ true) set → among z set ≡ true
     → cond (holds set tail.cells) (tail.own +ℤ values_of set tail.cells) (pos 0) ≤ℤ cond (has z tail.cells) (share keep tail) (pos 0)
 earned-share keep set z tail up rise kept m = by (holds set tail.cells) (has z tail.cells) refl refl
   where
-    by : (b c : Bool) → holds set tail.cells ≡ b → has z tail.cells ≡ c → cond b (tail.own +ℤ values_of set tail.cells) (pos 0) ≤ℤ cond c (share keep tail) (pos 0)
+    by : (b c : Bool) → holds set tail.cells ≡ b → has z tail.cells ≡ c
+        → cond b (tail.own +ℤ values_of set tail.cells) (pos 0) ≤ℤ cond c (share keep tail) (pos 0)
     by true true h k = omega (arith, ints, positive-above (tail.own +ℤ kept_gain keep tail.cells), values_of-kept keep tail.cells set up rise kept h)
     by true false h k = let there = has-among z set tail.cells m h in cc
     by false true h k = positive-least (tail.own +ℤ kept_gain keep tail.cells)
     by false false h k = omega (arith, ints)
 
 -- no set of kept ranks earns more than any of its ranks gains
-pub earned-gain : (keep set : List ℕ) (z : ℕ) (tails : List TailOf) → AllUp tails → Ascend set → AllByRecursion (λ rank. among rank keep ≡ true) set → among z set ≡ true
+pub earned-gain : (keep set : List ℕ) (z : ℕ) (tails : List TailOf) → AllUp tails → Ascend set
+    → AllByRecursion (λ rank. among rank keep ≡ true) set → among z set ≡ true
     → earned tails set ≤ℤ gain_with keep tails z
 earned-gain keep set z [] ups rise kept m = omega (arith, ints)
-earned-gain keep set z (tail ∷ tails) ups rise kept m = omega (arith, ints, earned-share keep set z tail ups.0 rise kept m, earned-gain keep set z tails ups.1 rise kept m)
+earned-gain keep set z (tail ∷ tails) ups rise kept m =
+    omega (arith, ints, earned-share keep set z tail ups.0 rise kept m, earned-gain keep set z tails ups.1 rise kept m)
 
 -- ---- sums
 
@@ -116,18 +128,22 @@ summed-one : (keep : List ℕ) (z : ℕ) (tail : TailOf) (a : Sum) → Ascend (i
     → met (summing keep tail) z tail.cells a ≡ cond (has z tail.cells) (sum_with a (tail.own +ℤ value_of z tail.cells) (kept_gain keep (after z tail.cells))) a
 summed-one keep z tail a up kept = met-is (summing keep tail) z tail.cells a up ∙ rw kept refl
 
-pub summed-support : (keep : List ℕ) (z : ℕ) (tails : List TailOf) (a : Sum) → AllUp tails → among z keep ≡ true → (met_in (summing keep) z tails a).support ≡ a.support + held tails (z ∷ [])
+pub summed-support : (keep : List ℕ) (z : ℕ) (tails : List TailOf) (a : Sum) → AllUp tails → among z keep ≡ true
+    → (met_in (summing keep) z tails a).support ≡ a.support + held tails (z ∷ [])
 summed-support keep z [] a ups kept = omega arith
 summed-support keep z (tail ∷ tails) a ups kept =
     let one = ap (λ (s : Sum). s.support) (summed-one keep z tail a ups.0 kept) in
     let rest = summed-support keep z tails (met (summing keep tail) z tail.cells a) ups.1 kept in
     omega (arith, rest, one, by (has z tail.cells))
   where
-    by : (b : Bool) → (cond b (sum_with a (tail.own +ℤ value_of z tail.cells) (kept_gain keep (after z tail.cells))) a).support ≡ a.support + cond (b && true) 1 0
+    by : (b : Bool)
+        → (cond b (sum_with a (tail.own +ℤ value_of z tail.cells) (kept_gain keep (after z tail.cells))) a).support
+        ≡ a.support + cond (b && true) 1 0
     by true = refl
     by false = omega arith
 
-pub summed-utility : (keep : List ℕ) (z : ℕ) (tails : List TailOf) (a : Sum) → AllUp tails → among z keep ≡ true → (met_in (summing keep) z tails a).utility ≡ a.utility +ℤ earned tails (z ∷ [])
+pub summed-utility : (keep : List ℕ) (z : ℕ) (tails : List TailOf) (a : Sum) → AllUp tails → among z keep ≡ true
+    → (met_in (summing keep) z tails a).utility ≡ a.utility +ℤ earned tails (z ∷ [])
 summed-utility keep z [] a ups kept = omega (arith, ints)
 summed-utility keep z (tail ∷ tails) a ups kept =
     let one = ap (λ (s : Sum). s.utility) (summed-one keep z tail a ups.0 kept) in
@@ -139,7 +155,8 @@ summed-utility keep z (tail ∷ tails) a ups kept =
     by true = omega (arith, ints)
     by false = omega (arith, ints)
 
-earned-most : (keep more : List ℕ) (z : ℕ) (tail : TailOf) → Ascend (items_in tail.cells) → Ascend (z ∷ more) → AllByRecursion (λ rank. among rank keep ≡ true) more
+earned-most : (keep more : List ℕ) (z : ℕ) (tail : TailOf) → Ascend (items_in tail.cells) → Ascend (z ∷ more)
+    → AllByRecursion (λ rank. among rank keep ≡ true) more
     → cond (has z tail.cells && holds more tail.cells) (tail.own +ℤ (value_of z tail.cells +ℤ values_of more tail.cells)) (pos 0)
     ≤ℤ cond (has z tail.cells) (positive_part (tail.own +ℤ value_of z tail.cells +ℤ kept_gain keep (after z tail.cells))) (pos 0)
 earned-most keep more z tail up rise kept = by (has z tail.cells) (holds more tail.cells) refl
@@ -148,12 +165,19 @@ earned-most keep more z tail up rise kept = by (has z tail.cells) (holds more ta
         ≤ℤ cond b (positive_part (tail.own +ℤ value_of z tail.cells +ℤ kept_gain keep (after z tail.cells))) (pos 0)
     by true true h =
         let inside = values_of-kept keep (after z tail.cells) more (Ascend-after z tail.cells up) rise.1 kept (holds-after z more tail.cells rise.0 ∙ h) in
-        omega (arith, ints, positive-above (tail.own +ℤ value_of z tail.cells +ℤ kept_gain keep (after z tail.cells)), inside, values_of-after z more tail.cells rise.0)
+        omega (
+          arith,
+          ints,
+          positive-above (tail.own +ℤ value_of z tail.cells +ℤ kept_gain keep (after z tail.cells)),
+          inside,
+          values_of-after z more tail.cells rise.0,
+        )
     by true false h = positive-least (tail.own +ℤ value_of z tail.cells +ℤ kept_gain keep (after z tail.cells))
     by false c h = omega (arith, ints)
 
 -- no set that grows one by a rank and then by later kept ones earns more than the rank's bound
-pub summed-bound : (keep more : List ℕ) (z : ℕ) (tails : List TailOf) (a : Sum) → AllUp tails → among z keep ≡ true → Ascend (z ∷ more) → AllByRecursion (λ rank. among rank keep ≡ true) more
+pub summed-bound : (keep more : List ℕ) (z : ℕ) (tails : List TailOf) (a : Sum) → AllUp tails → among z keep ≡ true
+    → Ascend (z ∷ more) → AllByRecursion (λ rank. among rank keep ≡ true) more
     → (a.bound +ℤ earned tails (z ∷ more)) ≤ℤ (met_in (summing keep) z tails a).bound
 summed-bound keep more z [] a ups kept rise all = omega (arith, ints)
 summed-bound keep more z (tail ∷ tails) a ups kept rise all =
@@ -177,12 +201,15 @@ grew-one keep z tail a up kept = met-is (growing keep tail) z tail.cells a up �
     some true = refl
     some false = sym (append-nil a)
 
-    by : (b : Bool) → cond b (cond (nat_lt 0 (length (after z tail.cells))) (a ++ (record { own = tail.own +ℤ value_of z tail.cells; cells = after z tail.cells }) ∷ []) a) a
+    by : (b : Bool)
+        → cond b (cond (nat_lt 0 (length (after z tail.cells)))
+        (a ++ (record { own = tail.own +ℤ value_of z tail.cells; cells = after z tail.cells }) ∷ []) a) a
         ≡ a ++ filter has_cells (cond b ((record { own = tail.own +ℤ value_of z tail.cells; cells = after z tail.cells }) ∷ []) [])
     by true = some (nat_lt 0 (length (after z tail.cells)))
     by false = sym (append-nil a)
 
-pub grew : (keep : List ℕ) (z : ℕ) (tails : List TailOf) (a : List TailOf) → AllUp tails → among z keep ≡ true → met_in (growing keep) z tails a ≡ a ++ filter has_cells (grown z tails)
+pub grew : (keep : List ℕ) (z : ℕ) (tails : List TailOf) (a : List TailOf) → AllUp tails → among z keep ≡ true
+    → met_in (growing keep) z tails a ≡ a ++ filter has_cells (grown z tails)
 grew keep z [] a ups kept = sym (append-nil a)
 grew keep z (tail ∷ tails) a ups kept =
     grew keep z tails (met (growing keep tail) z tail.cells a) ups.1 kept

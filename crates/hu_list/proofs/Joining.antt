@@ -7,11 +7,20 @@ use Rattle.hu_list.specs.Joins.{Joins}
 use Rattle.hu_list.proofs.ListLemmas.{AreRanked-ranking}
 
 -- the lists of two ranks
-pub Joins-single : (r : Ranking) → IsRanking r → (x y : List Node) (a b : ℕ) → a < b → x ≡ list_of r.records (a ∷ []) → y ≡ list_of r.records (b ∷ []) → Joins None x y r.records [] a b
-Joins-single r rules x y a b below x_is y_is = record { ranked = AreRanked-ranking r rules; ascending = ((below, tt), (tt, tt)); prefix_is = refl; x_is = x_is; y_is = y_is }
+pub Joins-single : (r : Ranking) → IsRanking r → (x y : List Node) (a b : ℕ) → a < b → x ≡ list_of r.records (a ∷ [])
+    → y ≡ list_of r.records (b ∷ []) → Joins None x y r.records [] a b
+Joins-single r rules x y a b below x_is y_is =
+    record {
+      ranked = AreRanked-ranking r rules;
+      ascending = ((below, tt), (tt, tt));
+      prefix_is = refl;
+      x_is = x_is;
+      y_is = y_is;
+    }
 
 -- the lists of one rank with each of two later ones
-pub Joins-double : (r : Ranking) → IsRanking r → (prefix x y : List Node) (a b c : ℕ) → a < b → b < c → prefix ≡ list_of r.records (a ∷ []) → x ≡ list_of r.records (a ∷ b ∷ []) → y ≡ list_of r.records (a ∷ c ∷ [])
+pub Joins-double : (r : Ranking) → IsRanking r → (prefix x y : List Node) (a b c : ℕ) → a < b → b < c → prefix
+    ≡ list_of r.records (a ∷ []) → x ≡ list_of r.records (a ∷ b ∷ []) → y ≡ list_of r.records (a ∷ c ∷ [])
     → Joins (Some prefix) x y r.records (a ∷ []) b c
 Joins-double r rules prefix x y a b c below above prefix_is x_is y_is = record {
   ranked = AreRanked-ranking r rules;

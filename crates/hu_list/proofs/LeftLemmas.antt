@@ -1,5 +1,8 @@
 -- What the tails of a set say of its children.
-use Rattle.std.proofs.Common.{◌≡◌, ℕ, zero, suc, ◌+◌, ◌<◌, Bool, true, false, cond, eqb, ◌||◌, ◌&&◌, ℤ, pos, ◌≤ℤ◌, ◌<ℤ◌, Option, None, Some, List, [], ◌∷◌, ◌++◌, length, get_or, take, inl, inr, ◌⊎◌, refl, sym, ap, ◌∙◌, subst, arith, Contains, nat_eq, append-nil, IfSome, MatchOption, Result, Ok, Err, IfOk}
+use Rattle.std.proofs.Common.{◌≡◌, ℕ, zero, suc, ◌+◌, ◌<◌, Bool, true, false, cond, eqb, ◌||◌, ◌&&◌, ℤ, pos, ◌≤ℤ◌, ◌<ℤ◌}
+use Rattle.std.proofs.Common.{Option, None, Some, List, [], ◌∷◌, ◌++◌, length, get_or, take, inl, inr, ◌⊎◌, refl, sym}
+use Rattle.std.proofs.Common.{ap, ◌∙◌, subst, arith, Contains, nat_eq, append-nil, IfSome, MatchOption, Result, Ok, Err}
+use Rattle.std.proofs.Common.{IfOk}
 use Rattle.std.specs.Prelude.{⊤}
 use Rattle.std.specs.List.{AllByRecursion, IsDistinct}
 use Rattle.std.proofs.Math.Bool.{or-true}
@@ -54,7 +57,8 @@ at-has P cells z all h = at_member P z (items_in cells) all (has-member z cells 
 up-to : (set : List ℕ) (cells : List (ℕ × ℤ)) (z : ℕ) → Ascend (set ++ items_in cells) → has z cells ≡ true → Ascend (set ++ z ∷ [])
 up-to [] cells z up h = (tt, tt)
 up-to (x ∷ set) cells z up h = (
-  each-append (λ y. x < y) set (z ∷ []) (each-left (λ y. x < y) set (items_in cells) up.0) (at-has (λ y. x < y) cells z (each-right (λ y. x < y) set (items_in cells) up.0) h, tt),
+  each-append (λ y. x < y) set (z ∷ []) (each-left (λ y. x < y) set (items_in cells) up.0)
+      (at-has (λ y. x < y) cells z (each-right (λ y. x < y) set (items_in cells) up.0) h, tt),
   up-to set cells z up.1 h,
 )
 
@@ -63,7 +67,8 @@ record IsHeld (n : ℕ) (set : List ℕ) (z : ℕ) : Type 0 where
   later : Ascend (set ++ z ∷ [])
   within : z < n
 
-held-later : (n : ℕ) (set : List ℕ) (z : ℕ) (tails : List TailOf) → AllByRecursion (IsTail n) tails → AllByRecursion (λ tail. Ascend (set ++ items_in tail.cells)) tails → 0 < held tails (z ∷ []) → IsHeld n set z
+held-later : (n : ℕ) (set : List ℕ) (z : ℕ) (tails : List TailOf) → AllByRecursion (IsTail n) tails
+    → AllByRecursion (λ tail. Ascend (set ++ items_in tail.cells)) tails → 0 < held tails (z ∷ []) → IsHeld n set z
 held-later n set z [] each later some = absurd (omega (arith, some))
 held-later n set z (tail ∷ tails) each later some = by (has z tail.cells) refl some (held-later n set z tails each.1 later.1)
   where
@@ -90,7 +95,9 @@ module _ (r : Ranking) (set : List ℕ) (tails : List TailOf) (left : IsLeft r s
       some_or_none (suc n) h = omega arith
 
       by : (b : Bool) → among z keep ≡ b → 0 < held tails (z ∷ [])
-      by true kept = some_or_none (held tails (z ∷ [])) (λ none. let zero = gain-unheld keep z tails none in let is = gain-is keep z kept in absurd (omega (arith, ints, zero, is, high)))
+      by true kept =
+          some_or_none (held tails (z ∷ [])) (λ none. let zero = gain-unheld keep z tails none in let is =
+          gain-is keep z kept in absurd (omega (arith, ints, zero, is, high)))
       by false out = let is = gained-out keep z tails (pos 0) ups out in absurd (omega (arith, ints, is, high))
 
   held-rank : (keep : List ℕ) (z : ℕ) → pos 1 ≤ℤ met_in (gaining keep) z tails (pos 0) → IsHeld (length r.items) set z
@@ -103,8 +110,11 @@ module _ (r : Ranking) (set : List ℕ) (tails : List TailOf) (left : IsLeft r s
   rank-within keep z high = let is = held-rank keep z high in is.within
 
   -- the ranks that are kept are enough
-  pub enough-kept : (s : State) (Right : List (List (ℕ × ℤ)) → Type 0) (gate : ℤ) (last : Option ℕ) (gain : ℕ → ℤ) (keep found kept : List ℕ) → AreEnough s r set keep → gate ≤ℤ floor_in s → Right r.records
-      → ((last' : ℕ) → last ≡ Some last' → Contains set last') → ((z : ℕ) → gain z ≡ met_in (gaining keep) z tails (pos 0)) → ((z : ℕ) → among z found ≡ false → gain z ≡ pos 0) → pos 1 ≤ℤ floor_in s
+  pub enough-kept : (s : State) (Right : List (List (ℕ × ℤ)) → Type 0) (gate : ℤ) (last : Option ℕ) (gain : ℕ → ℤ)
+      (keep found kept : List ℕ) → AreEnough s r set keep → gate ≤ℤ floor_in s → Right r.records
+      → ((last' : ℕ) → last ≡ Some last' → Contains set last')
+      → ((z : ℕ) → gain z ≡ met_in (gaining keep) z tails (pos 0))
+      → ((z : ℕ) → among z found ≡ false → gain z ≡ pos 0) → pos 1 ≤ℤ floor_in s
       → AreKept Right gate (floor_in s) last gain found kept → AreEnough s r set kept
   enough-kept s Right gate last gain keep found kept enough low right lasts is out least are [] up occurs counts = tt
   enough-kept s Right gate last gain keep found kept enough low right lasts is out least are (m ∷ ms) up occurs counts =
@@ -130,7 +140,9 @@ module _ (r : Ranking) (set : List ℕ) (tails : List TailOf) (left : IsLeft r s
           on : (l : Option ℕ) → last ≡ l → IsRefused Right gate l z → ⊥
           on None e bars = bars
           on (Some a) e bars =
-              let under = bars r.records right (set ++ m ∷ ms) up (Contains-from_member a (set ++ m ∷ ms) (Member-append_left a set (m ∷ ms) (Member-from_contains a set (lasts a e))))
+              let under =
+              bars r.records right (set ++ m ∷ ms) up (Contains-from_member a (set ++ m ∷ ms)
+              (Member-append_left a set (m ∷ ms) (Member-from_contains a set (lasts a e))))
               (Contains-from_member z (set ++ m ∷ ms) (Member-append_right z set (m ∷ ms) c)) in
               let high = counts.high in
               absurd (omega (arith, ints, under, high, low))
@@ -165,7 +177,8 @@ module _ (r : Ranking) (set : List ℕ) (tails : List TailOf) (left : IsLeft r s
         support = omega (arith, n, n', en);
       }
 
-  pub most-is : (keep : List ℕ) (child : Child) → among child.rank keep ≡ true → sum_of child ≡ met_in (summing keep) child.rank tails no_sum → IsMost r set keep child
+  pub most-is : (keep : List ℕ) (child : Child) → among child.rank keep ≡ true → sum_of child
+      ≡ met_in (summing keep) child.rank tails no_sum → IsMost r set keep child
   most-is keep child kept is more up all =
       let b = ap (λ (s : Sum). s.bound) is in
       let same = left.utility child.rank more up in
@@ -188,12 +201,16 @@ among-push z (x ∷ xs) y = ap (λ b. eqb z x || b) (among-push z xs y) ∙ by (
     by false = refl
 
 -- a rank at a place has the value there
-pub value-at : (ranks : List ℕ) (gains : List ℤ) (i : ℕ) → IsDistinct nat_eq ranks → i < length ranks → length gains ≡ length ranks → at (pos 0) ranks gains (get_or ranks i 0) ≡ get_or gains i (pos 0)
+pub value-at : (ranks : List ℕ) (gains : List ℤ) (i : ℕ) → IsDistinct nat_eq ranks → i < length ranks → length gains
+    ≡ length ranks → at (pos 0) ranks gains (get_or ranks i 0) ≡ get_or gains i (pos 0)
 value-at ranks gains i once within len =
-    at-place (pos 0) ranks gains (get_or ranks i 0) i (record { within = within; here = refl; first = distinct-before ranks i 0 once within }) (omega (arith, within, len))
+    at-place (pos 0) ranks gains (get_or ranks i 0) i
+    (record { within = within; here = refl; first = distinct-before ranks i 0 once within })
+    (omega (arith, within, len))
 
 -- a rank isn't kept before its turn
-pub kept-fresh : (ranks kept : List ℕ) (i : ℕ) → IsDistinct nat_eq ranks → i < length ranks → ((z : ℕ) → among z kept ≡ true → among z (take i ranks) ≡ true) → among (get_or ranks i 0) kept ≡ false
+pub kept-fresh : (ranks kept : List ℕ) (i : ℕ) → IsDistinct nat_eq ranks → i < length ranks
+    → ((z : ℕ) → among z kept ≡ true → among z (take i ranks) ≡ true) → among (get_or ranks i 0) kept ≡ false
 kept-fresh ranks kept i once within before =
     false_from (among (get_or ranks i 0) kept) (λ m. false≢true (sym (distinct-before ranks i 0 once within) ∙ before (get_or ranks i 0) m))
 
@@ -201,8 +218,11 @@ module _ (ranks kept kept' : List ℕ) (i : ℕ) (stays : Bool) (within : i < le
   kept-cases : (z : ℕ) → among z kept' ≡ true → (among z kept ≡ true) ⊎ ((stays ≡ true) × (z ≡ get_or ranks i 0))
   kept-cases z m = by stays refl (subst (λ ks. among z ks ≡ true) is m)
     where
-      by : (b : Bool) → stays ≡ b → among z (kept ++ cond b (get_or ranks i 0 ∷ []) []) ≡ true → (among z kept ≡ true) ⊎ ((stays ≡ true) × (z ≡ get_or ranks i 0))
-      by true e m = elim (or_cases (among z kept) (eqb z (get_or ranks i 0)) (sym (among-push z kept (get_or ranks i 0)) ∙ m)) [ inl a ↦ inl a | inr b ↦ inr (e, eqb-true z (get_or ranks i 0) b) ]
+      by : (b : Bool) → stays ≡ b → among z (kept ++ cond b (get_or ranks i 0 ∷ []) []) ≡ true
+          → (among z kept ≡ true) ⊎ ((stays ≡ true) × (z ≡ get_or ranks i 0))
+      by true e m =
+          elim (or_cases (among z kept) (eqb z (get_or ranks i 0)) (sym (among-push z kept (get_or ranks i 0)) ∙ m))
+          [ inl a ↦ inl a | inr b ↦ inr (e, eqb-true z (get_or ranks i 0) b) ]
       by false e m = inl (subst (λ ks. among z ks ≡ true) (append-nil kept) m)
 
   kept-before : (z : ℕ) → among z kept ≡ true → among z kept' ≡ true
@@ -226,10 +246,12 @@ module _ (ranks kept kept' : List ℕ) (i : ℕ) (stays : Bool) (within : i < le
   pub before-more : ((z : ℕ) → among z kept ≡ true → among z (take i ranks) ≡ true) → (z : ℕ) → among z kept' ≡ true → among z (take (i + 1) ranks) ≡ true
   before-more before z m = elim (kept-cases z m) [
     | inl earlier ↦ taken-more z ∙ ap (λ b. b || eqb z (get_or ranks i 0)) (before z earlier)
-    | inr now ↦ let here : eqb z (get_or ranks i 0) ≡ true = eq-eqb z (get_or ranks i 0) now.1 in taken-more z ∙ ap (λ b. among z (take i ranks) || b) here ∙ or-true (among z (take i ranks))
+    | inr now ↦ let here : eqb z (get_or ranks i 0) ≡ true = eq-eqb z (get_or ranks i 0) now.1 in taken-more z
+        ∙ ap (λ b. among z (take i ranks) || b) here ∙ or-true (among z (take i ranks))
   ]
 
-  pub kept-more : (Right : List (List (ℕ × ℤ)) → Type 0) (gate floor : ℤ) (last : Option ℕ) (gain : ℕ → ℤ) → AreKept Right gate floor last gain (take i ranks) kept
+  pub kept-more : (Right : List (List (ℕ × ℤ)) → Type 0) (gate floor : ℤ) (last : Option ℕ) (gain : ℕ → ℤ)
+      → AreKept Right gate floor last gain (take i ranks) kept
       → (stays ≡ true → floor ≤ℤ gain (get_or ranks i 0)) → (stays ≡ false → (gain (get_or ranks i 0) <ℤ floor) ⊎ IsRefused Right gate last (get_or ranks i 0))
       → AreKept Right gate floor last gain (take (i + 1) ranks) kept'
   kept-more Right gate floor last gain are high low = record {
@@ -269,17 +291,23 @@ each-child P Q all (child ∷ children) one inside each =
       each-child P Q all children one (λ z m. inside z (ap (λ b. eqb z child.rank || b) m ∙ or-true (eqb z child.rank))) each.1,
     )
 
-pub level-is : (r : Ranking) (set : List ℕ) (tails : List TailOf) (s : State) (Right : List (List (ℕ × ℤ)) → Type 0) (gate : ℤ) (last : Option ℕ) (keep found kept : List ℕ) (gains : List ℤ) (sums : List Sum)
-    (children : List Child) → IsLeft r set tails → InTable r set → AreEnough s r set keep → gate ≤ℤ floor_in s → Right r.records → IfSome last (Contains set) → pos 1 ≤ℤ floor_in s
-    → ((z : ℕ) → at (pos 0) found gains z ≡ met_in (gaining keep) z tails (pos 0)) → AreKept Right gate (floor_in s) last (at (pos 0) found gains) found kept → IsDistinct nat_eq kept
+pub level-is : (r : Ranking) (set : List ℕ) (tails : List TailOf) (s : State) (Right : List (List (ℕ × ℤ)) → Type 0)
+    (gate : ℤ) (last : Option ℕ) (keep found kept : List ℕ) (gains : List ℤ) (sums : List Sum)
+    (children : List Child) → IsLeft r set tails → InTable r set → AreEnough s r set keep → gate ≤ℤ floor_in s
+    → Right r.records → IfSome last (Contains set) → pos 1 ≤ℤ floor_in s
+    → ((z : ℕ) → at (pos 0) found gains z ≡ met_in (gaining keep) z tails (pos 0))
+    → AreKept Right gate (floor_in s) last (at (pos 0) found gains) found kept → IsDistinct nat_eq kept
     → ((z : ℕ) → at no_sum kept sums z ≡ met_in (summing kept) z tails no_sum) → ranks_of children ≡ kept
     → AllByRecursion (λ child. sum_of child ≡ at no_sum kept sums child.rank) children → IsLevel s r set children
 level-is r set tails s Right gate last keep found kept gains sums children left table enough low right lasts least gained are once summed is each = record {
   right = each-child (IsChild r set) (λ c. sum_of c ≡ at no_sum kept sums c.rank) kept children child inside each;
   enough = subst (AreEnough s r set) (sym is)
-      (enough-kept r set tails left s Right gate last (at (pos 0) found gains) keep found kept enough low right (λ a e. subst (λ l. IfSome l (Contains set)) e lasts)
+      (enough-kept r set tails left s Right gate last (at (pos 0) found gains) keep found kept enough low right
+      (λ a e. subst (λ l. IfSome l (Contains set)) e lasts)
       gained (λ z out. at-absent (pos 0) found gains z out) least are);
-  most = subst (λ ranks. AllByRecursion (IsMost r set ranks) children) (sym is) (each-child (IsMost r set kept) (λ c. sum_of c ≡ at no_sum kept sums c.rank) kept children (λ c m q. most-is r set tails left kept c m (q ∙ summed c.rank)) inside each);
+  most = subst (λ ranks. AllByRecursion (IsMost r set ranks) children) (sym is)
+      (each-child (IsMost r set kept) (λ c. sum_of c ≡ at no_sum kept sums c.rank) kept children
+      (λ c m q. most-is r set tails left kept c m (q ∙ summed c.rank)) inside each);
   once = subst (IsDistinct nat_eq) (sym is) once;
 }
   where

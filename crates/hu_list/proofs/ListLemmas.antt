@@ -1,5 +1,6 @@
 -- What the list of a set says of the set.
-use Rattle.std.proofs.Common.{◌≡◌, ℕ, ◌<◌, ◌≤◌, ◌+◌, ◌^◌, Bool, true, false, cond, ltb, ℤ, pos, ◌+ℤ◌, ◌≤ℤ◌, List, [], ◌∷◌, ◌++◌, length, refl, sym, ap, ◌∙◌, subst, arith, sum_by}
+use Rattle.std.proofs.Common.{◌≡◌, ℕ, ◌<◌, ◌≤◌, ◌+◌, ◌^◌, Bool, true, false, cond, ltb, ℤ, pos, ◌+ℤ◌, ◌≤ℤ◌, List, []}
+use Rattle.std.proofs.Common.{◌∷◌, ◌++◌, length, refl, sym, ap, ◌∙◌, subst, arith, sum_by}
 use Rattle.std.specs.List.{AllByRecursion, list_all}
 use Rattle.std.proofs.lemmas.Bool.{and_parts}
 use Rattle.std.proofs.lemmas.Int.{ints}
@@ -33,13 +34,15 @@ bound_of-nodes place (cells ∷ records) set = by (holds set cells) (bound_of-no
     most = positive_part (values_of set cells +ℤ rest_after set cells)
 
     by : (b : Bool) → bound_of (nodes_from (place + 1) records set) ≡ list_bound records set
-        → bound_of (cond b (node_of set place cells ∷ []) [] ++ nodes_from (place + 1) records set) ≡ cond b (positive_part (values_of set cells +ℤ rest_after set cells)) (pos 0) +ℤ list_bound records set
+        → bound_of (cond b (node_of set place cells ∷ []) [] ++ nodes_from (place + 1) records set)
+        ≡ cond b (positive_part (values_of set cells +ℤ rest_after set cells)) (pos 0) +ℤ list_bound records set
     by true ih = ap (λ v. positive_part (values_of set cells +ℤ rest_after set cells) +ℤ v) ih
     by false ih = omega (arith, ints)
 
 pub length-nodes : (place : ℕ) (records : List (List (ℕ × ℤ))) (set : List ℕ) → length (nodes_from place records set) ≡ support records set
 length-nodes place [] set = refl
-length-nodes place (cells ∷ records) set = by (holds set cells) (length-nodes (place + 1) records set) ∙ sym (sum_by-cons (λ c. cond (holds set c) 1 0) cells records)
+length-nodes place (cells ∷ records) set = by (holds set cells) (length-nodes (place + 1) records set)
+    ∙ sym (sum_by-cons (λ c. cond (holds set c) 1 0) cells records)
   where
     by : (b : Bool) → length (nodes_from (place + 1) records set) ≡ support records set
         → length (cond b (node_of set place cells ∷ []) [] ++ nodes_from (place + 1) records set) ≡ cond b 1 0 + support records set
@@ -100,10 +103,12 @@ BoundsGrown-list nodes bound is records rises set more list up =
     let e : bound ≡ list_bound records set = is ∙ ap bound_of list ∙ bound_of-nodes 0 records set in
     subst (λ b. utility records (set ++ more) ≤ℤ b) (sym e) (utility-grown records set more up (each-ascending records rises))
 
-pub utility-list : (nodes : List Node) (sum : ℤ) → sum ≡ own_sum nodes → (records : List (List (ℕ × ℤ))) (set : List ℕ) → nodes ≡ list_of records set → sum ≡ utility records set
+pub utility-list : (nodes : List Node) (sum : ℤ) → sum ≡ own_sum nodes → (records : List (List (ℕ × ℤ))) (set : List ℕ)
+    → nodes ≡ list_of records set → sum ≡ utility records set
 utility-list nodes sum is records set list = is ∙ ap own_sum list ∙ own_sum-nodes 0 records set
 
-pub bound-list : (nodes : List Node) (bound : ℤ) → bound ≡ bound_of nodes → (records : List (List (ℕ × ℤ))) (set : List ℕ) → nodes ≡ list_of records set → bound ≡ list_bound records set
+pub bound-list : (nodes : List Node) (bound : ℤ) → bound ≡ bound_of nodes
+    → (records : List (List (ℕ × ℤ))) (set : List ℕ) → nodes ≡ list_of records set → bound ≡ list_bound records set
 bound-list nodes bound is records set list = is ∙ ap bound_of list ∙ bound_of-nodes 0 records set
 
 pub AreRanked-ranking : (r : Ranking) → IsRanking r → AreRanked r.records

@@ -1,5 +1,7 @@
 -- The list of a set joined with two later ranks is the merge of three lists.
-use Rattle.std.proofs.Common.{◌≡◌, ℕ, suc, ◌<◌, ◌≤◌, ◌+◌, ◌^◌, Bool, true, false, cond, eqb, ltb, ◌&&◌, ℤ, pos, ◌+ℤ◌, ◌-ℤ◌, unsigned_abs, Option, Some, None, List, [], ◌∷◌, ◌++◌, refl, sym, ap, ◌∙◌, subst, inl, inr, arith, sum_by, option_to_list}
+use Rattle.std.proofs.Common.{◌≡◌, ℕ, suc, ◌<◌, ◌≤◌, ◌+◌, ◌^◌, Bool, true, false, cond, eqb, ltb, ◌&&◌, ℤ, pos, ◌+ℤ◌}
+use Rattle.std.proofs.Common.{◌-ℤ◌, unsigned_abs, Option, Some, None, List, [], ◌∷◌, ◌++◌, refl, sym, ap, ◌∙◌, subst}
+use Rattle.std.proofs.Common.{inl, inr, arith, sum_by, option_to_list}
 use Rattle.std.specs.List.{AllByRecursion, list_all}
 use Rattle.std.proofs.lemmas.Bool.{cases_lt, lt-ltb, le-ltb, ne_eqb, eq-eqb}
 use Rattle.std.proofs.lemmas.Int.{ints}
@@ -15,7 +17,8 @@ use Rattle.hu_list.proofs.ListLemmas.{weight-list}
 
 -- ---- nodes by their places
 
-each-nodes_from : (low place : ℕ) (records : List (List (ℕ × ℤ))) (set : List ℕ) → low ≤ place → AllByRecursion (λ node. low ≤ node.place) (nodes_from place records set)
+each-nodes_from : (low place : ℕ) (records : List (List (ℕ × ℤ))) (set : List ℕ) → low ≤ place
+    → AllByRecursion (λ node. low ≤ node.place) (nodes_from place records set)
 each-nodes_from low place [] set below = tt
 each-nodes_from low place (cells ∷ records) set below = by (holds set cells) (each-nodes_from low (place + 1) records set (omega arith))
   where
@@ -51,7 +54,8 @@ AllFit-skip n before xs (y ∷ ys) all fit = let test : ltb n.place y.place ≡ 
 -- where the first list is past a place, nothing is joined there
 joined_node-past : (before xs : List Node) (y : Node) → AllByRecursion (λ node. suc y.place ≤ node.place) xs → joined_node before xs y ≡ None
 joined_node-past before [] y all = refl
-joined_node-past before (x ∷ xs) y all = let other : eqb x.place y.place ≡ false = ne_eqb x.place y.place (λ e. let low = all.0 in absurd (omega arith)) in rw other refl
+joined_node-past before (x ∷ xs) y all = let other : eqb x.place y.place ≡ false =
+    ne_eqb x.place y.place (λ e. let low = all.0 in absurd (omega arith)) in rw other refl
 
 Fits-past : (before xs : List Node) (y : Node) → AllByRecursion (λ node. suc y.place ≤ node.place) xs → Fits before xs y
 Fits-past before [] y all = tt
@@ -72,7 +76,9 @@ list_all-joined (p ∷ P) a b c below = ap (λ t. ltb p c && t) (list_all-joined
 
 rest_after-joined : (P : List ℕ) (a b : ℕ) (cells : List (ℕ × ℤ)) → a < b → rest_after (P ++ b ∷ []) cells ≡ rest_after (P ++ a ∷ b ∷ []) cells
 rest_after-joined P a b [] below = refl
-rest_after-joined P a b (cell ∷ cells) below = λ j. cond (list_all-joined P a b cell.0 below j) (positive_part cell.1) (pos 0) +ℤ rest_after-joined P a b cells below j
+rest_after-joined P a b (cell ∷ cells) below =
+    λ j. cond (list_all-joined P a b cell.0 below j) (positive_part cell.1) (pos 0)
+    +ℤ rest_after-joined P a b cells below j
 
 -- ---- a node joined of two
 
@@ -80,7 +86,8 @@ module _ (P : List ℕ) (a b : ℕ) (up : Ascend (P ++ a ∷ b ∷ [])) where
   below : a < b
   below = (Ascend-right P (a ∷ b ∷ []) up).0.0
 
-  own-joined : (cells : List (ℕ × ℤ)) → (values_of (P ++ a ∷ []) cells -ℤ values_of P cells) +ℤ values_of (P ++ b ∷ []) cells ≡ values_of (P ++ a ∷ b ∷ []) cells
+  own-joined : (cells : List (ℕ × ℤ)) → (values_of (P ++ a ∷ []) cells -ℤ values_of P cells)
+      +ℤ values_of (P ++ b ∷ []) cells ≡ values_of (P ++ a ∷ b ∷ []) cells
   own-joined cells =
       let one = values_of-append P (a ∷ []) cells in
       let two = values_of-append P (b ∷ []) cells in
@@ -90,8 +97,11 @@ module _ (P : List ℕ) (a b : ℕ) (up : Ascend (P ++ a ∷ b ∷ [])) where
   own-apart : (cells : List (ℕ × ℤ)) → values_of (P ++ a ∷ []) cells -ℤ values_of P cells ≡ values_of (a ∷ []) cells
   own-apart cells = let one = values_of-append P (a ∷ []) cells in omega (arith, ints, one)
 
-  joined-fits : (cells : List (ℕ × ℤ)) → Ascend (items_in cells) → absolute_of cells < 2 ^ 127 → holds (a ∷ []) cells ≡ true → holds (P ++ a ∷ b ∷ []) cells ≡ true
-      → (unsigned_abs (values_of (P ++ a ∷ []) cells -ℤ values_of P cells) < 2 ^ 127) × (unsigned_abs ((values_of (P ++ a ∷ []) cells -ℤ values_of P cells) +ℤ values_of (P ++ b ∷ []) cells) < 2 ^ 127)
+  joined-fits : (cells : List (ℕ × ℤ)) → Ascend (items_in cells) → absolute_of cells < 2 ^ 127 → holds (a ∷ []) cells
+      ≡ true → holds (P ++ a ∷ b ∷ []) cells ≡ true
+      → (unsigned_abs (values_of (P ++ a ∷ []) cells -ℤ values_of P cells) < 2 ^ 127)
+      × (unsigned_abs ((values_of (P ++ a ∷ []) cells -ℤ values_of P cells) +ℤ values_of (P ++ b ∷ []) cells) < 2 ^
+      127)
   joined-fits cells rise small one all =
       let first = weight-within cells (a ∷ []) (tt, tt) rise one in
       let both = weight-within cells (P ++ a ∷ b ∷ []) up rise all in
@@ -101,10 +111,12 @@ module _ (P : List ℕ) (a b : ℕ) (up : Ascend (P ++ a ∷ b ∷ [])) where
 
   -- the merge from a place on, and that it fits
   pub record Merges (place : ℕ) (records : List (List (ℕ × ℤ))) : Type 0 where
-    pub is : merged (nodes_from place records P) (nodes_from place records (P ++ a ∷ [])) (nodes_from place records (P ++ b ∷ [])) ≡ nodes_from place records (P ++ a ∷ b ∷ [])
+    pub is : merged (nodes_from place records P) (nodes_from place records (P ++ a ∷ []))
+        (nodes_from place records (P ++ b ∷ [])) ≡ nodes_from place records (P ++ a ∷ b ∷ [])
     pub fit : AllFit (nodes_from place records P) (nodes_from place records (P ++ a ∷ [])) (nodes_from place records (P ++ b ∷ []))
 
-  module _ (place : ℕ) (cells : List (ℕ × ℤ)) (records : List (List (ℕ × ℤ))) (rise : Ascend (items_in cells)) (small : absolute_of cells < 2 ^ 127) (ih : Merges (place + 1) records) where
+  module _ (place : ℕ) (cells : List (ℕ × ℤ)) (records : List (List (ℕ × ℤ))) (rise : Ascend (items_in cells))
+      (small : absolute_of cells < 2 ^ 127) (ih : Merges (place + 1) records) where
     abbrev prefix_nodes : List Node
     prefix_nodes = nodes_from (place + 1) records P
 
@@ -132,9 +144,13 @@ module _ (P : List ℕ) (a b : ℕ) (up : Ascend (P ++ a ∷ b ∷ [])) where
     -- by whether the record holds the prefix, and each of the two ranks
     Goal : Bool → Bool → Bool → Bool → Type 0
     Goal p x y j =
-        (merged (cond p (node_of P place cells ∷ []) [] ++ prefix_nodes) (cond x (node_of (P ++ a ∷ []) place cells ∷ []) [] ++ first_nodes) (cond y (node_of (P ++ b ∷ []) place cells ∷ []) [] ++ second_nodes)
+        (merged (cond p (node_of P place cells ∷ []) [] ++ prefix_nodes)
+        (cond x (node_of (P ++ a ∷ []) place cells ∷ []) [] ++ first_nodes)
+        (cond y (node_of (P ++ b ∷ []) place cells ∷ []) [] ++ second_nodes)
         ≡ cond j (node_of (P ++ a ∷ b ∷ []) place cells ∷ []) [] ++ joined_nodes)
-        × AllFit (cond p (node_of P place cells ∷ []) [] ++ prefix_nodes) (cond x (node_of (P ++ a ∷ []) place cells ∷ []) [] ++ first_nodes) (cond y (node_of (P ++ b ∷ []) place cells ∷ []) [] ++ second_nodes)
+        × AllFit (cond p (node_of P place cells ∷ []) [] ++ prefix_nodes)
+        (cond x (node_of (P ++ a ∷ []) place cells ∷ []) [] ++ first_nodes)
+        (cond y (node_of (P ++ b ∷ []) place cells ∷ []) [] ++ second_nodes)
 
     with_y-alone : Goal true false true false
     unfolding Goal
@@ -151,8 +167,14 @@ module _ (P : List ℕ) (a b : ℕ) (up : Ascend (P ++ a ∷ b ∷ [])) where
         let same : eqb place place ≡ true = eq-same place in
         let own = own-joined cells in
         let rest = rest_after-joined P a b cells below in
-        let tail = merged-skip_before (node_of P place cells) prefix_nodes (node_of (P ++ a ∷ []) place cells ∷ first_nodes) second_nodes over ∙ merged-skip (node_of (P ++ a ∷ []) place cells) prefix_nodes first_nodes second_nodes over ∙ ih.is in
-        let fit = AllFit-skip_before (node_of P place cells) prefix_nodes (node_of (P ++ a ∷ []) place cells ∷ first_nodes) second_nodes over (AllFit-skip (node_of (P ++ a ∷ []) place cells) prefix_nodes first_nodes second_nodes over ih.fit) in (
+        let tail =
+        merged-skip_before (node_of P place cells) prefix_nodes
+        (node_of (P ++ a ∷ []) place cells ∷ first_nodes) second_nodes over
+        ∙ merged-skip (node_of (P ++ a ∷ []) place cells) prefix_nodes first_nodes second_nodes over ∙ ih.is in
+        let fit =
+        AllFit-skip_before (node_of P place cells) prefix_nodes
+        (node_of (P ++ a ∷ []) place cells ∷ first_nodes) second_nodes over
+        (AllFit-skip (node_of (P ++ a ∷ []) place cells) prefix_nodes first_nodes second_nodes over ih.fit) in (
           rw (not_before, same) (λ j. (record { place = place; own = own j; rest = rest j }) ∷ tail j),
           rw not_before ((λ e. joined-fits cells rise small one all), fit),
         )
@@ -163,10 +185,18 @@ module _ (P : List ℕ) (a b : ℕ) (up : Ascend (P ++ a ∷ b ∷ [])) where
     goal-by : (p x y : Bool) → holds P cells ≡ p → has a cells ≡ x → has b cells ≡ y → Goal p (p && (x && true)) (p && (y && true)) (p && (x && (y && true)))
     unfolding Goal
     goal-by false x y hp hx hy = (ih.is, ih.fit)
-    goal-by true false false hp hx hy = (merged-skip_before (node_of P place cells) prefix_nodes first_nodes second_nodes over ∙ ih.is, AllFit-skip_before (node_of P place cells) prefix_nodes first_nodes second_nodes over ih.fit)
+    goal-by true false false hp hx hy = (
+      merged-skip_before (node_of P place cells) prefix_nodes first_nodes second_nodes over
+          ∙ ih.is,
+      AllFit-skip_before (node_of P place cells) prefix_nodes first_nodes second_nodes over ih.fit,
+    )
     goal-by true true false hp hx hy = (
-      merged-skip_before (node_of P place cells) prefix_nodes (node_of (P ++ a ∷ []) place cells ∷ first_nodes) second_nodes over ∙ merged-skip (node_of (P ++ a ∷ []) place cells) prefix_nodes first_nodes second_nodes over ∙ ih.is,
-      AllFit-skip_before (node_of P place cells) prefix_nodes (node_of (P ++ a ∷ []) place cells ∷ first_nodes) second_nodes over (AllFit-skip (node_of (P ++ a ∷ []) place cells) prefix_nodes first_nodes second_nodes over ih.fit),
+      merged-skip_before (node_of P place cells) prefix_nodes
+          (node_of (P ++ a ∷ []) place cells ∷ first_nodes) second_nodes over
+          ∙ merged-skip (node_of (P ++ a ∷ []) place cells) prefix_nodes first_nodes second_nodes over ∙ ih.is,
+      AllFit-skip_before (node_of P place cells) prefix_nodes
+          (node_of (P ++ a ∷ []) place cells ∷ first_nodes) second_nodes over
+          (AllFit-skip (node_of (P ++ a ∷ []) place cells) prefix_nodes first_nodes second_nodes over ih.fit),
     )
     goal-by true false true hp hx hy = with_y-alone
     goal-by true true true hp hx hy =
@@ -183,7 +213,8 @@ module _ (P : List ℕ) (a b : ℕ) (up : Ascend (P ++ a ∷ b ∷ [])) where
         let hj = holds-append P (a ∷ b ∷ []) cells in
         record { is = rw (hx, hy, hj) g.0; fit = rw (hx, hy) g.1 }
 
-  pub merges : (place : ℕ) (records : List (List (ℕ × ℤ))) → AllByRecursion (λ cells. Ascend (items_in cells)) records → AllByRecursion (λ cells. absolute_of cells < 2 ^ 127) records → Merges place records
+  pub merges : (place : ℕ) (records : List (List (ℕ × ℤ))) → AllByRecursion (λ cells. Ascend (items_in cells)) records
+      → AllByRecursion (λ cells. absolute_of cells < 2 ^ 127) records → Merges place records
   merges place [] rise small = record { is = refl; fit = tt }
   merges place (cells ∷ records) rise small = merges-cons place cells records rise.0 small.0 (merges (place + 1) records rise.1 small.1)
 
@@ -211,7 +242,9 @@ joined_node-before before (x ∷ xs) y e = λ j. cond (eqb x.place y.place) (Som
 
 Fits-before : (before xs : List Node) (y : Node) → pos 0 ≡ first_own before → Fits before xs y → Fits [] xs y
 Fits-before before [] y e fits = tt
-Fits-before before (x ∷ xs) y e fits = subst (λ o. x.place ≡ y.place → (unsigned_abs (x.own -ℤ o) < 2 ^ 127) × (unsigned_abs ((x.own -ℤ o) +ℤ y.own) < 2 ^ 127)) (sym e) fits
+Fits-before before (x ∷ xs) y e fits =
+    subst (λ o. x.place ≡ y.place → (unsigned_abs (x.own -ℤ o) < 2 ^ 127)
+    × (unsigned_abs ((x.own -ℤ o) +ℤ y.own) < 2 ^ 127)) (sym e) fits
 
 merged-before : (before xs ys : List Node) → AllByRecursion (λ node. node.own ≡ pos 0) before → merged [] xs ys ≡ merged before xs ys
 merged-before before xs [] all = refl
@@ -250,11 +283,14 @@ module _ (prefix : Option (List Node)) (x y : List Node) (records : List (List (
   AllFit-prefix : (p : Option (List Node)) → IsPrefix p records P → AllFit (nodes_before p) x y
   AllFit-prefix None is =
       let fit : AllFit (list_of records []) x y = subst (λ s. AllFit (list_of records s) x y) is
-      (subst (λ w. AllFit (list_of records P) w y) (sym joins.x_is) (subst (λ w. AllFit (list_of records P) (list_of records (P ++ a ∷ [])) w) (sym joins.y_is) merges-all.fit)) in
+      (subst (λ w. AllFit (list_of records P) w y) (sym joins.x_is)
+      (subst (λ w. AllFit (list_of records P) (list_of records (P ++ a ∷ [])) w)
+      (sym joins.y_is) merges-all.fit)) in
       AllFit-before (list_of records []) x y (no_own 0 records) fit
   AllFit-prefix (Some nodes) is =
       subst (λ w. AllFit w x y) (sym is.1)
-      (subst (λ w. AllFit (list_of records P) w y) (sym joins.x_is) (subst (λ w. AllFit (list_of records P) (list_of records (P ++ a ∷ [])) w) (sym joins.y_is) merges-all.fit))
+      (subst (λ w. AllFit (list_of records P) w y) (sym joins.x_is)
+      (subst (λ w. AllFit (list_of records P) (list_of records (P ++ a ∷ [])) w) (sym joins.y_is) merges-all.fit))
 
   pub merged-joins : merged (nodes_before prefix) x y ≡ list_of records (P ++ a ∷ b ∷ [])
   merged-joins = merged-prefix prefix joins.prefix_is
@@ -263,4 +299,6 @@ module _ (prefix : Option (List Node)) (x y : List Node) (records : List (List (
   AllFit-joins = AllFit-prefix prefix joins.prefix_is
 
   pub weight-joins : (nodes : List Node) → nodes ≡ merged (nodes_before prefix) x y → sum_by weight_of nodes < 2 ^ 127
-  weight-joins nodes is = subst (λ ns. sum_by weight_of ns < 2 ^ 127) (sym (is ∙ merged-joins)) (weight-list records (P ++ a ∷ b ∷ []) joins.ranked joins.ascending)
+  weight-joins nodes is =
+      subst (λ ns. sum_by weight_of ns < 2 ^ 127) (sym (is ∙ merged-joins))
+      (weight-list records (P ++ a ∷ b ∷ []) joins.ranked joins.ascending)

@@ -19,7 +19,8 @@ own_sum-within [] (suc i) = omega arith
 own_sum-within (node ∷ nodes) zero = omega arith
 own_sum-within (node ∷ nodes) (suc i) = let ih = own_sum-within nodes i in omega (arith, ints, sum_by-cons weight_of node nodes)
 
-pub bound_of-more : (nodes : List Node) (i : ℕ) (d : Node) → i < length nodes → bound_of (take (suc i) nodes) ≡ bound_of (take i nodes) +ℤ most_at (get_or nodes i d)
+pub bound_of-more : (nodes : List Node) (i : ℕ) (d : Node) → i < length nodes → bound_of (take (suc i) nodes)
+    ≡ bound_of (take i nodes) +ℤ most_at (get_or nodes i d)
 bound_of-more [] i d within = absurd (omega arith)
 bound_of-more (node ∷ nodes) zero d within = omega (arith, ints)
 bound_of-more (node ∷ nodes) (suc i) d within = let ih = bound_of-more nodes i d (omega arith) in omega (arith, ints)
@@ -31,7 +32,8 @@ pub bound_of-within : (nodes : List Node) (i : ℕ) → unsigned_abs (bound_of (
 bound_of-within [] zero = omega arith
 bound_of-within [] (suc i) = omega arith
 bound_of-within (node ∷ nodes) zero = omega arith
-bound_of-within (node ∷ nodes) (suc i) = let ih = bound_of-within nodes i in let one = most_at-within node in omega (arith, ints, sum_by-cons weight_of node nodes)
+bound_of-within (node ∷ nodes) (suc i) = let ih = bound_of-within nodes i in let one =
+    most_at-within node in omega (arith, ints, sum_by-cons weight_of node nodes)
 
 pub weight_of-at : (nodes : List Node) (i : ℕ) (d : Node) → i < length nodes → weight_of (get_or nodes i d) ≤ sum_by weight_of nodes
 weight_of-at [] i d within = absurd (omega arith)

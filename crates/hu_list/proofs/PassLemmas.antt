@@ -1,5 +1,7 @@
 -- Passes over cells and tails, a cell at a time.
-use Rattle.std.proofs.Common.{◌≡◌, ℕ, zero, suc, ◌+◌, ◌<◌, ◌≤◌, Bool, true, false, cond, eqb, ◌||◌, ℤ, unsigned_abs, ◌+ℤ◌, List, [], ◌∷◌, length, get_or, drop, inl, inr, refl, sym, ap, ◌∙◌, subst, arith, add-one, sum_by}
+use Rattle.std.proofs.Common.{◌≡◌, ℕ, zero, suc, ◌+◌, ◌<◌, ◌≤◌, Bool, true, false, cond, eqb, ◌||◌, ℤ, unsigned_abs}
+use Rattle.std.proofs.Common.{◌+ℤ◌, List, [], ◌∷◌, length, get_or, drop, inl, inr, refl, sym, ap, ◌∙◌, subst, arith}
+use Rattle.std.proofs.Common.{add-one, sum_by}
 use Rattle.std.specs.List.{AllByRecursion}
 use Rattle.std.proofs.Math.Bool.{or-true}
 use Rattle.std.proofs.lemmas.Bool.{ne_eqb, eq-eqb, cases_eq}
@@ -24,7 +26,8 @@ module _ {A : Type 0} (make : ℕ × ℤ → List (ℕ × ℤ) → A → A) wher
   -- a rank below all cells has what it had
   pub met-below : (z : ℕ) (cells : List (ℕ × ℤ)) (a : A) → AllByRecursion (λ y. z < y) (items_in cells) → met make z cells a ≡ a
   met-below z [] a below = refl
-  met-below z (cell ∷ cells) a below = let other : eqb z cell.0 ≡ false = ne_eqb z cell.0 (λ e. let low = below.0 in absurd (omega arith)) in rw other (met-below z cells a below.1)
+  met-below z (cell ∷ cells) a below = let other : eqb z cell.0 ≡ false =
+      ne_eqb z cell.0 (λ e. let low = below.0 in absurd (omega arith)) in rw other (met-below z cells a below.1)
 
   -- the first cell is met before the others, or after them
   pub met-first : (z : ℕ) (cell : ℕ × ℤ) (cells : List (ℕ × ℤ)) (a : A) → AllByRecursion (λ y. cell.0 < y) (items_in cells)
@@ -49,7 +52,8 @@ module _ {A : Type 0} (make : ℕ × ℤ → List (ℕ × ℤ) → A → A) wher
 -- ---- the cells of a record from a place on
 
 -- what holds of each rank holds of that at a place
-pub rank-at : (P : ℕ → Type 0) (cells : List Dense) (i : ℕ) (d : Dense) → AllByRecursion P (items_in (cells_of cells)) → i < length cells → P (get_or cells i d).rank
+pub rank-at : (P : ℕ → Type 0) (cells : List Dense) (i : ℕ) (d : Dense) → AllByRecursion P (items_in (cells_of cells))
+    → i < length cells → P (get_or cells i d).rank
 rank-at P [] i d all within = absurd (omega arith)
 rank-at P (cell ∷ cells) zero d all within = all.0
 rank-at P (cell ∷ cells) (suc i) d all within = rank-at P cells i d all.1 (omega arith)
@@ -66,7 +70,9 @@ module _ (cells : List Dense) (i : ℕ) (d : Dense) (up : Ascend (items_in (cell
   split-at = ap cells_of (drop_more cells i d within)
 
   pub has-here : has (get_or cells i d).rank (cells_of (drop i cells)) ≡ true
-  has-here = ap (has (get_or cells i d).rank) split-at ∙ (let here : eqb (get_or cells i d).rank (get_or cells i d).rank ≡ true = eq-eqb (get_or cells i d).rank (get_or cells i d).rank refl in rw here refl)
+  has-here =
+      ap (has (get_or cells i d).rank) split-at ∙ (let here : eqb (get_or cells i d).rank (get_or cells i d).rank
+      ≡ true = eq-eqb (get_or cells i d).rank (get_or cells i d).rank refl in rw here refl)
 
   -- a rank that stands later
   pub apart-later : (z : ℕ) → has z (cells_of (drop (i + 1) cells)) ≡ true → eqb z (get_or cells i d).rank ≡ false
@@ -99,7 +105,8 @@ module _ (cells : List Dense) (i : ℕ) (d : Dense) (up : Ascend (items_in (cell
 -- ---- tails from a place on
 
 -- what holds of each tail holds of that at a place
-pub tail-at : (P : TailOf → Type 0) (tails : List Tail) (i : ℕ) (d : Tail) → AllByRecursion P (tails_of tails) → i < length tails → P (tail_of (get_or tails i d))
+pub tail-at : (P : TailOf → Type 0) (tails : List Tail) (i : ℕ) (d : Tail) → AllByRecursion P (tails_of tails)
+    → i < length tails → P (tail_of (get_or tails i d))
 tail-at P [] i d all within = absurd (omega arith)
 tail-at P (tail ∷ tails) zero d all within = all.0
 tail-at P (tail ∷ tails) (suc i) d all within = tail-at P tails i d all.1 (omega arith)
@@ -118,7 +125,8 @@ module _ (tails : List Tail) (i : ℕ) (d : Tail) (within : i < length tails) wh
 
 -- ---- how far a pass goes
 
-met-within : {A : Type 0} (R : A → A → Type 0) (make : ℕ × ℤ → List (ℕ × ℤ) → A → A) → ((a : A) → R a a) → ((cell : ℕ × ℤ) (cells : List (ℕ × ℤ)) (a : A) → R a (make cell cells a))
+met-within : {A : Type 0} (R : A → A → Type 0) (make : ℕ × ℤ → List (ℕ × ℤ) → A → A) → ((a : A) → R a a)
+    → ((cell : ℕ × ℤ) (cells : List (ℕ × ℤ)) (a : A) → R a (make cell cells a))
     → (z : ℕ) (cells : List (ℕ × ℤ)) (a : A) → R a (met make z cells a)
 met-within R make same one z [] a = same a
 met-within R make same one z (cell ∷ cells) a = by (eqb z cell.0) (met-within R make same one z cells a)
@@ -129,7 +137,8 @@ met-within R make same one z (cell ∷ cells) a = by (eqb z cell.0) (met-within 
 
 pub gaining-within : (keep : List ℕ) (tail : TailOf) (z : ℕ) (a : ℤ) → unsigned_abs (met (gaining keep tail) z tail.cells a) ≤ unsigned_abs a + size_of tail
 gaining-within keep tail z a =
-    met-within (λ x y. unsigned_abs y ≤ unsigned_abs x + size_of tail) (gaining keep tail) (λ x. omega arith) (λ cell cells x. by (among cell.0 keep) x) z tail.cells a
+    met-within (λ x y. unsigned_abs y ≤ unsigned_abs x + size_of tail) (gaining keep tail) (λ x. omega arith)
+    (λ cell cells x. by (among cell.0 keep) x) z tail.cells a
   where
     by : (b : Bool) (x : ℤ) → unsigned_abs (cond b (x +ℤ share keep tail) x) ≤ unsigned_abs x + size_of tail
     by true x = omega (arith, ints, share-within keep tail)
@@ -151,7 +160,8 @@ summing-within keep tail z (cell ∷ cells) a fits =
     let split = sum_by-cons (λ (c : ℕ × ℤ). unsigned_abs c.1) cell cells in
     by (eqb z cell.0) (among cell.0 keep) (omega (arith, split, fits)) (summing-within keep tail z cells a (omega (arith, split, fits)))
   where
-    by : (b m : Bool) → unsigned_abs tail.own + unsigned_abs cell.1 + absolute_of cells ≤ size_of tail → Sums a (met (summing keep tail) z cells a) (size_of tail)
+    by : (b m : Bool) → unsigned_abs tail.own + unsigned_abs cell.1 + absolute_of cells ≤ size_of tail
+        → Sums a (met (summing keep tail) z cells a) (size_of tail)
         → Sums a (cond b (cond m (sum_with a (tail.own +ℤ cell.1) (kept_gain keep cells)) a) (met (summing keep tail) z cells a)) (size_of tail)
     by true true low later =
         let rest = kept_gain-within keep cells in
@@ -171,4 +181,5 @@ size-at (tail ∷ tails) (suc i) d within = omega (arith, sum_by-cons size_of (t
 
 -- sums fit beside less
 pub fits-less : (sum : Sum) (size less : ℕ) → less ≤ size → SumsFit sum size → SumsFit sum less
-fits-less sum size less low fits = let u = fits.utility in let b = fits.bound in record { support = fits.support; utility = omega (arith, low, u); bound = omega (arith, low, b) }
+fits-less sum size less low fits = let u = fits.utility in let b =
+    fits.bound in record { support = fits.support; utility = omega (arith, low, u); bound = omega (arith, low, b) }

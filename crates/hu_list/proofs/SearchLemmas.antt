@@ -1,5 +1,6 @@
 -- What a search over tails does, set by set.
-use Rattle.std.proofs.Common.{◌≡◌, ℕ, ◌+◌, ◌<◌, ◌≤◌, Bool, true, false, cond, ℤ, pos, ◌+ℤ◌, ◌≤ℤ◌, List, [], ◌∷◌, ◌++◌, length, map, sum_by, inl, inr, refl, sym, ap, ◌∙◌, subst, arith, append_assoc, Contains}
+use Rattle.std.proofs.Common.{◌≡◌, ℕ, ◌+◌, ◌<◌, ◌≤◌, Bool, true, false, cond, ℤ, pos, ◌+ℤ◌, ◌≤ℤ◌, List, [], ◌∷◌, ◌++◌}
+use Rattle.std.proofs.Common.{length, map, sum_by, inl, inr, refl, sym, ap, ◌∙◌, subst, arith, append_assoc, Contains}
 use Rattle.std.specs.List.{AllByRecursion}
 use Rattle.std.proofs.lemmas.Int.{ints}
 use Rattle.hu_kind.specs.declared.entry.Entry.{Entry}
@@ -54,7 +55,8 @@ counts-before {e = e} same rises counts = record {
 }
 
 -- ranks that are enough for a set are so later on, and for each set with one of its ranks more
-pub enough-later : (s t : State) (r : Ranking) (set : List ℕ) (z : ℕ) (ranks : List ℕ) → t.rule ≡ s.rule → floor_in s ≤ℤ floor_in t → AreEnough s r set ranks → AreEnough t r (set ++ z ∷ []) ranks
+pub enough-later : (s t : State) (r : Ranking) (set : List ℕ) (z : ℕ) (ranks : List ℕ) → t.rule ≡ s.rule
+    → floor_in s ≤ℤ floor_in t → AreEnough s r set ranks → AreEnough t r (set ++ z ∷ []) ranks
 enough-later s t r set z ranks same rises enough more up occurs counts =
     let split : (set ++ z ∷ []) ++ more ≡ set ++ z ∷ more = append_assoc set (z ∷ []) more in
     let all = enough (z ∷ more) (subst Ascend split up) (subst (λ xs. 0 < support r.records xs) split occurs)
@@ -62,7 +64,9 @@ enough-later s t r set z ranks same rises enough more up occurs counts =
     all.1
 
 -- a child's bound holds where its ranks are enough
-pub bound-is : (s : State) (r : Ranking) (set ranks : List ℕ) (child : Child) → AreEnough s r (set ++ child.rank ∷ []) ranks → IsMost r set ranks child → IsBound s r (set ++ child.rank ∷ []) child.bound
+pub bound-is : (s : State) (r : Ranking) (set ranks : List ℕ) (child : Child)
+    → AreEnough s r (set ++ child.rank ∷ []) ranks → IsMost r set ranks child
+    → IsBound s r (set ++ child.rank ∷ []) child.bound
 bound-is s r set ranks child enough most entry grows counts =
     let split : (set ++ child.rank ∷ []) ++ grows.more ≡ set ++ child.rank ∷ grows.more = append_assoc set (child.rank ∷ []) grows.more in
     let all = enough grows.more grows.ascending grows.occurs (subst (Counts s) grows.is counts) in
@@ -72,14 +76,16 @@ bound-is s r set ranks child enough most entry grows counts =
     omega (arith, ints, under, same, same')
 
 -- the children that are chosen are those to be entered
-pub open-is : {s t : State} (r : Ranking) (set : List ℕ) (children chosen : List Child) → t.rule ≡ s.rule → floor_in s ≤ℤ floor_in t → IsLevel s r set children → AreChosen (floor_in t) children chosen
+pub open-is : {s t : State} (r : Ranking) (set : List ℕ) (children chosen : List Child) → t.rule ≡ s.rule
+    → floor_in s ≤ℤ floor_in t → IsLevel s r set children → AreChosen (floor_in t) children chosen
     → AreOpen t r set (ranks_of children) chosen
 open-is {s = s} {t = t} r set children chosen same rises level are = record {
   others = λ rank c.
       let found = Member-from_map (λ (child : Child). child.rank) rank children (Member-from_contains rank (ranks_of children) c) in
       elim (are.whole found.0 (Contains-from_member found.0 children found.1)) [
         | inl here ↦ inl (subst (Contains (ranks_of chosen)) found.2
-            (Contains-from_member found.0.rank (ranks_of chosen) (Member-map (λ (child : Child). child.rank) found.0 chosen (Member-from_contains found.0 chosen here))))
+            (Contains-from_member found.0.rank (ranks_of chosen)
+            (Member-map (λ (child : Child). child.rank) found.0 chosen (Member-from_contains found.0 chosen here))))
         | inr low ↦ inr (subst (λ z. IsBarren t r (set ++ z ∷ [])) found.2 (λ entry grows counts.
             let under = bound found.0 found.1 entry grows counts in
             let high = counts.high in
@@ -93,7 +99,8 @@ open-is {s = s} {t = t} r set children chosen same rises level are = record {
     bound child m = bound-is t r set (ranks_of children) child (enough-later s t r set child.rank (ranks_of children) same rises level.enough)
         (at_member (IsMost r set (ranks_of children)) child children level.most m)
 
-pub chosen-children : (r : Ranking) (set : List ℕ) (floor : ℤ) (children chosen : List Child) → AreChildren r set children → AreChosen floor children chosen → AreChildren r set chosen
+pub chosen-children : (r : Ranking) (set : List ℕ) (floor : ℤ) (children chosen : List Child)
+    → AreChildren r set children → AreChosen floor children chosen → AreChildren r set chosen
 chosen-children r set floor children chosen right are = by_members (IsChild r set) chosen (λ child m.
     at_member (IsChild r set) child children right (Member-from_contains child children (at_member (Contains children) child chosen are.from m)))
 
@@ -130,17 +137,25 @@ earned-first (cells ∷ records) more = (λ j. by (holds more cells) j +ℤ earn
 
 held-first : (records : List (List (ℕ × ℤ))) (more : List ℕ) → support records more ≡ held (map tail_from records) more
 held-first [] more = refl
-held-first (cells ∷ records) more = sum_by-cons (λ c. cond (holds more c) 1 0) cells records ∙ ap (λ n. cond (holds more cells) 1 0 + n) (held-first records more)
+held-first (cells ∷ records) more = sum_by-cons (λ c. cond (holds more c) 1 0) cells records
+    ∙ ap (λ n. cond (holds more cells) 1 0 + n) (held-first records more)
 
 sizes-first : (records : List (List (ℕ × ℤ))) → sum_by size_of (map tail_from records) ≡ sum_by absolute_of records
 sizes-first [] = refl
-sizes-first (cells ∷ records) = omega (arith, sum_by-cons size_of (tail_from cells) (map tail_from records), sum_by-cons absolute_of cells records, sizes-first records)
+sizes-first (cells ∷ records) =
+    omega (
+      arith,
+      sum_by-cons size_of (tail_from cells) (map tail_from records),
+      sum_by-cons absolute_of cells records,
+      sizes-first records,
+    )
 
 items-below : (n : ℕ) (cells : List (ℕ × ℤ)) → AllByRecursion (λ cell. cell.0 < n) cells → AllByRecursion (λ rank. rank < n) (items_in cells)
 items-below n [] all = tt
 items-below n (cell ∷ cells) all = (all.0, items-below n cells all.1)
 
-each-first : (P : List (ℕ × ℤ) → Type 0) (Q : TailOf → Type 0) (records : List (List (ℕ × ℤ))) → ((cells : List (ℕ × ℤ)) → P cells → Q (tail_from cells)) → AllByRecursion P records
+each-first : (P : List (ℕ × ℤ) → Type 0) (Q : TailOf → Type 0) (records : List (List (ℕ × ℤ)))
+    → ((cells : List (ℕ × ℤ)) → P cells → Q (tail_from cells)) → AllByRecursion P records
     → AllByRecursion Q (map tail_from records)
 each-first P Q [] one all = tt
 each-first P Q (cells ∷ records) one all = (one cells all.0, each-first P Q records one all.1)
@@ -158,7 +173,8 @@ left-first r rules = record {
         (each-ascending r.records rules.ascending) (each-in_range (length r.items) r.records rules.in_range));
     sizes = let fits = rules.sum_fits in omega (arith, sizes-first r.records, fits);
   };
-  later = each-first (λ cells. Ascend (items_in cells)) (λ tail. Ascend (items_in tail.cells)) r.records (λ cells up. up) (each-ascending r.records rules.ascending);
+  later = each-first (λ cells. Ascend (items_in cells)) (λ tail. Ascend (items_in tail.cells)) r.records
+      (λ cells up. up) (each-ascending r.records rules.ascending);
   utility = λ first more up. earned-first r.records (first ∷ more);
   support = λ first more up. held-first r.records (first ∷ more);
 }

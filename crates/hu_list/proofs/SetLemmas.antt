@@ -1,5 +1,6 @@
 -- What an ascending set earns in a record whose ranks ascend, and what stands after it there.
-use Rattle.std.proofs.Common.{◌≡◌, ℕ, ◌<◌, ◌≤◌, ◌+◌, Bool, true, false, cond, eqb, ltb, ◌&&◌, ◌⊎◌, inl, inr, ℤ, pos, ◌+ℤ◌, ◌≤ℤ◌, unsigned_abs, List, [], ◌∷◌, ◌++◌, refl, sym, ap, ◌∙◌, subst, arith}
+use Rattle.std.proofs.Common.{◌≡◌, ℕ, ◌<◌, ◌≤◌, ◌+◌, Bool, true, false, cond, eqb, ltb, ◌&&◌, ◌⊎◌, inl, inr, ℤ, pos}
+use Rattle.std.proofs.Common.{◌+ℤ◌, ◌≤ℤ◌, unsigned_abs, List, [], ◌∷◌, ◌++◌, refl, sym, ap, ◌∙◌, subst, arith}
 use Rattle.std.specs.List.{AllByRecursion, list_all}
 use Rattle.std.proofs.lemmas.Bool.{eq-eqb, ne_eqb, cases_eq, and_parts, and_from, lt-ltb, le-ltb}
 use Rattle.std.proofs.lemmas.Int.{ints}
@@ -22,7 +23,8 @@ holds-past (i ∷ is) cell cells above = λ j. has-past i cell cells above.0 j &
 value_of-past : (item : ℕ) (cell : ℕ × ℤ) (cells : List (ℕ × ℤ)) → cell.0 < item → value_of item (cell ∷ cells) ≡ value_of item cells
 value_of-past item cell cells above = let other : eqb item cell.0 ≡ false = ne_eqb item cell.0 (λ e. absurd (omega arith)) in rw other refl
 
-pub values_of-past : (set : List ℕ) (cell : ℕ × ℤ) (cells : List (ℕ × ℤ)) → AllByRecursion (λ i. cell.0 < i) set → values_of set (cell ∷ cells) ≡ values_of set cells
+pub values_of-past : (set : List ℕ) (cell : ℕ × ℤ) (cells : List (ℕ × ℤ)) → AllByRecursion (λ i. cell.0 < i) set
+    → values_of set (cell ∷ cells) ≡ values_of set cells
 values_of-past [] cell cells above = refl
 values_of-past (i ∷ is) cell cells above = λ j. value_of-past i cell cells above.0 j +ℤ values_of-past is cell cells above.1 j
 
@@ -30,8 +32,10 @@ value_of-first : (item : ℕ) (cell : ℕ × ℤ) (cells : List (ℕ × ℤ)) �
 value_of-first item cell cells e = let here : eqb item cell.0 ≡ true = eq-eqb item cell.0 e in rw here refl
 
 -- a set that a record holds begins with the first cell, or stands after it
-pub first_held : (s : ℕ) (ss : List ℕ) (cell : ℕ × ℤ) (cells : List (ℕ × ℤ)) → Ascend (s ∷ ss) → Ascend (items_in (cell ∷ cells)) → holds (s ∷ ss) (cell ∷ cells) ≡ true
-    → ((s ≡ cell.0) × AllByRecursion (λ i. cell.0 < i) ss × (holds ss cells ≡ true)) ⊎ (AllByRecursion (λ i. cell.0 < i) (s ∷ ss) × (holds (s ∷ ss) cells ≡ true))
+pub first_held : (s : ℕ) (ss : List ℕ) (cell : ℕ × ℤ) (cells : List (ℕ × ℤ)) → Ascend (s ∷ ss)
+    → Ascend (items_in (cell ∷ cells)) → holds (s ∷ ss) (cell ∷ cells) ≡ true
+    → ((s ≡ cell.0) × AllByRecursion (λ i. cell.0 < i) ss × (holds ss cells ≡ true)) ⊎
+    (AllByRecursion (λ i. cell.0 < i) (s ∷ ss) × (holds (s ∷ ss) cells ≡ true))
 first_held s ss cell cells up rise h = elim (cases_eq s cell.0) [
   | inl e ↦
       let above : AllByRecursion (λ i. cell.0 < i) ss = subst (λ x. AllByRecursion (λ i. x < i) ss) e up.0 in
@@ -114,7 +118,8 @@ values_of-after (cell ∷ cells) set (m ∷ ms) up rise h after = elim (first_he
       let rest = values_of-past ms cell cells first.1 in
       let values : values_of (m ∷ ms) (cell ∷ cells) ≡ cell.1 +ℤ values_of ms cells = λ j. value j +ℤ rest j in
       let here : list_all (λ rank. ltb rank cell.0) set ≡ true = subst (λ x. list_all (λ rank. ltb rank x) set ≡ true) first.0 after.0 in
-      let counts : rest_after set (cell ∷ cells) ≡ positive_part cell.1 +ℤ rest_after set cells = ap (λ b. cond b (positive_part cell.1) (pos 0) +ℤ rest_after set cells) here in
+      let counts : rest_after set (cell ∷ cells) ≡ positive_part cell.1 +ℤ rest_after set cells =
+      ap (λ b. cond b (positive_part cell.1) (pos 0) +ℤ rest_after set cells) here in
       let ih = values_of-after cells set ms up.1 rise.1 first.2 after.1 in
       let part = (positive_part-upper cell.1).0 in
       rw (values, counts) (omega (arith, ints, ih, part))
@@ -131,7 +136,8 @@ pub holds-append : (set more : List ℕ) (cells : List (ℕ × ℤ)) → holds (
 holds-append [] more cells = refl
 holds-append (s ∷ ss) more cells = by (has s cells) (holds-append ss more cells)
   where
-    by : (b : Bool) → holds (ss ++ more) cells ≡ (holds ss cells && holds more cells) → (b && holds (ss ++ more) cells) ≡ ((b && holds ss cells) && holds more cells)
+    by : (b : Bool) → holds (ss ++ more) cells ≡ (holds ss cells && holds more cells) → (b && holds (ss ++ more) cells)
+        ≡ ((b && holds ss cells) && holds more cells)
     by true ih = ih
     by false ih = refl
 

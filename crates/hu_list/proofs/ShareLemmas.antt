@@ -1,5 +1,7 @@
 -- Shares of tails: what sets of kept ranks earn is within them, and they are within the absolute values.
-use Rattle.std.proofs.Common.{◌≡◌, ℕ, zero, suc, ◌+◌, ◌<◌, ◌≤◌, Bool, true, false, cond, eqb, ◌&&◌, ℤ, pos, unsigned_abs, ◌+ℤ◌, ◌≤ℤ◌, List, [], ◌∷◌, ◌++◌, length, get_or, take, drop, inl, inr, refl, sym, ap, ◌∙◌, subst, arith}
+use Rattle.std.proofs.Common.{◌≡◌, ℕ, zero, suc, ◌+◌, ◌<◌, ◌≤◌, Bool, true, false, cond, eqb, ◌&&◌, ℤ, pos}
+use Rattle.std.proofs.Common.{unsigned_abs, ◌+ℤ◌, ◌≤ℤ◌, List, [], ◌∷◌, ◌++◌, length, get_or, take, drop, inl, inr, refl}
+use Rattle.std.proofs.Common.{sym, ap, ◌∙◌, subst, arith}
 use Rattle.std.specs.List.{AllByRecursion}
 use Rattle.std.proofs.lemmas.Bool.{ne_eqb, eq-eqb, and_parts, cases_eq}
 use Rattle.std.proofs.lemmas.Int.{ints}
@@ -37,12 +39,20 @@ kept_gain-least keep (cell ∷ cells) = omega (arith, ints, part-least (among ce
 
 pub kept_gain-within : (keep : List ℕ) (cells : List (ℕ × ℤ)) → unsigned_abs (kept_gain keep cells) ≤ absolute_of cells
 kept_gain-within keep [] = omega arith
-kept_gain-within keep (cell ∷ cells) = omega (arith, ints, sum_by-cons (λ (c : ℕ × ℤ). unsigned_abs c.1) cell cells, part-within (among cell.0 keep) cell.1, kept_gain-within keep cells)
+kept_gain-within keep (cell ∷ cells) =
+    omega (
+      arith,
+      ints,
+      sum_by-cons (λ (c : ℕ × ℤ). unsigned_abs c.1) cell cells,
+      part-within (among cell.0 keep) cell.1,
+      kept_gain-within keep cells,
+    )
 
 -- ---- what a set of kept ranks earns in a tail is within the tail's share
 
 -- ranks above that of the first cell stand among the others
-values_of-skip : (set : List ℕ) (cell : ℕ × ℤ) (cells : List (ℕ × ℤ)) → AllByRecursion (λ rank. cell.0 < rank) set → values_of set (cell ∷ cells) ≡ values_of set cells
+values_of-skip : (set : List ℕ) (cell : ℕ × ℤ) (cells : List (ℕ × ℤ)) → AllByRecursion (λ rank. cell.0 < rank) set
+    → values_of set (cell ∷ cells) ≡ values_of set cells
 values_of-skip [] cell cells above = refl
 values_of-skip (s ∷ set) cell cells above =
     let other : eqb s cell.0 ≡ false = ne_eqb s cell.0 (λ e. absurd (omega arith)) in
@@ -54,7 +64,8 @@ holds-skip (s ∷ set) cell cells above =
     let other : eqb s cell.0 ≡ false = ne_eqb s cell.0 (λ e. absurd (omega arith)) in
     rw other (λ j. has s cells && holds-skip set cell cells above.1 j)
 
-pub values_of-kept : (keep : List ℕ) (cells : List (ℕ × ℤ)) (set : List ℕ) → Ascend (items_in cells) → Ascend set → AllByRecursion (λ rank. among rank keep ≡ true) set → holds set cells ≡ true
+pub values_of-kept : (keep : List ℕ) (cells : List (ℕ × ℤ)) (set : List ℕ) → Ascend (items_in cells) → Ascend set
+    → AllByRecursion (λ rank. among rank keep ≡ true) set → holds set cells ≡ true
     → values_of set cells ≤ℤ kept_gain keep cells
 values_of-kept keep cells [] up rise kept h = kept_gain-least keep cells
 values_of-kept keep [] (s ∷ set) up rise kept h = cc
@@ -87,11 +98,13 @@ kept_gain-append : (keep : List ℕ) (cells others : List (ℕ × ℤ)) → kept
 kept_gain-append keep [] others = omega (arith, ints)
 kept_gain-append keep (cell ∷ cells) others = omega (arith, ints, kept_gain-append keep cells others)
 
-cells_of-more : (cells : List Dense) (i : ℕ) (d : Dense) → i < length cells → cells_of (take (i + 1) cells) ≡ cells_of (take i cells) ++ dense_pair (get_or cells i d) ∷ []
+cells_of-more : (cells : List Dense) (i : ℕ) (d : Dense) → i < length cells → cells_of (take (i + 1) cells)
+    ≡ cells_of (take i cells) ++ dense_pair (get_or cells i d) ∷ []
 cells_of-more cells i d within = ap cells_of (take_more cells i d within) ∙ map-append dense_pair (take i cells) (get_or cells i d ∷ [])
 
 pub kept_gain-more : (keep : List ℕ) (cells : List Dense) (i : ℕ) (d : Dense) → i < length cells
-    → kept_gain keep (cells_of (take (i + 1) cells)) ≡ kept_gain keep (cells_of (take i cells)) +ℤ cond (among (get_or cells i d).rank keep) (positive_part (get_or cells i d).value) (pos 0)
+    → kept_gain keep (cells_of (take (i + 1) cells)) ≡ kept_gain keep (cells_of (take i cells))
+    +ℤ cond (among (get_or cells i d).rank keep) (positive_part (get_or cells i d).value) (pos 0)
 kept_gain-more keep cells i d within =
     let more = ap (kept_gain keep) (cells_of-more cells i d within) in
     omega (arith, ints, more, kept_gain-append keep (cells_of (take i cells)) (dense_pair (get_or cells i d) ∷ []))
@@ -112,7 +125,8 @@ absolute-drop [] (suc i) = omega arith
 absolute-drop (cell ∷ cells) (suc i) = omega (arith, sum_by-cons (λ (c : ℕ × ℤ). unsigned_abs c.1) (dense_pair cell) (cells_of cells), absolute-drop cells i)
 
 pub kept_gain-rest : (keep : List ℕ) (cells : List Dense) (i : ℕ) (d : Dense) → i < length cells
-    → kept_gain keep (cells_of (drop i cells)) ≡ cond (among (get_or cells i d).rank keep) (positive_part (get_or cells i d).value) (pos 0) +ℤ kept_gain keep (cells_of (drop (i + 1) cells))
+    → kept_gain keep (cells_of (drop i cells)) ≡ cond (among (get_or cells i d).rank keep)
+    (positive_part (get_or cells i d).value) (pos 0) +ℤ kept_gain keep (cells_of (drop (i + 1) cells))
 kept_gain-rest keep cells i d within = ap (λ cs. kept_gain keep (cells_of cs)) (drop_more cells i d within)
 
 -- a value and the gain after it are within all values

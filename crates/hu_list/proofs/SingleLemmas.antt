@@ -1,5 +1,7 @@
 -- The list of a single rank, record by record.
-use Rattle.std.proofs.Common.{◌≡◌, ℕ, zero, suc, ◌<◌, ◌≤◌, ◌+◌, true, false, cond, eqb, ltb, ◌&&◌, ℤ, pos, ◌+ℤ◌, List, [], ◌∷◌, ◌++◌, map, length, get_or, refl, sym, ap, ◌∙◌, subst, inl, inr, arith, sum_by, append_assoc, append-nil}
+use Rattle.std.proofs.Common.{◌≡◌, ℕ, zero, suc, ◌<◌, ◌≤◌, ◌+◌, true, false, cond, eqb, ltb, ◌&&◌, ℤ, pos, ◌+ℤ◌, List}
+use Rattle.std.proofs.Common.{[], ◌∷◌, ◌++◌, map, length, get_or, refl, sym, ap, ◌∙◌, subst, inl, inr, arith, sum_by}
+use Rattle.std.proofs.Common.{append_assoc, append-nil}
 use Rattle.std.specs.List.{AllByRecursion}
 use Rattle.std.proofs.lemmas.Bool.{cases_lt, cases_eq, lt-ltb, le-ltb, ne_eqb, eq-eqb}
 use Rattle.std.proofs.lemmas.Int.{ints}
@@ -16,14 +18,17 @@ use Rattle.hu_list.specs.declared.list.Node.{Node}
 use Rattle.hu_list.specs.Nodes.{rest_after, node_of, nodes_from, node_in, list_of}
 
 -- the nodes in records and then in others
-pub nodes_from-append : (place : ℕ) (records more : List (List (ℕ × ℤ))) (set : List ℕ) → nodes_from place (records ++ more) set ≡ nodes_from place records set ++ nodes_from (place + length records) more set
+pub nodes_from-append : (place : ℕ) (records more : List (List (ℕ × ℤ))) (set : List ℕ)
+    → nodes_from place (records ++ more) set ≡ nodes_from place records set
+    ++ nodes_from (place + length records) more set
 nodes_from-append place [] more set = let e : place ≡ place + 0 = omega arith in ap (λ k. nodes_from k more set) e
 nodes_from-append place (cells ∷ records) more set =
     let ih = nodes_from-append (place + 1) records more set in
     let e : place + 1 + length records ≡ place + length (cells ∷ records) = omega arith in
     let here : List Node = cond (holds set cells) (node_of set place cells ∷ []) [] in
     ap (λ ns. cond (holds set cells) (node_of set place cells ∷ []) [] ++ ns) (ih ∙ ap (λ k. nodes_from (place + 1) records set ++ nodes_from k more set) e)
-    ∙ sym (append_assoc (cond (holds set cells) (node_of set place cells ∷ []) []) (nodes_from (place + 1) records set) (nodes_from (place + length (cells ∷ records)) more set))
+    ∙ sym (append_assoc (cond (holds set cells) (node_of set place cells ∷ []) []) (nodes_from (place + 1) records set)
+    (nodes_from (place + length (cells ∷ records)) more set))
 
 rest_after-all : (rank : ℕ) (cells : List (ℕ × ℤ)) → AllByRecursion (λ i. rank < i) (items_in cells) → rest_after (rank ∷ []) cells ≡ gain cells
 rest_after-all rank [] above = refl
@@ -33,7 +38,8 @@ rest_after-all rank (cell ∷ cells) above =
     rw test (ap (λ v. positive_part cell.1 +ℤ v) ih)
 
 -- the node of a rank in a record whose ranks ascend
-pub node_in-nodes : (place rank : ℕ) (cells : List (ℕ × ℤ)) → Ascend (items_in cells) → node_in place rank cells ≡ cond (holds (rank ∷ []) cells) (node_of (rank ∷ []) place cells ∷ []) []
+pub node_in-nodes : (place rank : ℕ) (cells : List (ℕ × ℤ)) → Ascend (items_in cells) → node_in place rank cells
+    ≡ cond (holds (rank ∷ []) cells) (node_of (rank ∷ []) place cells ∷ []) []
 node_in-nodes place rank [] up = refl
 node_in-nodes place rank (cell ∷ cells) up = elim (cases_eq rank cell.0) [
   | inl e ↦
@@ -68,15 +74,24 @@ list_of-more records cells place rank is up =
     nodes_from-append 0 records (cells ∷ []) (rank ∷ [])
     ∙ ap (λ ns. list_of records (rank ∷ []) ++ ns)
     (let e : 0 + length records ≡ place = omega (arith, is) in
-    ap (λ k. nodes_from k (cells ∷ []) (rank ∷ [])) e ∙ append-nil (cond (holds (rank ∷ []) cells) (node_of (rank ∷ []) place cells ∷ []) []) ∙ sym (node_in-nodes place rank cells up))
+    ap (λ k. nodes_from k (cells ∷ []) (rank ∷ [])) e ∙ append-nil
+    (cond (holds (rank ∷ []) cells) (node_of (rank ∷ []) place cells ∷ []) [])
+    ∙ sym (node_in-nodes place rank cells up))
 
 -- a record's cells
-pub at-records : (P : List (ℕ × ℤ) → Type 0) (records : List (Vec Dense Global)) (i : ℕ) (d : Vec Dense Global) → AllByRecursion P (map pairs_in records) → i < length records → P (pairs_in (get_or records i d))
+pub at-records : (P : List (ℕ × ℤ) → Type 0) (records : List (Vec Dense Global)) (i : ℕ) (d : Vec Dense Global)
+    → AllByRecursion P (map pairs_in records) → i < length records → P (pairs_in (get_or records i d))
 at-records P [] i d all within = absurd (omega arith)
 at-records P (r ∷ records) zero d all within = all.0
 at-records P (r ∷ records) (suc i) d all within = at-records P records i d all.1 (omega arith)
 
-pub absolute-record : (records : List (Vec Dense Global)) (i : ℕ) (d : Vec Dense Global) → i < length records → absolute_of (pairs_in (get_or records i d)) ≤ sum_by absolute_of (map pairs_in records)
+pub absolute-record : (records : List (Vec Dense Global)) (i : ℕ) (d : Vec Dense Global) → i < length records
+    → absolute_of (pairs_in (get_or records i d)) ≤ sum_by absolute_of (map pairs_in records)
 absolute-record [] i d within = absurd (omega arith)
 absolute-record (r ∷ records) zero d within = omega (arith, sum_by-cons absolute_of (pairs_in r) (map pairs_in records))
-absolute-record (r ∷ records) (suc i) d within = omega (arith, absolute-record records i d (omega arith), sum_by-cons absolute_of (pairs_in r) (map pairs_in records))
+absolute-record (r ∷ records) (suc i) d within =
+    omega (
+      arith,
+      absolute-record records i d (omega arith),
+      sum_by-cons absolute_of (pairs_in r) (map pairs_in records),
+    )

@@ -1,5 +1,6 @@
 -- Slots of ranks, and lists that go along with them.
-use Rattle.std.proofs.Common.{◌≡◌, ◌≢◌, ℕ, zero, suc, ◌+◌, ◌<◌, Bool, true, false, cond, eqb, ◌||◌, List, [], ◌∷◌, ◌++◌, length, get_or, set, take, replicate, inl, inr, refl, sym, ap, ◌∙◌, subst, arith, nat_eq}
+use Rattle.std.proofs.Common.{◌≡◌, ◌≢◌, ℕ, zero, suc, ◌+◌, ◌<◌, Bool, true, false, cond, eqb, ◌||◌, List, [], ◌∷◌, ◌++◌}
+use Rattle.std.proofs.Common.{length, get_or, set, take, replicate, inl, inr, refl, sym, ap, ◌∙◌, subst, arith, nat_eq}
 use Rattle.std.specs.List.{AllByRecursion, IsDistinct}
 use Rattle.std.proofs.Math.Bool.{or-true}
 use Rattle.std.proofs.lemmas.Bool.{ne_eqb, eq-eqb, eqb-true, or_cases, cases_eq}
@@ -35,7 +36,8 @@ slots-absent places ranks rank slots none = false_from (among rank ranks) (λ m.
     let slot = slots at.0 at.2 in
     none at.0 at.2 (subst (λ r. r < length places) at.3 slot.0) (subst (λ r. get_or places r 0 ≡ at.0) at.3 slot.1) at.3)
 
-pub slots-place : (places ranks : List ℕ) (rank place : ℕ) → AreSlots places ranks → get_or places rank 0 ≡ place → place < length ranks → get_or ranks place 0 ≡ rank → IsPlace ranks rank place
+pub slots-place : (places ranks : List ℕ) (rank place : ℕ) → AreSlots places ranks → get_or places rank 0 ≡ place
+    → place < length ranks → get_or ranks place 0 ≡ rank → IsPlace ranks rank place
 slots-place places ranks rank place slots is within here = record {
   within = within;
   here = here;
@@ -47,10 +49,13 @@ slots-place places ranks rank place slots is within here = record {
       absurd (omega (arith, same, is, low)));
 }
 
-pub slots-push : (places ranks : List ℕ) (rank : ℕ) → AreSlots places ranks → among rank ranks ≡ false → rank < length places → AreSlots (set places rank (length ranks)) (ranks ++ rank ∷ [])
+pub slots-push : (places ranks : List ℕ) (rank : ℕ) → AreSlots places ranks → among rank ranks ≡ false
+    → rank < length places → AreSlots (set places rank (length ranks)) (ranks ++ rank ∷ [])
 slots-push places ranks rank slots fresh within i low = elim (cases_eq i (length ranks)) [
   | inl e ↦
-      let here : get_or (ranks ++ rank ∷ []) i 0 ≡ rank = ap (λ k. get_or (ranks ++ rank ∷ []) k 0) (e ∙ zeros (length ranks)) ∙ get_or-append-add ranks (rank ∷ []) 0 0 in (
+      let here : get_or (ranks ++ rank ∷ []) i 0 ≡ rank =
+      ap (λ k. get_or (ranks ++ rank ∷ []) k 0) (e ∙ zeros (length ranks))
+      ∙ get_or-append-add ranks (rank ∷ []) 0 0 in (
         subst (λ r. r < length (set places rank (length ranks))) (sym here) (omega (arith, length-set places rank (length ranks))),
         ap (λ r. get_or (set places rank (length ranks)) r 0) here ∙ get_or-set_same places rank (length ranks) 0 within ∙ sym e,
       )
@@ -98,7 +103,9 @@ distinct-before [] i d apart within = absurd (omega arith)
 distinct-before (r ∷ ranks) zero d apart within = refl
 distinct-before (r ∷ ranks) (suc i) d apart within =
     let ih = distinct-before ranks i d apart.1 (omega arith) in
-    let other : eqb (get_or ranks i d) r ≡ false = ne_eqb (get_or ranks i d) r (λ e. let same : eqb r (get_or ranks i d) ≡ true = eq-eqb r (get_or ranks i d) (sym e) in let no = at ranks i apart.0 (omega arith) in cc) in
+    let other : eqb (get_or ranks i d) r ≡ false =
+    ne_eqb (get_or ranks i d) r (λ e. let same : eqb r (get_or ranks i d) ≡ true =
+    eq-eqb r (get_or ranks i d) (sym e) in let no = at ranks i apart.0 (omega arith) in cc) in
     rw other ih
   where
     at : (ranks : List ℕ) (i : ℕ) → AllByRecursion (λ y. eqb r y ≡ false) ranks → i < length ranks → eqb r (get_or ranks i d) ≡ false
@@ -126,7 +133,9 @@ pub at-set : {A : Type 0} (none : A) (ranks : List ℕ) (values : List A) (rank 
     → (z : ℕ) → at none ranks (set values place v) z ≡ cond (eqb z rank) v (at none ranks values z)
 at-set none [] values rank place v is within z = let low = is.within in absurd (omega arith)
 at-set none (r ∷ ranks) [] rank place v is within z = absurd (omega arith)
-at-set none (r ∷ ranks) (w ∷ values) rank zero v is within z = subst (λ k. cond (eqb z r) v (at none ranks values z) ≡ cond (eqb z k) v (cond (eqb z r) w (at none ranks values z))) is.here (by (eqb z r))
+at-set none (r ∷ ranks) (w ∷ values) rank zero v is within z =
+    subst (λ k. cond (eqb z r) v (at none ranks values z)
+    ≡ cond (eqb z k) v (cond (eqb z r) w (at none ranks values z))) is.here (by (eqb z r))
   where
     by : (b : Bool) → cond b v (at none ranks values z) ≡ cond b v (cond b w (at none ranks values z))
     by true = refl
@@ -153,7 +162,8 @@ at-absent none (r ∷ ranks) (w ∷ values) z fresh =
     let apart = both_false (eqb z r) (among z ranks) fresh in
     rw (apart.0) (at-absent none ranks values z apart.1)
 
-pub at-place : {A : Type 0} (none : A) (ranks : List ℕ) (values : List A) (rank place : ℕ) → IsPlace ranks rank place → place < length values → at none ranks values rank ≡ get_or values place none
+pub at-place : {A : Type 0} (none : A) (ranks : List ℕ) (values : List A) (rank place : ℕ) → IsPlace ranks rank place
+    → place < length values → at none ranks values rank ≡ get_or values place none
 at-place none [] values rank place is within = let low = is.within in absurd (omega arith)
 at-place none (r ∷ ranks) [] rank place is within = absurd (omega arith)
 at-place none (r ∷ ranks) (w ∷ values) rank zero is within = let here : eqb rank r ≡ true = eq-eqb rank r (sym is.here) in rw here refl
@@ -168,12 +178,15 @@ place-among ranks rank place is = among-at ranks place rank is.within is.here
 
 -- ---- slots as they are looked up
 
-pub missing : (places ranks : List ℕ) (rank : ℕ) → AreSlots places ranks → (rank < length places → get_or places rank 0 < length ranks → get_or ranks (get_or places rank 0) 0 ≡ rank → ⊥) → among rank ranks ≡ false
+pub missing : (places ranks : List ℕ) (rank : ℕ) → AreSlots places ranks
+    → (rank < length places → get_or places rank 0 < length ranks → get_or ranks (get_or places rank 0) 0 ≡ rank → ⊥)
+    → among rank ranks ≡ false
 missing places ranks rank slots none = slots-absent places ranks rank slots (λ i within below at here.
     none below (subst (λ k. k < length ranks) (sym at) within) (subst (λ k. get_or ranks k 0 ≡ rank) (sym at) here))
 
 -- one place is changed by what stands there
-pub changed_at : {A : Type 0} (f : ℕ → A) (change : A → A) (rank : ℕ) (v : A) → v ≡ change (f rank) → (z : ℕ) → cond (eqb z rank) v (f z) ≡ cond (eqb z rank) (change (f z)) (f z)
+pub changed_at : {A : Type 0} (f : ℕ → A) (change : A → A) (rank : ℕ) (v : A) → v ≡ change (f rank) → (z : ℕ)
+    → cond (eqb z rank) v (f z) ≡ cond (eqb z rank) (change (f z)) (f z)
 changed_at f change rank v is z = elim (cases_eq z rank) [
   | inl e ↦ let here : eqb z rank ≡ true = eq-eqb z rank e in rw here (is ∙ ap (λ r. change (f r)) (sym e))
   | inr ne ↦ let other : eqb z rank ≡ false = ne_eqb z rank ne in rw other refl

@@ -69,12 +69,15 @@ module _ {old now : State} {r : Ranking} {set later : List ℕ} {chosen : List C
   pub so_far-all : (d : Child) → (length chosen ≤ at) ⊎ ((get_or chosen at d).bound <ℤ floor_in now) → Reached old (Grows r set) now
   so_far-all d ends =
       let opened = subst (λ ranks. AreOpen so_far.mid r set ranks chosen) (sym so_far.ranks)
-      (open-is {s = old} {t = so_far.mid} r set so_far.children chosen (reached-rule so_far.offers) (reached-floor ordered so_far.offers) so_far.level so_far.are) in
+      (open-is {s = old} {t = so_far.mid} r set so_far.children chosen (reached-rule so_far.offers)
+      (reached-floor ordered so_far.offers) so_far.level so_far.are) in
       upto-all r set later chosen at d ordered enough so_far.offers opened so_far.are.fall so_far.rises ends so_far.upto
 
   module _ (within : at < length chosen) (d : Child) where
     pub so_far-child : IsChild r set (get_or chosen at d)
-    so_far-child = each-get (IsChild r set) chosen at d (chosen-children r set (floor_in so_far.mid) so_far.children chosen so_far.level.right so_far.are) within
+    so_far-child =
+        each-get (IsChild r set) chosen at d (chosen-children r set
+        (floor_in so_far.mid) so_far.children chosen so_far.level.right so_far.are) within
 
     pub so_far-enough : AreEnough now r (set ++ (get_or chosen at d).rank ∷ []) later
     so_far-enough = enough-later old now r set (get_or chosen at d).rank later so_far-rule so_far-rises enough

@@ -24,9 +24,12 @@ bound_of (node ∷ nodes) = most_at node +ℤ bound_of nodes
 -- the same, by the records that hold the set
 abbrev pub list_bound : List (List (ℕ × ℤ)) → List ℕ → ℤ
 list_bound [] ranks = pos 0
-list_bound (cells ∷ records) ranks = (if holds ranks cells then positive_part (values_of ranks cells +ℤ rest_after ranks cells) else pos 0) +ℤ list_bound records ranks
+list_bound (cells ∷ records) ranks =
+    (if holds ranks cells then positive_part (values_of ranks cells +ℤ rest_after ranks cells) else
+    pos 0) +ℤ list_bound records ranks
 
 -- in all records whose ranks ascend, no set whose list this is and that is grown by later ranks earns more than a bound
 abbrev pub BoundsGrown : List Node → ℤ → Type 0
-BoundsGrown nodes bound = (records : List (List (ℕ × ℤ))) → RanksAscend records → (ranks more : List ℕ) → nodes ≡ list_of records ranks
+BoundsGrown nodes bound = (records : List (List (ℕ × ℤ))) → RanksAscend records
+    → (ranks more : List ℕ) → nodes ≡ list_of records ranks
     → Ascend (ranks ++ more) → utility records (ranks ++ more) ≤ℤ bound

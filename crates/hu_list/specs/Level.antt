@@ -1,5 +1,24 @@
 -- What a search over tails knows of a set and of its children.
-use Rattle.std.specs.Prelude.{◌≡◌, ℕ, true, nat_eq, ◌⊎◌, ◌≤ℤ◌, ◌<ℤ◌, ℤ, Option, None, Some, List, [], ◌∷◌, ◌++◌, ◌<◌, slice_index_or, length}
+use Rattle.std.specs.Prelude.{
+  ◌≡◌,
+  ℕ,
+  true,
+  nat_eq,
+  ◌⊎◌,
+  ◌≤ℤ◌,
+  ◌<ℤ◌,
+  ℤ,
+  Option,
+  None,
+  Some,
+  List,
+  [],
+  ◌∷◌,
+  ◌++◌,
+  ◌<◌,
+  slice_index_or,
+  length,
+}
 use Rattle.std.specs.List.{AllByRecursion, Contains, IsDistinct}
 use Rattle.hu_kind.specs.Database.{utility, support}
 use Rattle.hu_kind.specs.Order.{Ascend}
@@ -18,18 +37,22 @@ use Rattle.hu_list.specs.View.{AreTails}
 pub record IsLeft (r : Ranking) (set : List ℕ) (tails : List TailOf) : Type 0 where
   pub rules : AreTails (length r.items) tails
   pub later : AllByRecursion (λ tail. Ascend (set ++ items_in tail.cells)) tails
-  pub utility : (first : ℕ) (more : List ℕ) → Ascend (set ++ first ∷ more) → utility r.records (set ++ first ∷ more) ≡ earned tails (first ∷ more)
-  pub support : (first : ℕ) (more : List ℕ) → Ascend (set ++ first ∷ more) → support r.records (set ++ first ∷ more) ≡ held tails (first ∷ more)
+  pub utility : (first : ℕ) (more : List ℕ) → Ascend (set ++ first ∷ more)
+      → utility r.records (set ++ first ∷ more) ≡ earned tails (first ∷ more)
+  pub support : (first : ℕ) (more : List ℕ) → Ascend (set ++ first ∷ more)
+      → support r.records (set ++ first ∷ more) ≡ held tails (first ∷ more)
 
 -- no set that holds a last rank and another earns a floor, in all records for which this is right
 abbrev pub IsRefused : (List (List (ℕ × ℤ)) → Type 0) → ℤ → Option ℕ → ℕ → Type 0
 IsRefused Right floor None rank = ⊥
-IsRefused Right floor (Some last) rank = (records : List (List (ℕ × ℤ))) → Right records → (set : List ℕ) → Ascend set → Contains set last → Contains set rank
+IsRefused Right floor (Some last) rank = (records : List (List (ℕ × ℤ))) → Right records
+    → (set : List ℕ) → Ascend set → Contains set last → Contains set rank
     → utility records set <ℤ floor
 
 -- no set that grows a set by a child's rank and then by later ones of these earns more than the child's bound
 abbrev pub IsMost : Ranking → List ℕ → List ℕ → Child → Type 0
-IsMost r set ranks child = (more : List ℕ) → Ascend (set ++ child.rank ∷ more) → AllByRecursion (Contains ranks) more
+IsMost r set ranks child = (more : List ℕ) → Ascend (set ++ child.rank ∷ more)
+    → AllByRecursion (Contains ranks) more
     → utility r.records (set ++ child.rank ∷ more) ≤ℤ child.bound
 
 -- the children of a set that a search offers and may enter: no other set counts that grows it
@@ -44,9 +67,11 @@ abbrev pub sum_of : Child → Sum
 sum_of child = record { support = child.support; utility = child.utility; bound = child.bound }
 
 -- of ranks with gains those that are kept: they reach a floor, and each other one doesn't or is refused
-pub record AreKept (Right : List (List (ℕ × ℤ)) → Type 0) (gate floor : ℤ) (last : Option ℕ) (gain : ℕ → ℤ) (ranks kept : List ℕ) : Type 0 where
+pub record AreKept (Right : List (List (ℕ × ℤ)) → Type 0) (gate floor : ℤ) (last : Option ℕ)
+    (gain : ℕ → ℤ) (ranks kept : List ℕ) : Type 0 where
   pub sound : (z : ℕ) → among z kept ≡ true → floor ≤ℤ gain z
-  pub whole : (z : ℕ) → among z ranks ≡ true → (among z kept ≡ true) ⊎ ((gain z <ℤ floor) ⊎ IsRefused Right gate last z)
+  pub whole : (z : ℕ) → among z ranks ≡ true → (among z kept ≡ true) ⊎
+      ((gain z <ℤ floor) ⊎ IsRefused Right gate last z)
 
 -- of children those whose bound reaches a floor, best bound first
 pub record AreChosen (floor : ℤ) (children chosen : List Child) : Type 0 where
@@ -57,4 +82,5 @@ pub record AreChosen (floor : ℤ) (children chosen : List Child) : Type 0 where
 
 -- lists that go along with children are the tails of their sets, where cells are left
 abbrev pub AreGrown : Ranking → List ℕ → List Child → List (List TailOf) → Type 0
-AreGrown r set chosen lists = (i : ℕ) → i < length chosen → IsLeft r (set ++ slice_index_or (ranks_of chosen) i 0 ∷ []) (slice_index_or lists i [])
+AreGrown r set chosen lists = (i : ℕ) → i < length chosen
+    → IsLeft r (set ++ slice_index_or (ranks_of chosen) i 0 ∷ []) (slice_index_or lists i [])

@@ -1,5 +1,23 @@
 -- What a pass over the cells of tails leaves at each rank.
-use Rattle.std.specs.Prelude.{ℕ, ◌+◌, ◌^◌, ◌<◌, nat_lt, ◌==◌, ◌&&◌, ℤ, pos, ◌+ℤ◌, unsigned_abs, List, [], ◌∷◌, ◌++◌, length, if◌then◌else◌}
+use Rattle.std.specs.Prelude.{
+  ℕ,
+  ◌+◌,
+  ◌^◌,
+  ◌<◌,
+  nat_lt,
+  ◌==◌,
+  ◌&&◌,
+  ℤ,
+  pos,
+  ◌+ℤ◌,
+  unsigned_abs,
+  List,
+  [],
+  ◌∷◌,
+  ◌++◌,
+  length,
+  if◌then◌else◌,
+}
 use Rattle.hu_kind.specs.Record.{positive_part}
 use Rattle.hu_list.specs.declared.sums.Sum.{Sum}
 use Rattle.hu_list.specs.Slots.{among}
@@ -21,11 +39,18 @@ gaining keep tail cell cells sum = if among cell.0 keep then sum +ℤ share keep
 
 -- a rank's sums with a tail more, at which its set earns so much and kept ranks after it gain so much
 abbrev pub sum_with : Sum → ℤ → ℤ → Sum
-sum_with sum own rest = record { support = sum.support + 1; utility = sum.utility +ℤ own; bound = sum.bound +ℤ positive_part (own +ℤ rest) }
+sum_with sum own rest =
+    record {
+      support = sum.support + 1;
+      utility = sum.utility +ℤ own;
+      bound =
+          sum.bound +ℤ positive_part (own +ℤ rest);
+    }
 
 -- a kept rank has its sums with a tail more
 abbrev pub summing : List ℕ → TailOf → ℕ × ℤ → List (ℕ × ℤ) → Sum → Sum
-summing keep tail cell cells sum = if among cell.0 keep then sum_with sum (tail.own +ℤ cell.1) (kept_gain keep cells) else sum
+summing keep tail cell cells sum =
+    if among cell.0 keep then sum_with sum (tail.own +ℤ cell.1) (kept_gain keep cells) else sum
 
 -- the sums of no tail
 abbrev pub no_sum : Sum
@@ -34,7 +59,8 @@ no_sum = record { support = 0; utility = pos 0; bound = pos 0 }
 -- a kept rank has a tail more, where cells are left
 abbrev pub growing : List ℕ → TailOf → ℕ × ℤ → List (ℕ × ℤ) → List TailOf → List TailOf
 growing keep tail cell cells tails =
-    if among cell.0 keep && nat_lt 0 (length cells) then tails ++ (record { own = tail.own +ℤ cell.1; cells = cells }) ∷ [] else tails
+    if among cell.0 keep && nat_lt 0 (length cells) then tails
+    ++ (record { own = tail.own +ℤ cell.1; cells = cells }) ∷ [] else tails
 
 -- sums stay within their types where a tail of so great values comes to them
 pub record SumsFit (sum : Sum) (size : ℕ) : Type 0 where

@@ -1,5 +1,19 @@
 -- Some ranks below a number, each once, and lists that go along with them.
-use Rattle.std.specs.Prelude.{◌≡◌, ℕ, ◌<◌, ◌==◌, Bool, false, List, [], ◌∷◌, length, take, slice_index_or, if◌then◌else◌}
+use Rattle.std.specs.Prelude.{
+  ◌≡◌,
+  ℕ,
+  ◌<◌,
+  ◌==◌,
+  Bool,
+  false,
+  List,
+  [],
+  ◌∷◌,
+  length,
+  take,
+  slice_index_or,
+  if◌then◌else◌,
+}
 use Rattle.std.specs.List.{list_any}
 
 -- some of the ranks below a number
@@ -25,4 +39,6 @@ at none (rank ∷ ranks) (value ∷ values) z = if z == rank then value else at 
 
 -- the rule of slots: each rank has its place written at it
 abbrev pub AreSlots : List ℕ → List ℕ → Type 0
-AreSlots places ranks = (i : ℕ) → i < length ranks → (slice_index_or ranks i 0 < length places) × (slice_index_or places (slice_index_or ranks i 0) 0 ≡ i)
+AreSlots places ranks = (i : ℕ) → i < length ranks
+    → (slice_index_or ranks i 0 < length places)
+    × (slice_index_or places (slice_index_or ranks i 0) 0 ≡ i)

@@ -42,7 +42,8 @@ pub list_of_4_5 : base_a_list (2 ∷ 5 ∷ []) ≡ node 0 9 1 ∷ node 1 9 3 ∷
 list_of_4_5 = refl
 
 -- these two joined over the prefix of item 4
-pub joined_4_2_5 : merged (base_a_list (2 ∷ [])) (base_a_list (2 ∷ 3 ∷ [])) (base_a_list (2 ∷ 5 ∷ [])) ≡ node 0 19 1 ∷ node 1 17 3 ∷ []
+pub joined_4_2_5 : merged (base_a_list (2 ∷ [])) (base_a_list (2 ∷ 3 ∷ []))
+    (base_a_list (2 ∷ 5 ∷ [])) ≡ node 0 19 1 ∷ node 1 17 3 ∷ []
 joined_4_2_5 = refl
 
 pub list_of_4_2_5 : base_a_list (2 ∷ 3 ∷ 5 ∷ []) ≡ node 0 19 1 ∷ node 1 17 3 ∷ []

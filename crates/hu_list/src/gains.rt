@@ -22,7 +22,8 @@ pub(crate) fn gains(
     requires rules { AreTails found.old.room (tails_of tails.now) }
     ensures room { found.new.room ≡ found.old.room }
     ensures len { IfOk result (λ gains. length gains.items ≡ length found.new.ranks) }
-    ensures gains { IfOk result (λ gains. (z : ℕ) → at (pos 0) found.new.ranks gains.items z ≡ met_in (gaining kept.now.ranks) z (tails_of tails.now) (pos 0)) }
+    ensures gains { IfOk result (λ gains. (z : ℕ) → at (pos 0) found.new.ranks gains.items z
+        ≡ met_in (gaining kept.now.ranks) z (tails_of tails.now) (pos 0)) }
 {
     found.clear();
     let mut gains = Vec::new(alloc);
@@ -41,10 +42,13 @@ fn add_gains(
 ) -> Result<(), NoMemory>
     requires len { length gains.old.items ≡ length found.old.ranks }
     requires rules { IsTail found.old.room (tail_of tail.now) }
-    requires fits { (z : ℕ) → unsigned_abs (at (pos 0) found.old.ranks gains.old.items z) + size_of (tail_of tail.now) < 2 ^ 127 }
+    requires fits { (z : ℕ) → unsigned_abs (at (pos 0) found.old.ranks gains.old.items z) + size_of
+        (tail_of tail.now) < 2 ^ 127 }
     ensures room { found.new.room ≡ found.old.room }
     ensures len { OnOk result (length gains.new.items ≡ length found.new.ranks) }
-    ensures gains { OnOk result ((z : ℕ) → at (pos 0) found.new.ranks gains.new.items z ≡ met (gaining kept.now.ranks (tail_of tail.now)) z (tail_of tail.now).cells (at (pos 0) found.old.ranks gains.old.items z)) }
+    ensures gains { OnOk result ((z : ℕ) → at (pos 0) found.new.ranks gains.new.items z
+        ≡ met (gaining kept.now.ranks (tail_of tail.now)) z (tail_of tail.now).cells
+        (at (pos 0) found.old.ranks gains.old.items z)) }
 {
     let share = tail.share(kept);
     for cell in tail.cells {
@@ -63,10 +67,15 @@ fn add_kept(
 ) -> Result<(), NoMemory>
     requires len { length gains.old.items ≡ length found.old.ranks }
     requires within { rank < found.old.room }
-    requires fits { unsigned_abs (at (pos 0) found.old.ranks gains.old.items rank) + unsigned_abs share < 2 ^ 127 }
+    requires fits { unsigned_abs (at (pos 0) found.old.ranks gains.old.items rank) + unsigned_abs share < 2 ^
+        127 }
     ensures room { found.new.room ≡ found.old.room }
     ensures len { OnOk result (length gains.new.items ≡ length found.new.ranks) }
-    ensures gains { OnOk result ((z : ℕ) → at (pos 0) found.new.ranks gains.new.items z ≡ (if z == rank then (if among rank kept.now.ranks then at (pos 0) found.old.ranks gains.old.items z +ℤ share else at (pos 0) found.old.ranks gains.old.items z) else at (pos 0) found.old.ranks gains.old.items z)) }
+    ensures gains { OnOk result ((z : ℕ) → at (pos 0) found.new.ranks gains.new.items z
+        ≡ (if z == rank then (if among rank kept.now.ranks then at
+        (pos 0) found.old.ranks gains.old.items z
+        +ℤ share else at (pos 0) found.old.ranks gains.old.items z) else at
+        (pos 0) found.old.ranks gains.old.items z)) }
 {
     if kept.has(rank) {
         add_gain(found, gains, rank, share)?;
@@ -83,10 +92,13 @@ fn add_gain(
 ) -> Result<(), NoMemory>
     requires len { length gains.old.items ≡ length found.old.ranks }
     requires within { rank < found.old.room }
-    requires fits { unsigned_abs (at (pos 0) found.old.ranks gains.old.items rank) + unsigned_abs share < 2 ^ 127 }
+    requires fits { unsigned_abs (at (pos 0) found.old.ranks gains.old.items rank) + unsigned_abs share < 2 ^
+        127 }
     ensures room { found.new.room ≡ found.old.room }
     ensures len { OnOk result (length gains.new.items ≡ length found.new.ranks) }
-    ensures gains { OnOk result ((z : ℕ) → at (pos 0) found.new.ranks gains.new.items z ≡ (if z == rank then at (pos 0) found.old.ranks gains.old.items z +ℤ share else at (pos 0) found.old.ranks gains.old.items z)) }
+    ensures gains { OnOk result ((z : ℕ) → at (pos 0) found.new.ranks gains.new.items z
+        ≡ (if z == rank then at (pos 0) found.old.ranks gains.old.items z
+        +ℤ share else at (pos 0) found.old.ranks gains.old.items z)) }
 {
     match found.find(rank) {
         Some(slot) => gains[slot] += share,

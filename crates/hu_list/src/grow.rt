@@ -19,7 +19,8 @@ pub(crate) fn grown<'a>(
 ) -> Result<Vec<Vec<Tail<'a>>>, NoMemory>
     requires rules { AreTails slots.now.room (tails_of tails.now) }
     ensures len { IfOk result (λ lists. length lists.items ≡ length slots.now.ranks) }
-    ensures lists { IfOk result (λ lists. (z : ℕ) → at [] slots.now.ranks (lists_of lists.items) z ≡ met_in (growing slots.now.ranks) z (tails_of tails.now) []) }
+    ensures lists { IfOk result (λ lists. (z : ℕ) → at [] slots.now.ranks (lists_of lists.items) z
+        ≡ met_in (growing slots.now.ranks) z (tails_of tails.now) []) }
 {
     let mut lists = empty_lists(alloc, slots.ranks().len())?;
     for tail in tails {
@@ -31,7 +32,8 @@ pub(crate) fn grown<'a>(
 /// So many lists without tails.
 fn empty_lists<'a>(alloc: Global, count: usize) -> Result<Vec<Vec<Tail<'a>>>, NoMemory>
     ensures len { IfOk result (λ lists. length lists.items ≡ count) }
-    ensures none { IfOk result (λ lists. (ranks : List ℕ) → (z : ℕ) → at [] ranks (lists_of lists.items) z ≡ []) }
+    ensures none { IfOk result (λ lists. (ranks : List ℕ) → (z : ℕ) → at [] ranks (lists_of lists.items) z
+        ≡ []) }
 {
     let mut lists = Vec::with_capacity(alloc, count)?;
     for _list in 0..count {
@@ -50,7 +52,9 @@ fn add_tails<'a>(
     requires rules { IsTail slots.now.room (tail_of tail.now) }
     requires fits { size_of (tail_of tail.now) < 2 ^ 127 }
     ensures len { OnOk result (length lists.new.items ≡ length slots.now.ranks) }
-    ensures lists { OnOk result ((z : ℕ) → at [] slots.now.ranks (lists_of lists.new.items) z ≡ met (growing slots.now.ranks (tail_of tail.now)) z (tail_of tail.now).cells (at [] slots.now.ranks (lists_of lists.old.items) z)) }
+    ensures lists { OnOk result ((z : ℕ) → at [] slots.now.ranks (lists_of lists.new.items) z
+        ≡ met (growing slots.now.ranks (tail_of tail.now)) z (tail_of tail.now).cells
+        (at [] slots.now.ranks (lists_of lists.old.items) z)) }
 {
     for (at, cell) in tail.cells.iter().enumerate() {
         let left = Tail {
@@ -71,7 +75,11 @@ fn add_tail<'a>(
 ) -> Result<(), NoMemory>
     requires len { length lists.old.items ≡ length slots.now.ranks }
     ensures len { OnOk result (length lists.new.items ≡ length slots.now.ranks) }
-    ensures lists { OnOk result ((z : ℕ) → at [] slots.now.ranks (lists_of lists.new.items) z ≡ (if z == rank then (if among rank slots.now.ranks && nat_lt 0 (length tail.entry.cells.now) then at [] slots.now.ranks (lists_of lists.old.items) z ++ tail_of tail.entry ∷ [] else at [] slots.now.ranks (lists_of lists.old.items) z) else at [] slots.now.ranks (lists_of lists.old.items) z)) }
+    ensures lists { OnOk result ((z : ℕ) → at [] slots.now.ranks (lists_of lists.new.items) z
+        ≡ (if z == rank then (if among rank slots.now.ranks
+        && nat_lt 0 (length tail.entry.cells.now) then at [] slots.now.ranks
+        (lists_of lists.old.items) z ++ tail_of tail.entry ∷ [] else at [] slots.now.ranks
+        (lists_of lists.old.items) z) else at [] slots.now.ranks (lists_of lists.old.items) z)) }
 {
     if tail.cells.is_empty() {
         return Ok(());

@@ -91,7 +91,8 @@ fn keep_reaching<G: Gate>(
     requires least { pos 1 ≤ℤ floor }
     requires later { (z : ℕ) → pos 1 ≤ℤ at (pos 0) found.now.ranks gains.now z → MatchOption last ⊤ (λ a. a < z) }
     ensures room { kept.new.room ≡ kept.old.room }
-    ensures kept { OnOk result (AreKept (G.IsRightFor gate.now) (G.floor gate.now) floor last (at (pos 0) found.now.ranks gains.now) found.now.ranks kept.new.ranks) }
+    ensures kept { OnOk result (AreKept (G.IsRightFor gate.now) (G.floor gate.now) floor last
+        (at (pos 0) found.now.ranks gains.now) found.now.ranks kept.new.ranks) }
 {
     kept.clear();
     let ranks = found.ranks();
@@ -106,7 +107,8 @@ fn keep_reaching<G: Gate>(
 fn stays<G: Gate>(gain: i128, floor: i128, last: Option<u32>, rank: u32, gate: &G) -> bool
     requires later { floor ≤ℤ gain → MatchOption last ⊤ (λ a. a < rank) }
     ensures yes { result ≡ true → floor ≤ℤ gain }
-    ensures no { result ≡ false → (gain <ℤ floor) ⊎ IsRefused (G.IsRightFor gate.now) (G.floor gate.now) last rank }
+    ensures no { result ≡ false → (gain <ℤ floor) ⊎ IsRefused (G.IsRightFor gate.now)
+        (G.floor gate.now) last rank }
 {
     if gain < floor {
         return false;
@@ -135,7 +137,9 @@ fn children_of(alloc: Global, ranks: &[u32], sums: &[Sum]) -> Result<Vec<Child>,
     requires len { length sums.now ≡ length ranks.now }
     requires once { IsDistinct nat_eq ranks.now }
     ensures ranks { IfOk result (λ children. ranks_of children.items ≡ ranks.now) }
-    ensures sums { IfOk result (λ children. AllByRecursion (λ child. sum_of child ≡ at no_sum ranks.now sums.now child.rank) children.items) }
+    ensures sums { IfOk result
+        (λ children. AllByRecursion (λ child. sum_of child
+        ≡ at no_sum ranks.now sums.now child.rank) children.items) }
 {
     let mut children = Vec::with_capacity(alloc, ranks.len())?;
     for slot in 0..ranks.len() {

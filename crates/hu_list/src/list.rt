@@ -92,7 +92,8 @@ impl UtilityList {
     /// What the set earns in all records, in one pass over the nodes.
     pub fn sum(&self) -> i128
         ensures value { result ≡ own_sum self.now }
-        ensures utility { (records : List (List (ℕ × ℤ))) → (ranks : List ℕ) → self.now ≡ list_of records ranks → result ≡ utility records ranks }
+        ensures utility { (records : List (List (ℕ × ℤ))) → (ranks : List ℕ) → self.now ≡ list_of records ranks
+            → result ≡ utility records ranks }
     {
         own_sum(self.nodes())
     }
@@ -101,7 +102,8 @@ impl UtilityList {
     /// it come to there, where that is above 0. The set itself earns no more either. It takes one pass over the nodes.
     pub fn bound(&self) -> i128
         ensures value { result ≡ bound_of self.now }
-        ensures records { (records : List (List (ℕ × ℤ))) → (ranks : List ℕ) → self.now ≡ list_of records ranks → result ≡ list_bound records ranks }
+        ensures records { (records : List (List (ℕ × ℤ))) → (ranks : List ℕ) → self.now ≡ list_of records ranks
+            → result ≡ list_bound records ranks }
         ensures grown { BoundsGrown self.now result }
     {
         bound_of(self.nodes())

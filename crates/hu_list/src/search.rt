@@ -41,7 +41,8 @@ pub fn mine<C: Collect, G: Gate>(
     requires gate_floor { G.floor gate.now ≤ℤ floor_in (C.state collect.old) }
     requires right { G.IsRightFor gate.now ranked.now.records }
     requires rests { RestsOn (C.state collect.old).rule.table ranked.now.items }
-    ensures { Mines (C.state collect.old) (item_patterns (unranked ranked.now)) (C.state collect.new) result }
+    ensures { Mines (C.state collect.old) (item_patterns (unranked ranked.now))
+        (C.state collect.new) result }
 {
     mine_upto(alloc, ranked, ranked.len(), collect, gate)
 }
@@ -60,7 +61,8 @@ pub fn mine_upto<C: Collect, G: Gate>(
     requires right { G.IsRightFor gate.now ranked.now.records }
     requires rests { RestsOn (C.state collect.old).rule.table ranked.now.items }
     requires long { WantsUpto (C.state collect.old).rule ranked.now.items long }
-    ensures { Mines (C.state collect.old) (item_patterns (unranked ranked.now)) (C.state collect.new) result }
+    ensures { Mines (C.state collect.old) (item_patterns (unranked ranked.now))
+        (C.state collect.new) result }
 {
     // This tells the proof that the collector's state is in order.
     let _floor = collect.floor();
@@ -133,7 +135,8 @@ fn search<C: Collect, G: Gate>(
     requires room { HasRoom board.old (length ranked.now.items) }
     ensures ranks { OnOk result (ranks.new.items ≡ ranks.old.items) }
     ensures room { HasRoom board.new (length ranked.now.items) }
-    ensures searches { Searches (C.state collect.old) (Grows ranked.now ranks.old.items) (C.state collect.new) result }
+    ensures searches { Searches (C.state collect.old) (Grows ranked.now ranks.old.items)
+        (C.state collect.new) result }
 {
     let children = children(alloc, ranked, ranks, tails, board, collect, gate)?;
     offer_children(alloc, ranked, ranks, &children, collect)?;
@@ -179,7 +182,8 @@ fn enter<C: Collect, G: Gate>(
     requires table { InTable ranked.now (ranks.old.items ++ child.now.rank ∷ []) }
     requires ascending { Ascend (ranks.old.items ++ child.now.rank ∷ []) }
     requires left { IsLeft ranked.now (ranks.old.items ++ child.now.rank ∷ []) (tails_of tails.now) }
-    requires enough { AreEnough (C.state collect.old) ranked.now (ranks.old.items ++ child.now.rank ∷ []) later.now }
+    requires enough { AreEnough (C.state collect.old) ranked.now
+        (ranks.old.items ++ child.now.rank ∷ []) later.now }
     requires once { IsDistinct nat_eq later.now }
     requires within { AllByRecursion (λ rank. rank < length ranked.now.items) later.now }
     requires ordered { IsInOrder (C.state collect.old) }
@@ -190,7 +194,8 @@ fn enter<C: Collect, G: Gate>(
     requires room { HasRoom board.old (length ranked.now.items) }
     ensures ranks { OnOk result (ranks.new.items ≡ ranks.old.items) }
     ensures room { HasRoom board.new (length ranked.now.items) }
-    ensures searches { Searches (C.state collect.old) (Grows ranked.now (ranks.old.items ++ child.now.rank ∷ [])) (C.state collect.new) result }
+    ensures searches { Searches (C.state collect.old) (Grows ranked.now (ranks.old.items ++ child.now.rank ∷ []))
+        (C.state collect.new) result }
 {
     if tails.is_empty() || !opens(alloc, ranked, ranks, child.rank, collect)? {
         return Ok(());

@@ -63,7 +63,8 @@ impl Sum {
 pub(crate) fn sums(alloc: Global, tails: &[Tail<'_>], slots: &Slots) -> Result<Vec<Sum>, NoMemory>
     requires rules { AreTails slots.now.room (tails_of tails.now) }
     ensures len { IfOk result (λ sums. length sums.items ≡ length slots.now.ranks) }
-    ensures sums { IfOk result (λ sums. (z : ℕ) → at no_sum slots.now.ranks sums.items z ≡ met_in (summing slots.now.ranks) z (tails_of tails.now) no_sum) }
+    ensures sums { IfOk result (λ sums. (z : ℕ) → at no_sum slots.now.ranks sums.items z
+        ≡ met_in (summing slots.now.ranks) z (tails_of tails.now) no_sum) }
 {
     let mut sums = vec![in alloc; Sum::NONE; slots.ranks().len()]?;
     for tail in tails {
@@ -78,7 +79,9 @@ fn add_sums(slots: &Slots, sums: &mut Vec<Sum>, tail: &Tail<'_>)
     requires rules { IsTail slots.now.room (tail_of tail.now) }
     requires fits { (z : ℕ) → SumsFit (at no_sum slots.now.ranks sums.old.items z) (size_of (tail_of tail.now)) }
     ensures len { length sums.new.items ≡ length slots.now.ranks }
-    ensures sums { (z : ℕ) → at no_sum slots.now.ranks sums.new.items z ≡ met (summing slots.now.ranks (tail_of tail.now)) z (tail_of tail.now).cells (at no_sum slots.now.ranks sums.old.items z) }
+    ensures sums { (z : ℕ) → at no_sum slots.now.ranks sums.new.items z
+        ≡ met (summing slots.now.ranks (tail_of tail.now)) z (tail_of tail.now).cells
+        (at no_sum slots.now.ranks sums.old.items z) }
 {
     let mut rest = 0;
     for back in 0..tail.cells.len() {
@@ -90,10 +93,16 @@ fn add_sums(slots: &Slots, sums: &mut Vec<Sum>, tail: &Tail<'_>)
 /// Adds to the sums of a cell's rank, and gives its value where it has a slot and it is above 0, else 0.
 fn add_cell(slots: &Slots, sums: &mut Vec<Sum>, own: i128, cell: &Dense, rest: i128) -> i128
     requires len { length sums.old.items ≡ length slots.now.ranks }
-    requires fits { SumsFit (at no_sum slots.now.ranks sums.old.items cell.now.rank) (unsigned_abs own + unsigned_abs cell.now.value + unsigned_abs rest) }
+    requires fits { SumsFit (at no_sum slots.now.ranks sums.old.items cell.now.rank)
+        (unsigned_abs own + unsigned_abs cell.now.value + unsigned_abs rest) }
     ensures len { length sums.new.items ≡ length slots.now.ranks }
-    ensures part { result ≡ (if among cell.now.rank slots.now.ranks then positive_part cell.now.value else pos 0) }
-    ensures sums { (z : ℕ) → at no_sum slots.now.ranks sums.new.items z ≡ (if z == cell.now.rank then (if among cell.now.rank slots.now.ranks then sum_with (at no_sum slots.now.ranks sums.old.items z) (own +ℤ cell.now.value) rest else at no_sum slots.now.ranks sums.old.items z) else at no_sum slots.now.ranks sums.old.items z) }
+    ensures part { result ≡ (if among cell.now.rank slots.now.ranks then positive_part cell.now.value else pos
+        0) }
+    ensures sums { (z : ℕ) → at no_sum slots.now.ranks sums.new.items z
+        ≡ (if z == cell.now.rank then (if among cell.now.rank slots.now.ranks then sum_with
+        (at no_sum slots.now.ranks sums.old.items z)
+        (own +ℤ cell.now.value) rest else at no_sum slots.now.ranks sums.old.items z) else at
+        no_sum slots.now.ranks sums.old.items z) }
 {
     match slots.find(cell.rank) {
         Some(slot) => {

@@ -6,4 +6,5 @@ use Rattle.hu_totals.specs.Totals.{item_totals}
 
 -- in every database of these totals, the answer from a start on is that from the least utility on
 abbrev pub StartsAlike : List (ℕ × ItemTotal) → ℤ → Option ℕ → ℤ → Type 0
-StartsAlike totals least top start = (records : List (List (ℕ × ℤ))) → totals ≡ item_totals records → item_answer records start top ≡ item_answer records least top
+StartsAlike totals least top start = (records : List (List (ℕ × ℤ))) → totals ≡ item_totals records
+    → item_answer records start top ≡ item_answer records least top

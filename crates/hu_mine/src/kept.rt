@@ -22,7 +22,14 @@ pub(crate) fn kept_entries(
     requires fit { sum_by absolute_of (records_in batches.items) < 2 ^ 127 }
     requires least { pos 1 ≤ℤ least }
     requires some { IfSome top (λ k. 1 ≤ k) }
-    ensures { IfOk result (λ entries. entries.items ≡ answer_of (record { records = records_in batches.items; least = least; top = top; closed = closed })) }
+    ensures { IfOk result (λ entries. entries.items ≡ answer_of
+        (record {
+          records = records_in batches.items;
+          least = least;
+          top = top;
+          closed =
+              closed;
+        })) }
 {
     let mut kept = Kept::new(alloc, least, top, closed);
     append_all(&mut kept, batches)?;

@@ -80,7 +80,8 @@ pub fn sequence_entries(
     requires fit { sum_by (λ elements. sum_by absolute_of elements) (records_in batches.items) < 2 ^ 127 }
     requires least { pos 1 ≤ℤ least }
     requires some { IfSome top (λ k. 1 ≤ k) }
-    ensures { IfOk result (λ entries. entries.items ≡ sequence_answer (records_in batches.items) least top) }
+    ensures { IfOk result (λ entries. entries.items ≡ sequence_answer
+        (records_in batches.items) least top) }
 {
     let base = joined(alloc, batches)?;
     let mut collect = Limited::new(alloc, top, least);

@@ -29,7 +29,8 @@ pub(crate) fn search<C: Collect>(
     requires patterns { KeepsPatterns (records_of base.now) ranked.now }
     requires floor { ranked.now.floor ≤ℤ floor_in (C.state collect.old) }
     requires rests { RestsOn (C.state collect.old).rule.table ranked.now.items }
-    ensures { OnOk result (C.state collect.new ≡ offered (C.state collect.old) (item_patterns (records_of base.now))) }
+    ensures { OnOk result (C.state collect.new ≡ offered (C.state collect.old)
+        (item_patterns (records_of base.now))) }
 {
     let floor = collect.floor();
     match engine {

@@ -35,7 +35,8 @@ pub fn sized_entries(
     requires least { pos 1 ≤ℤ least }
     requires some { IfSome top (λ k. 1 ≤ k) }
     requires lengths { (1 ≤ short) × (short ≤ long) × (long ≤ 4096) }
-    ensures { IfOk result (λ entries. entries.items ≡ sized_answer (records_in batches.items) least top short long) }
+    ensures { IfOk result (λ entries. entries.items ≡ sized_answer
+        (records_in batches.items) least top short long) }
 {
     let base = joined(alloc, batches)?;
     let mut collect = LengthsOnly::new(Limited::new(alloc, top, least), short, long);

@@ -1,5 +1,6 @@
 -- What items make of rows, by item.
-use Rattle.std.proofs.Common.{◌≡◌, ◌∙◌, ℕ, suc, ◌<◌, ◌+◌, ℤ, ◌+ℤ◌, Bool, true, false, eqb, List, [], ◌∷◌, ◌++◌, map, filter, length, get_or, drop, refl, sym, ap, subst, arith, nat_cmp, inl}
+use Rattle.std.proofs.Common.{◌≡◌, ◌∙◌, ℕ, suc, ◌<◌, ◌+◌, ℤ, ◌+ℤ◌, Bool, true, false, eqb, List, [], ◌∷◌, ◌++◌, map}
+use Rattle.std.proofs.Common.{filter, length, get_or, drop, refl, sym, ap, subst, arith, nat_cmp, inl}
 use Rattle.std.specs.List.{AllByRecursion}
 use Rattle.std.specs.List.Sorted.{IsStableByKey}
 use Rattle.std.proofs.lemmas.Bool.{eq-eqb, eqb-true}

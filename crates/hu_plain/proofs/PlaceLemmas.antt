@@ -1,5 +1,8 @@
 -- Places, by their indices.
-use Rattle.std.proofs.Common.{◌≡◌, ℕ, zero, suc, ◌<◌, ◌≤◌, ◌+◌, ◌^◌, true, false, eqb, ℤ, pos, negsuc, ◌+ℤ◌, unsigned_abs, Option, None, Some, unwrap_or, IsNone, IfSome, IfNone, ◌↔◌, List, [], ◌∷◌, ◌++◌, map, length, get_or, take, drop, refl, sym, ap, ◌∙◌, subst, inl, inr, arith, sum_by, flat_map, Contains, append_assoc, length-append, drop-cons, add-one}
+use Rattle.std.proofs.Common.{◌≡◌, ℕ, zero, suc, ◌<◌, ◌≤◌, ◌+◌, ◌^◌, true, false, eqb, ℤ, pos, negsuc, ◌+ℤ◌}
+use Rattle.std.proofs.Common.{unsigned_abs, Option, None, Some, unwrap_or, IsNone, IfSome, IfNone, ◌↔◌, List, [], ◌∷◌}
+use Rattle.std.proofs.Common.{◌++◌, map, length, get_or, take, drop, refl, sym, ap, ◌∙◌, subst, inl, inr, arith, sum_by}
+use Rattle.std.proofs.Common.{flat_map, Contains, append_assoc, length-append, drop-cons, add-one}
 use Rattle.std.specs.Global.{Vec}
 use Rattle.std.specs.List.{AllByRecursion}
 use Rattle.std.proofs.lemmas.Int.{ints}
@@ -22,7 +25,8 @@ use Rattle.hu_plain.specs.declared.places.Place.{Place}
 use Rattle.hu_plain.specs.Row.{Cells, RowOf, grown_rows, weight_of, IsRising, AreRows}
 use Rattle.hu_plain.specs.View.{numbers_of, rows_in}
 use Rattle.hu_plain.specs.Growth.{closed, grown_utility, prefix_entry, Grows}
-use Rattle.hu_plain.specs.Place.{PlaceOf, Places, after, all_stepped, begun, best_of, best_sum, first_places, fresh, grown_best, itemsets_of, reach_of, ArePlaces, IsAscending, AreAscending, IsBegun}
+use Rattle.hu_plain.specs.Place.{PlaceOf, Places, after, all_stepped, begun, best_of, best_sum, first_places, fresh}
+use Rattle.hu_plain.specs.Place.{grown_best, itemsets_of, reach_of, ArePlaces, IsAscending, AreAscending, IsBegun}
 use Rattle.hu_plain.specs.PlaceView.{all_places, following, joining, pushed, step_after, step_into, place_of, places_of, HasSteps}
 use Rattle.hu_plain.proofs.Reach.{ahead, ahead-upto, reach_with, best-within, next-within, reaches-stepped}
 use Rattle.hu_plain.proofs.RowLemmas.{item-of_number}

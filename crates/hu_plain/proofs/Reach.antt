@@ -1,5 +1,6 @@
 -- The reach of places: no step goes beyond it.
-use Rattle.std.proofs.Common.{◌≡◌, ℕ, ◌<◌, ◌≤◌, ◌+◌, ◌-◌, max, Bool, true, false, cond, ℤ, pos, ◌+ℤ◌, unsigned_abs, Option, None, Some, unwrap_or, List, [], ◌∷◌, length, refl, ap, inl, inr, arith, sum_by}
+use Rattle.std.proofs.Common.{◌≡◌, ℕ, ◌<◌, ◌≤◌, ◌+◌, ◌-◌, max, Bool, true, false, cond, ℤ, pos, ◌+ℤ◌, unsigned_abs}
+use Rattle.std.proofs.Common.{Option, None, Some, unwrap_or, List, [], ◌∷◌, length, refl, ap, inl, inr, arith, sum_by}
 use Rattle.std.specs.Int.{int_max}
 use Rattle.std.proofs.lemmas.Int.{ints, clamps}
 use Rattle.std.proofs.lemmas.List.Sums.{sum_by-cons, sum_by-append}
@@ -8,7 +9,8 @@ use Rattle.hu_kind.specs.Sequence.{better}
 use Rattle.hu_plain.specs.Row.{Cells, RowOf, grown_row, grown_rows}
 use Rattle.hu_plain.specs.declared.places.Step.{Step}
 use Rattle.hu_plain.specs.declared.places.Step.TheVariants.{Into, After}
-use Rattle.hu_plain.specs.Place.{PlaceOf, Places, after, all_stepped, begun, best_of, best_sum, fresh, into, itemsets_of, occurs_at, reach, reach_of, stepped, IsBegun}
+use Rattle.hu_plain.specs.Place.{PlaceOf, Places, after, all_stepped, begun, best_of, best_sum, fresh, into}
+use Rattle.hu_plain.specs.Place.{itemsets_of, occurs_at, reach, reach_of, stepped, IsBegun}
 use Rattle.hu_plain.proofs.Cut.{Cut, cut}
 use Rattle.hu_plain.proofs.PlaceGrowth.{itemsets-into, itemsets-after}
 use Rattle.hu_plain.proofs.Steps.{IsBegun-stepped}

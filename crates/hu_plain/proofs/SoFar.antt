@@ -4,7 +4,8 @@ use Rattle.std.proofs.lemmas.List.{take_all, take_more, take-append-drop}
 use Rattle.std.proofs.lemmas.List.Elements.{Contains-get_or, Contains-append_left, Contains-push, Contains-push_cases}
 use Rattle.hu_kind.specs.declared.entry.Entry.{Entry}
 use Rattle.hu_collect.specs.State.{State, offered, IsInOrder, Reached, ReachedSome}
-use Rattle.hu_collect.proofs.lemmas.Searching.{empty-contains, reached-in_order, reached-none, reached-one, reached-both, reached-then, reached-as, some-reached, some-then}
+use Rattle.hu_collect.proofs.lemmas.Searching.{empty-contains, reached-in_order, reached-none, reached-one}
+use Rattle.hu_collect.proofs.lemmas.Searching.{reached-both, reached-then, reached-as, some-reached, some-then}
 
 -- an entry was offered, and then all that have a property
 pub own-ordered : (old mid : State) (own : Entry) → mid ≡ offered old (own ∷ []) → IsInOrder mid

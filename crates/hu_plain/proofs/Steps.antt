@@ -1,5 +1,7 @@
 -- A sequence that grows a prefix begins with a step, and what is left of it grows the prefix after the step.
-use Rattle.std.proofs.Common.{◌≡◌, ℕ, ◌<◌, ◌+◌, Bool, true, false, cond, ℤ, pos, negsuc, ◌+ℤ◌, Option, None, Some, is_some, unwrap_or, option_map, List, [], ◌∷◌, ◌++◌, map, length, refl, sym, ap, ◌∙◌, subst, inl, inr, arith, flat_map, append_assoc, append-nil}
+use Rattle.std.proofs.Common.{◌≡◌, ℕ, ◌<◌, ◌+◌, Bool, true, false, cond, ℤ, pos, negsuc, ◌+ℤ◌, Option, None, Some}
+use Rattle.std.proofs.Common.{is_some, unwrap_or, option_map, List, [], ◌∷◌, ◌++◌, map, length, refl, sym, ap, ◌∙◌}
+use Rattle.std.proofs.Common.{subst, inl, inr, arith, flat_map, append_assoc, append-nil}
 use Rattle.std.specs.List.{AllByRecursion}
 use Rattle.std.proofs.lemmas.Int.{ints}
 use Rattle.std.proofs.lemmas.List.Sums.{sum_by-cons}
@@ -15,7 +17,8 @@ use Rattle.hu_plain.specs.declared.places.Step.{Step}
 use Rattle.hu_plain.specs.declared.places.Step.TheVariants.{Into, After}
 use Rattle.hu_plain.specs.Row.{Cells, RowOf, IsRising}
 use Rattle.hu_plain.specs.Growth.{closed, grown_support, grown_utility, growth_entry, prefix_entry, stepped_key, IsSet, Grows, IsGrowth}
-use Rattle.hu_plain.specs.Place.{PlaceOf, Places, after, all_stepped, begun, best_from, best_of, best_sum, fresh, grown_best, into, itemsets_of, occurs_at, stepped, IsAscending, AreAscending, IsBegun}
+use Rattle.hu_plain.specs.Place.{PlaceOf, Places, after, all_stepped, begun, best_from, best_of, best_sum, fresh}
+use Rattle.hu_plain.specs.Place.{grown_best, into, itemsets_of, occurs_at, stepped, IsAscending, AreAscending, IsBegun}
 use Rattle.hu_plain.specs.PlaceView.{following, joining, HasSteps}
 use Rattle.hu_plain.proofs.Better.{some_cases, some_left}
 use Rattle.hu_plain.proofs.Cut.{AllAbove}

@@ -1,5 +1,7 @@
 -- The sequences that occur in records are those that grow the empty prefix.
-use Rattle.std.proofs.Common.{◌≡◌, ℕ, ◌<◌, ◌+◌, Bool, true, false, cond, eqb, nat_lt, ℤ, pos, ◌+ℤ◌, Option, None, Some, is_some, unwrap_or, option_map, List, [], ◌∷◌, map, length, filter, refl, sym, ap, ◌∙◌, subst, inl, inr, arith, Contains}
+use Rattle.std.proofs.Common.{◌≡◌, ℕ, ◌<◌, ◌+◌, Bool, true, false, cond, eqb, nat_lt, ℤ, pos, ◌+ℤ◌, Option, None, Some}
+use Rattle.std.proofs.Common.{is_some, unwrap_or, option_map, List, [], ◌∷◌, map, length, filter, refl, sym, ap, ◌∙◌}
+use Rattle.std.proofs.Common.{subst, inl, inr, arith, Contains}
 use Rattle.std.specs.List.{AllByRecursion}
 use Rattle.std.proofs.lemmas.Int.{ints}
 use Rattle.std.proofs.lemmas.Bool.{lt-ltb, ltb-true, eq-eqb, or_left, or_right, and_from}
@@ -9,7 +11,9 @@ use Rattle.hu_kind.specs.Record.{has, holds, values_of, items_in}
 use Rattle.hu_kind.specs.Itemsets.{sublists}
 use Rattle.hu_kind.specs.Sequence.{better, best_utility, led_by, subsequences, sequence_entry, sequence_patterns, sequence_support, sequence_utility}
 use Rattle.hu_kind.specs.Order.{Ascend}
-use Rattle.hu_kind.proofs.lemmas.Members.{Member, Member-from_contains, Contains-from_member, Member-flat_map, Member-from_flat_map, Member-map, Member-from_map, Member-filter, Member-from_filter}
+use Rattle.hu_kind.proofs.lemmas.Members.{Member, Member-from_contains, Contains-from_member, Member-flat_map}
+use Rattle.hu_kind.proofs.lemmas.Members.{Member-from_flat_map, Member-map, Member-from_map, Member-filter}
+use Rattle.hu_kind.proofs.lemmas.Members.{Member-from_filter}
 use Rattle.hu_kind.proofs.lemmas.Occurring.{Member-sublists, Ascend-sublist, each-sublist, at_member, by_members, counted, count-member, holds-members}
 use Rattle.hu_plain.specs.Growth.{grown_support, grown_utility, growth_entry, IsSet, Grows}
 use Rattle.hu_plain.specs.Place.{Places, best_from, first_places, grown_best, itemsets_of}

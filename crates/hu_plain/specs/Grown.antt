@@ -35,10 +35,12 @@ item_at grown = grown.item.0
 
 -- so many grown rows are of items below an item, and so many of items up to it
 abbrev pub AreBelow : ℕ → List Grown → ℕ → Type 0
-AreBelow item grown count = IsPartitionPoint (λ one. item_at one < item) (λ one. item ≤ item_at one) grown count
+AreBelow item grown count =
+    IsPartitionPoint (λ one. item_at one < item) (λ one. item ≤ item_at one) grown count
 
 abbrev pub AreUpto : ℕ → List Grown → ℕ → Type 0
-AreUpto item grown count = IsPartitionPoint (λ one. item_at one ≤ item) (λ one. item < item_at one) grown count
+AreUpto item grown count =
+    IsPartitionPoint (λ one. item_at one ≤ item) (λ one. item < item_at one) grown count
 
 -- the rows that an item made
 abbrev pub made_of : ℕ → List Grown → List RowOf

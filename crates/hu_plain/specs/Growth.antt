@@ -1,6 +1,26 @@
 -- What a search for sequences makes of a prefix: a prefix grows by further items in its last itemset and further itemsets
 -- after it. The key of a prefix stays open: its last itemset has no -1 yet.
-use Rattle.std.specs.Prelude.{◌≡◌, refl, ℕ, ◌+◌, ◌<◌, ◌⊎◌, ℤ, pos, negsuc, ◌+ℤ◌, None, is_some, unwrap_or, List, [], ◌∷◌, ◌++◌, map, length}
+use Rattle.std.specs.Prelude.{
+  ◌≡◌,
+  refl,
+  ℕ,
+  ◌+◌,
+  ◌<◌,
+  ◌⊎◌,
+  ℤ,
+  pos,
+  negsuc,
+  ◌+ℤ◌,
+  None,
+  is_some,
+  unwrap_or,
+  List,
+  [],
+  ◌∷◌,
+  ◌++◌,
+  map,
+  length,
+}
 use Rattle.std.specs.List.{count_by, AllByRecursion}
 use Rattle.hu_kind.specs.declared.entry.Entry.{Entry}
 use Rattle.hu_kind.specs.Sequence.{sequence_key}
@@ -13,7 +33,8 @@ use Rattle.hu_plain.specs.Place.{Places, after, first_places, grown_best}
 -- the utility of a grown prefix
 abbrev pub grown_utility : List Places → List ℕ → List (List ℕ) → ℤ
 grown_utility [] items rest = pos 0
-grown_utility (places ∷ rows) items rest = unwrap_or (grown_best items rest places) (pos 0) +ℤ grown_utility rows items rest
+grown_utility (places ∷ rows) items rest =
+    unwrap_or (grown_best items rest places) (pos 0) +ℤ grown_utility rows items rest
 
 -- in how many records a grown prefix occurs
 abbrev pub grown_support : List Places → List ℕ → List (List ℕ) → ℕ
@@ -39,7 +60,8 @@ growth_entry prefix rows items rest = record {
 
 -- the entry of the prefix itself
 abbrev pub prefix_entry : List ℤ → List Places → Entry
-prefix_entry prefix rows = record { key = closed prefix; utility = grown_utility rows [] []; support = length rows }
+prefix_entry prefix rows =
+    record { key = closed prefix; utility = grown_utility rows [] []; support = length rows }
 
 -- an itemset of a pattern: some items, ascending
 abbrev pub IsSet : List ℕ → Type 0
@@ -60,6 +82,7 @@ abbrev pub IsGrowth : List ℤ → List Places → Entry → Type 0
 IsGrowth prefix rows entry = (prefix_entry prefix rows ≡ entry) ⊎ Grows prefix rows entry
 
 -- `1 -1` grows by `2 -1` in the record `1[2] -1 1[5] -1 2[3] -1`
-pub grown_by_2 : growth_entry (pos 1 ∷ []) (after 1 None (first_places later_is_greatest) ∷ []) [] ((2 ∷ []) ∷ [])
+pub grown_by_2 : growth_entry (pos 1 ∷ []) (after 1 None (first_places later_is_greatest) ∷ []) []
+    ((2 ∷ []) ∷ [])
     ≡ sequence_entry_of ((1 ∷ []) ∷ (2 ∷ []) ∷ []) 8 1
 grown_by_2 = refl

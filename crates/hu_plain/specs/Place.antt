@@ -2,7 +2,33 @@
 -- in which the prefix ends. A place is a pair (rows, cells): the itemset's cells, and a row (earned, cells after it) for
 -- each occurrence of the prefix that ends there and is kept. Of those that end in one itemset the best is enough. The
 -- empty prefix ends before the first itemset. After USpan (Yin, Zheng and Cao, 2012).
-use Rattle.std.specs.Prelude.{◌≡◌, refl, ℕ, ◌+◌, ◌^◌, ◌<◌, max, Bool, true, false, ⊤, ℤ, pos, ◌+ℤ◌, unsigned_abs, Option, None, Some, option_map, option_to_list, List, [], ◌∷◌, map, if◌then◌else◌}
+use Rattle.std.specs.Prelude.{
+  ◌≡◌,
+  refl,
+  ℕ,
+  ◌+◌,
+  ◌^◌,
+  ◌<◌,
+  max,
+  Bool,
+  true,
+  false,
+  ⊤,
+  ℤ,
+  pos,
+  ◌+ℤ◌,
+  unsigned_abs,
+  Option,
+  None,
+  Some,
+  option_map,
+  option_to_list,
+  List,
+  [],
+  ◌∷◌,
+  map,
+  if◌then◌else◌,
+}
 use Rattle.std.specs.List.{filter, sum_by, AllByRecursion}
 use Rattle.hu_kind.specs.Record.{holds, values_of, items_in, absolute_of}
 use Rattle.hu_kind.specs.Worked.{later_is_greatest}
@@ -58,7 +84,9 @@ into item places = map (λ place. (grown_rows item place.0, place.1)) places
 -- the places of the prefix with an item in a new itemset: each goes with the best sum before it
 abbrev pub after : ℕ → Option ℤ → Places → Places
 after item best [] = []
-after item best (place ∷ places) = (grown_rows item (fresh best place.1), place.1) ∷ after item (better best (best_sum place.0)) places
+after item best (place ∷ places) =
+    (grown_rows item (fresh best place.1), place.1) ∷ after item
+    (better best (best_sum place.0)) places
 
 -- the places from the first on in which the prefix ends
 abbrev pub begun : Places → Places
@@ -116,7 +144,10 @@ pub record ArePlaces (rows : List Places) : Type 0 where
 
 -- the places in the record `1[2] -1 1[5] -1 2[3] -1` of `1 -1`, and the best utility of `1 -1 2 -1`
 pub places_of_1 : after 1 None (first_places later_is_greatest) ≡
-    ([], []) ∷ ((pos 2, []) ∷ [], (1, pos 2) ∷ []) ∷ ((pos 5, []) ∷ [], (1, pos 5) ∷ []) ∷ ([], (2, pos 3) ∷ []) ∷ []
+    ([], []) ∷ ((pos 2, []) ∷ [], (1, pos 2) ∷ []) ∷ ((pos 5, []) ∷ [], (1, pos 5) ∷ []) ∷ (
+      [],
+      (2, pos 3) ∷ [],
+    ) ∷ []
 places_of_1 = refl
 
 pub best_of_1_and_2 : best_of (after 2 None (after 1 None (first_places later_is_greatest))) ≡ Some (pos 8)

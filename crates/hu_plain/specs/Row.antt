@@ -1,6 +1,25 @@
 -- A search keeps a row for each record that holds its prefix: what the prefix earns there, and the record's cells
 -- after the prefix. A row is a pair (earned, cells).
-use Rattle.std.specs.Prelude.{◌≡◌, refl, ℕ, ◌+◌, ◌^◌, ◌<◌, ◌==◌, ◌⊎◌, ℤ, pos, ◌+ℤ◌, unsigned_abs, List, [], ◌∷◌, ◌++◌, map, if◌then◌else◌}
+use Rattle.std.specs.Prelude.{
+  ◌≡◌,
+  refl,
+  ℕ,
+  ◌+◌,
+  ◌^◌,
+  ◌<◌,
+  ◌==◌,
+  ◌⊎◌,
+  ℤ,
+  pos,
+  ◌+ℤ◌,
+  unsigned_abs,
+  List,
+  [],
+  ◌∷◌,
+  ◌++◌,
+  map,
+  if◌then◌else◌,
+}
 use Rattle.std.specs.List.{flat_map, sum_by, AllByRecursion, Contains}
 use Rattle.hu_kind.specs.declared.entry.Entry.{Entry}
 use Rattle.hu_kind.specs.Record.{holds, values_of, items_in, absolute_of}
@@ -56,7 +75,8 @@ key_with prefix item = prefix ++ pos item ∷ []
 -- the row of a prefix with one more item, where the cells hold it
 abbrev pub grown_row : ℕ → ℤ → Cells → List RowOf
 grown_row item sum [] = []
-grown_row item sum (cell ∷ cells) = if item == cell.0 then (sum +ℤ cell.1, cells) ∷ [] else grown_row item sum cells
+grown_row item sum (cell ∷ cells) =
+    if item == cell.0 then (sum +ℤ cell.1, cells) ∷ [] else grown_row item sum cells
 
 -- the rows of a prefix with one more item
 abbrev pub grown_rows : ℕ → List RowOf → List RowOf
@@ -77,11 +97,16 @@ pub record AreRows (rows : List RowOf) : Type 0 where
 
 -- the rows of item 5 in base A
 abbrev pub base_a_rows_of_5 : List RowOf
-base_a_rows_of_5 = (pos 3, (6, pos 5) ∷ []) ∷ (pos 3, []) ∷ (pos 6, (7, pos 5) ∷ []) ∷ (pos 3, (7, pos 2) ∷ []) ∷ []
+base_a_rows_of_5 =
+    (pos 3, (6, pos 5) ∷ []) ∷ (pos 3, []) ∷ (pos 6, (7, pos 5) ∷ []) ∷ (
+      pos 3,
+      (7, pos 2) ∷ [],
+    ) ∷ []
 
 pub base_a_grown_by_5 : grown_rows 5 (map (λ cells. (pos 0, cells)) base_a) ≡ base_a_rows_of_5
 base_a_grown_by_5 = refl
 
 -- and the patterns that grow it
-pub patterns_after_5 : grown_patterns (pos 5 ∷ []) base_a_rows_of_5 ≡ entry_of (5 ∷ 7 ∷ []) 16 2 ∷ entry_of (5 ∷ 6 ∷ []) 8 1 ∷ []
+pub patterns_after_5 : grown_patterns (pos 5 ∷ []) base_a_rows_of_5
+    ≡ entry_of (5 ∷ 7 ∷ []) 16 2 ∷ entry_of (5 ∷ 6 ∷ []) 8 1 ∷ []
 patterns_after_5 = refl

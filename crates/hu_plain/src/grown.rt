@@ -34,7 +34,8 @@ pub(crate) fn all_grown<'a>(alloc: Global, rows: &[Row<'a>]) -> Result<Vec<Grown
 /// Appends the rows that its items make of a row.
 fn push_grown<'a>(grown: &mut Vec<Grown<'a>>, row: &Row<'a>) -> Result<(), NoMemory>
     requires { weight_of (row_of row.now) < 2 ^ 127 }
-    ensures { OnOk result (pairs_with grown.new.items ≡ pairs_with grown.old.items ++ grown_from row.now 0) }
+    ensures { OnOk result (pairs_with grown.new.items ≡ pairs_with grown.old.items
+        ++ grown_from row.now 0) }
 {
     for place in 0..row.tail.len() {
         grown.push(grown_at(row, place))?;

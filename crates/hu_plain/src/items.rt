@@ -23,7 +23,8 @@ pub fn mine_items<C: Collect>(
     base: &Base<Record>,
     collect: &mut C,
 ) -> Result<(), NoMemory>
-    ensures { Mines (C.state collect.old) (item_patterns (records_of base.now)) (C.state collect.new) result }
+    ensures { Mines (C.state collect.old) (item_patterns (records_of base.now))
+        (C.state collect.new) result }
 {
     // These two tell the proof that the content is in order, and that no sum overflows.
     let _floor = collect.floor();
@@ -43,7 +44,8 @@ fn search<C: Collect>(
     requires rows { AreRows (rows_of rows.now) }
     requires in_order { IsInOrder (C.state collect.old) }
     ensures prefix { OnOk result (prefix.new ≡ prefix.old) }
-    ensures searches { Searches (C.state collect.old) (Grows prefix.old (rows_of rows.now)) (C.state collect.new) result }
+    ensures searches { Searches (C.state collect.old) (Grows prefix.old (rows_of rows.now))
+        (C.state collect.new) result }
 {
     let all = all_grown(alloc, rows)?;
     let items = items_of(alloc, &all)?;
@@ -66,7 +68,8 @@ fn enter<C: Collect>(
     requires rows { AreRows (rows_of rows.now) }
     requires in_order { IsInOrder (C.state collect.old) }
     ensures prefix { OnOk result (prefix.new ≡ prefix.old) }
-    ensures searches { Searches (C.state collect.old) (IsGrowth (key_with prefix.old item.0) (rows_of rows.now)) (C.state collect.new) result }
+    ensures searches { Searches (C.state collect.old) (IsGrowth (key_with prefix.old item.0) (rows_of rows.now))
+        (C.state collect.new) result }
 {
     prefix.push(i64::from(item.0))?;
     offer(alloc, rows, prefix, collect)?;
@@ -83,7 +86,8 @@ fn offer<C: Collect>(
     collect: &mut C,
 ) -> Result<(), NoMemory>
     requires { AreRows (rows_of rows.now) }
-    ensures { Takes (C.state collect.old) (grown_entry prefix.now (rows_of rows.now) [] ∷ []) (C.state collect.new) result }
+    ensures { Takes (C.state collect.old) (grown_entry prefix.now (rows_of rows.now) [] ∷ [])
+        (C.state collect.new) result }
 {
     collect.offer(Entry {
         key: prefix.copy_in(alloc)?,

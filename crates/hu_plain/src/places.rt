@@ -146,7 +146,8 @@ fn into<'a>(alloc: Global, places: &[Place<'a>], item: Item) -> Result<Vec<Place
 fn after<'a>(alloc: Global, places: &[Place<'a>], item: Item) -> Result<Vec<Place<'a>>, NoMemory>
     requires ascending { AreAscending (places_of places.now) }
     requires sum_fits { reach_of (places_of places.now) < 2 ^ 127 }
-    ensures { IfOk result (λ grown. places_of grown.items ≡ begun (after item.0 None (places_of places.now))) }
+    ensures { IfOk result (λ grown. places_of grown.items
+        ≡ begun (after item.0 None (places_of places.now))) }
 {
     let mut grown = Vec::new(alloc);
     let mut best = None;
@@ -159,7 +160,8 @@ fn after<'a>(alloc: Global, places: &[Place<'a>], item: Item) -> Result<Vec<Plac
 
 /// Appends a place, but none before the first in which the prefix ends.
 fn push_place<'a>(places: &mut Vec<Place<'a>>, place: Place<'a>) -> Result<(), NoMemory>
-    ensures { OnOk result (places_of places.new.items ≡ pushed (places_of places.old.items) (place_of place.entry)) }
+    ensures { OnOk result (places_of places.new.items ≡ pushed (places_of places.old.items)
+        (place_of place.entry)) }
 {
     if !places.is_empty() || place.end.is_some() {
         places.push(place)?;

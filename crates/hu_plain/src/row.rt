@@ -44,7 +44,8 @@ impl<'a> Row<'a> {
 fn place_of(cells: &[Cell], item: Item) -> usize
     requires { Ascend (items_in (pairs_of cells.now)) }
     ensures within { result ≤ length cells.now }
-    ensures splits { IsPartitionPoint (λ cell. cell.item.0 < item.0) (λ cell. item.0 ≤ cell.item.0) cells.now result }
+    ensures splits { IsPartitionPoint (λ cell. cell.item.0 < item.0)
+        (λ cell. item.0 ≤ cell.item.0) cells.now result }
 {
     cells.partition_point(|cell| cell.item.0 < item.0)
 }

@@ -25,7 +25,8 @@ pub fn mine_sequences<C: Collect>(
     base: &Base<SeqRecord>,
     collect: &mut C,
 ) -> Result<(), NoMemory>
-    ensures { Mines (C.state collect.old) (sequence_patterns (records_of base.now)) (C.state collect.new) result }
+    ensures { Mines (C.state collect.old) (sequence_patterns (records_of base.now))
+        (C.state collect.new) result }
 {
     // These two tell the proof that the content is in order, and that no sum overflows.
     let _floor = collect.floor();
@@ -45,7 +46,8 @@ fn search<C: Collect>(
     requires rows { ArePlaces (all_places rows.now) }
     requires in_order { IsInOrder (C.state collect.old) }
     ensures prefix { OnOk result (prefix.new ≡ prefix.old) }
-    ensures searches { Searches (C.state collect.old) (Grows prefix.old (all_places rows.now)) (C.state collect.new) result }
+    ensures searches { Searches (C.state collect.old) (Grows prefix.old (all_places rows.now))
+        (C.state collect.new) result }
 {
     let steps = steps_of(alloc, rows)?;
     'steps: for step in &steps {
@@ -70,7 +72,8 @@ fn enter<C: Collect>(
     requires rows { ArePlaces (all_places rows.now) }
     requires in_order { IsInOrder (C.state collect.old) }
     ensures prefix { OnOk result (prefix.new ≡ prefix.old) }
-    ensures searches { Searches (C.state collect.old) (IsGrowth (stepped_key prefix.old step) (all_places rows.now)) (C.state collect.new) result }
+    ensures searches { Searches (C.state collect.old) (IsGrowth (stepped_key prefix.old step)
+        (all_places rows.now)) (C.state collect.new) result }
 {
     push_step(prefix, step)?;
     offer(alloc, rows, prefix, collect)?;
@@ -87,7 +90,8 @@ fn offer<C: Collect>(
     collect: &mut C,
 ) -> Result<(), NoMemory>
     requires { ArePlaces (all_places rows.now) }
-    ensures { Takes (C.state collect.old) (prefix_entry prefix.now (all_places rows.now) ∷ []) (C.state collect.new) result }
+    ensures { Takes (C.state collect.old) (prefix_entry prefix.now (all_places rows.now) ∷ [])
+        (C.state collect.new) result }
 {
     let mut key = prefix.copy_in(alloc)?;
     close(&mut key)?;

@@ -33,7 +33,8 @@ pub record IsExact (r : Ranking) (set : List ℕ) (rows : List RowOf) (more : Li
 pub record IsLevel (s : State) (r : Ranking) (set : List ℕ) (rows : List RowOf) : Type 0 where
   pub taken : List ℕ
   pub later : (rank : ℕ) → Contains taken rank → IsLater r set rank
-  pub exact : (first : ℕ) (more : List ℕ) → Ascend (set ++ first ∷ more) → AllByRecursion (Contains taken) (first ∷ more) → IsExact r set rows (first ∷ more)
+  pub exact : (first : ℕ) (more : List ℕ) → Ascend (set ++ first ∷ more)
+      → AllByRecursion (Contains taken) (first ∷ more) → IsExact r set rows (first ∷ more)
   pub met : (rank : ℕ) → 0 < count_over rows (rank ∷ []) → Contains taken rank
   pub enough : AreEnough s r set taken
   pub rules : AreRows rows
@@ -43,7 +44,9 @@ pub record IsLevel (s : State) (r : Ranking) (set : List ℕ) (rows : List RowOf
 -- rows with the cells of kept ranks alone: they are exact for two or more of these, which are enough to grow a set
 pub record IsNarrow (s : State) (r : Ranking) (set kept : List ℕ) (rows : List RowOf) : Type 0 where
   pub later : (rank : ℕ) → Contains kept rank → IsLater r set rank
-  pub exact : (first second : ℕ) (more : List ℕ) → Ascend (set ++ first ∷ second ∷ more) → AllByRecursion (Contains kept) (first ∷ second ∷ more) → IsExact r set rows (first ∷ second ∷ more)
+  pub exact : (first second : ℕ) (more : List ℕ) → Ascend (set ++ first ∷ second ∷ more)
+      → AllByRecursion (Contains kept) (first ∷ second ∷ more)
+      → IsExact r set rows (first ∷ second ∷ more)
   pub met : (rank : ℕ) → 0 < count_over rows (rank ∷ []) → Contains kept rank
   pub enough : AreEnough s r set kept
   pub rules : AreRows rows
@@ -58,7 +61,8 @@ pub record AreTold (rows : List RowOf) (tallies : List Tally) (met : List ℕ) :
 -- lists of places hand rows to children
 pub record AreHanded (rows : List RowOf) (children : List Child) (lists : List (List Place)) : Type 0 where
   pub len : length lists ≡ length children
-  pub each : (i : ℕ) (d : Child) → i < length children → ArePlaces rows (handed (slice_index_or children i d).rank rows) (slice_index_or lists i [])
+  pub each : (i : ℕ) (d : Child) → i < length children
+      → ArePlaces rows (handed (slice_index_or children i d).rank rows) (slice_index_or lists i [])
 
 -- a board of so many ranks on which nothing stands
 pub record IsBoard (n : ℕ) (board : Board) : Type 0 where

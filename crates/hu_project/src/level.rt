@@ -80,7 +80,8 @@ pub(crate) fn open_children<'a, C: Collect>(
     requires board { IsBoard (length ranked.now.items) board.old }
     ensures board { OnOk result (IsBoard (length ranked.now.items) board.new) }
     ensures ok { IfOk result (IsPrepared (C.state collect.old) (C.state collect.new) ranked.now ranks.now) }
-    ensures err { OnErr result (ReachedSome (C.state collect.old) (Grows ranked.now ranks.now) (C.state collect.new)) }
+    ensures err { OnErr result (ReachedSome (C.state collect.old) (Grows ranked.now ranks.now)
+        (C.state collect.new)) }
 {
     let met = board.tallies.tell(alloc, rows)?;
     let children = children_of(alloc, &met, &board.tallies)?;
@@ -137,7 +138,8 @@ fn places_of(
     places: &Places,
 ) -> Result<Vec<Vec<Place>>, NoMemory>
     requires below { AllByRecursion (λ child. child.rank < length places.now) children.now }
-    ensures { IfOk result (λ lists. lists_in lists.items ≡ map (λ child. places_at places.now child.rank) children.now) }
+    ensures { IfOk result (λ lists. lists_in lists.items
+        ≡ map (λ child. places_at places.now child.rank) children.now) }
 {
     let mut lists = Vec::with_capacity(alloc, children.len())?;
     for child in children {

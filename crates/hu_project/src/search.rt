@@ -30,7 +30,8 @@ use std::alloc::Global;
 pub fn mine<C: Collect>(alloc: Global, ranked: &Ranked, collect: &mut C) -> Result<(), NoMemory>
     requires floor { ranked.now.floor ≤ℤ floor_in (C.state collect.old) }
     requires rests { RestsOn (C.state collect.old).rule.table ranked.now.items }
-    ensures { Mines (C.state collect.old) (item_patterns (unranked ranked.now)) (C.state collect.new) result }
+    ensures { Mines (C.state collect.old) (item_patterns (unranked ranked.now))
+        (C.state collect.new) result }
 {
     // These tell the proof the rules of ranked records, and that the collector is in order.
     let _records = ranked.records();
@@ -83,7 +84,8 @@ fn search<'a, C: Collect>(
     requires rests { RestsOn (C.state collect.old).rule.table ranked.now.items }
     ensures ranks { OnOk result (ranks.new.items ≡ ranks.old.items) }
     ensures board { OnOk result (IsBoard (length ranked.now.items) board.new) }
-    ensures made { Searches (C.state collect.old) (Grows ranked.now ranks.old.items) (C.state collect.new) result }
+    ensures made { Searches (C.state collect.old) (Grows ranked.now ranks.old.items)
+        (C.state collect.new) result }
 {
     let open = open_children(alloc, ranked, rows, arena, ranks, board, collect)?;
     'children: for at in 0..open.children.len() {
@@ -115,12 +117,14 @@ fn enter<C: Collect>(
     requires ordered { IsInOrder (C.state collect.old) }
     requires later { IsLater ranked.now ranks.old.items rank }
     requires places { ArePlaces rows.now (handed rank rows.now) places.now }
-    requires level { IsLevel (C.state collect.old) ranked.now (ranks.old.items ++ rank ∷ []) (handed rank rows.now) }
+    requires level { IsLevel (C.state collect.old) ranked.now (ranks.old.items ++ rank ∷ [])
+        (handed rank rows.now) }
     requires board { IsBoard (length ranked.now.items) board.old }
     requires rests { RestsOn (C.state collect.old).rule.table ranked.now.items }
     ensures ranks { OnOk result (ranks.new.items ≡ ranks.old.items) }
     ensures board { OnOk result (IsBoard (length ranked.now.items) board.new) }
-    ensures made { Searches (C.state collect.old) (Grows ranked.now (ranks.old.items ++ rank ∷ [])) (C.state collect.new) result }
+    ensures made { Searches (C.state collect.old) (Grows ranked.now (ranks.old.items ++ rank ∷ []))
+        (C.state collect.new) result }
 {
     if !opens(alloc, ranked, ranks, rank, collect)? {
         return Ok(());

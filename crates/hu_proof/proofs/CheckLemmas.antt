@@ -1,5 +1,6 @@
 -- The first lines of a text, and the answer of an accepted one.
-use Rattle.std.proofs.Common.{◌≡◌, ℕ, ◌<◌, ◌≤◌, true, false, nat_lt, ℤ, pos, ◌≤ℤ◌, None, Some, List, [], ◌∷◌, map, length, drop, refl, ap, ◌∙◌, arith, Ok, Err, IfOk}
+use Rattle.std.proofs.Common.{◌≡◌, ℕ, ◌<◌, ◌≤◌, true, false, nat_lt, ℤ, pos, ◌≤ℤ◌, None, Some, List, [], ◌∷◌, map}
+use Rattle.std.proofs.Common.{length, drop, refl, ap, ◌∙◌, arith, Ok, Err, IfOk}
 use Rattle.std.specs.Prelude.{Result}
 use Rattle.std.specs.Ordering.{int_eq}
 use Rattle.std.proofs.lemmas.Bool.{le-ltb}

@@ -10,7 +10,8 @@ use Rattle.hu_kind.specs.Database.{utility}
 use Rattle.hu_kind.specs.First.{first_some}
 use Rattle.hu_kind.specs.declared.item.Item.{Item}
 use Rattle.hu_proof.specs.declared.fault.CheckFault.{CheckFault}
-use Rattle.hu_proof.specs.Check.{Node, wrong_child, left_out, wrong_bound, wrong_bound_of, not_cut, not_cut_of, token_bound, faults_of, line_fault, opened_by, walk, root, is_order}
+use Rattle.hu_proof.specs.Check.{Node, wrong_child, left_out, wrong_bound, wrong_bound_of, not_cut, not_cut_of}
+use Rattle.hu_proof.specs.Check.{token_bound, faults_of, line_fault, opened_by, walk, root, is_order}
 use Rattle.hu_proof.specs.Check.{order_fault, from_order, minimum_fault, from_minimum, first_fault}
 use Rattle.hu_proof.specs.Text.{Said, said_of, order_of, minimum_of, pieces}
 
@@ -56,7 +57,11 @@ line-not records least line node (Some said) = first-not (faults_of records leas
         (
           first-not (map (wrong_bound line records node) said.tokens)
               (each-not (wrong_bound line records node) said.tokens (λ token. bound-not line token.item token.bound (token_bound records node token))),
-          (first-not (map (not_cut line least) said.tokens) (each-not (not_cut line least) said.tokens (λ token. cut-not line least token.item token.bound)), tt),
+          (
+            first-not (map (not_cut line least) said.tokens) (each-not (not_cut line least) said.tokens
+                (λ token. cut-not line least token.item token.bound)),
+            tt,
+          ),
         ),
       ),
     ),

@@ -1,5 +1,6 @@
 -- Items by their numbers, in an order.
-use Rattle.std.proofs.Common.{◌≡◌, ℕ, zero, suc, ◌+◌, ◌<◌, Bool, false, not, cond, eqb, nat_eq, List, [], ◌∷◌, ◌++◌, length, take, get_or, position, refl, sym, ap, subst, inl, inr, arith, Contains}
+use Rattle.std.proofs.Common.{◌≡◌, ℕ, zero, suc, ◌+◌, ◌<◌, Bool, false, not, cond, eqb, nat_eq, List, [], ◌∷◌, ◌++◌}
+use Rattle.std.proofs.Common.{length, take, get_or, position, refl, sym, ap, subst, inl, inr, arith, Contains}
 use Rattle.std.specs.List.{position_or_len, dedup, list_any}
 use Rattle.std.specs.List.Retain.{IsFiltered, DiffersFromLast}
 use Rattle.std.specs.List.Sorted.{IsPermutation, IsSorted, IsStrictlySortedBy}

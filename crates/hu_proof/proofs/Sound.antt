@@ -1,5 +1,7 @@
 -- An accepted text opens all that reaches the minimum, and what it opens is the answer.
-use Rattle.std.proofs.Common.{◌≡◌, ℕ, ◌<◌, Bool, true, false, cond, nat_lt, ◌==◌, ℤ, pos, ◌≤ℤ◌, Option, None, Some, List, [], ◌∷◌, map, length, drop, filter, flat_map, refl, sym, subst, ◌∙◌, ap, inl, arith, Contains}
+use Rattle.std.proofs.Common.{◌≡◌, ℕ, ◌<◌, Bool, true, false, cond, nat_lt, ◌==◌, ℤ, pos, ◌≤ℤ◌, Option, None, Some}
+use Rattle.std.proofs.Common.{List, [], ◌∷◌, map, length, drop, filter, flat_map, refl, sym, subst, ◌∙◌, ap, inl, arith}
+use Rattle.std.proofs.Common.{Contains}
 use Rattle.std.specs.Ordering.{nat_cmp, int_eq}
 use Rattle.std.specs.Str.{bytes_eq}
 use Rattle.std.proofs.lemmas.Bool.{and_parts, eqb-true}

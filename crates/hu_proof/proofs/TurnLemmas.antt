@@ -1,5 +1,7 @@
 -- One line of the walk: what waits after it is what is to be opened.
-use Rattle.std.proofs.Common.{◌≡◌, ℕ, zero, suc, ◌+◌, ◌<◌, ◌≤◌, ◌^◌, ℤ, pos, Option, None, Some, List, [], ◌∷◌, ◌++◌, map, filter, length, take, drop, refl, sym, ap, ◌∙◌, subst, inl, inr, ◌⊎◌, arith, sum_by, IfSome, IfNone, ◌==◌, Ok, Err}
+use Rattle.std.proofs.Common.{◌≡◌, ℕ, zero, suc, ◌+◌, ◌<◌, ◌≤◌, ◌^◌, ℤ, pos, Option, None, Some, List, [], ◌∷◌, ◌++◌}
+use Rattle.std.proofs.Common.{map, filter, length, take, drop, refl, sym, ap, ◌∙◌, subst, inl, inr, ◌⊎◌, arith, sum_by}
+use Rattle.std.proofs.Common.{IfSome, IfNone, ◌==◌, Ok, Err}
 use Rattle.std.specs.Prelude.{is_none, Result}
 use Rattle.std.specs.Result.{IsErr, IsErrAnd}
 use Rattle.std.specs.List.{AllByRecursion, join_with_byte}
@@ -23,7 +25,8 @@ use Rattle.hu_proof.specs.Places.{PlaceOf, held, narrowed, earned, Apart, Follow
 use Rattle.hu_proof.specs.Text.{pieces, said_of}
 use Rattle.hu_proof.specs.Words.{numbers_of}
 use Rattle.hu_kind.specs.declared.item.Item.{Item}
-use Rattle.hu_proof.specs.Waiting.{WaitingOf, entry_at, prefix_at, nodes_of, nodes_now, Stands, IsNode, Fits, Steps, IsChild, AreChildren, open_items, PushesChildren}
+use Rattle.hu_proof.specs.Waiting.{WaitingOf, entry_at, prefix_at, nodes_of, nodes_now, Stands, IsNode, Fits, Steps}
+use Rattle.hu_proof.specs.Waiting.{IsChild, AreChildren, open_items, PushesChildren}
 use Rattle.hu_proof.proofs.HeldLemmas.{narrowed-held, line_fault-held, earned-held, length-held, room-held}
 use Rattle.hu_proof.proofs.Orders.{Apart-grown, each-follows}
 use Rattle.hu_proof.proofs.Walks.{checked, prefixes-cons}

@@ -15,11 +15,14 @@ after item (i ∷ is) = if item == i then is else after item is
 -- the sum of a record's values above 0 of the later items
 abbrev pub later_gain : List ℕ → List (ℕ × ℤ) → ℤ
 later_gain later [] = pos 0
-later_gain later (cell ∷ cells) = (if is_among cell.0 later then positive_part cell.1 else pos 0) +ℤ later_gain later cells
+later_gain later (cell ∷ cells) =
+    (if is_among cell.0 later then positive_part cell.1 else pos 0) +ℤ later_gain later cells
 
 -- the most that a prefix may earn in a record with later items, 0 where the record doesn't hold it
 abbrev pub bound_in : List ℕ → List ℕ → List (ℕ × ℤ) → ℤ
-bound_in prefix later cells = if holds prefix cells then positive_part (values_of prefix cells +ℤ later_gain later cells) else pos 0
+bound_in prefix later cells =
+    if holds prefix cells then positive_part (values_of prefix cells +ℤ later_gain later cells) else
+    pos 0
 
 -- the sum of that over all records
 abbrev pub cut_bound : List (List (ℕ × ℤ)) → List ℕ → List ℕ → ℤ

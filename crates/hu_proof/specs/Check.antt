@@ -1,6 +1,27 @@
 -- The faults of a certificate, line by line. A prefix is opened by a line of its own, and its line names by tokens the later
 -- items with which it stands in some record. A token with a bound is cut; one without is opened by the lines that follow.
-use Rattle.std.specs.Prelude.{ℕ, ◌+◌, ◌==◌, nat_lt, ℤ, int_le, Bool, not, ◌&&◌, Option, None, Some, is_none, List, [], ◌∷◌, ◌++◌, map, length, if◌then◌else◌}
+use Rattle.std.specs.Prelude.{
+  ℕ,
+  ◌+◌,
+  ◌==◌,
+  nat_lt,
+  ℤ,
+  int_le,
+  Bool,
+  not,
+  ◌&&◌,
+  Option,
+  None,
+  Some,
+  is_none,
+  List,
+  [],
+  ◌∷◌,
+  ◌++◌,
+  map,
+  length,
+  if◌then◌else◌,
+}
 use Rattle.std.specs.Bool.{then_some}
 use Rattle.std.specs.List.{filter, list_any}
 use Rattle.std.specs.Option.{option_map}
@@ -11,7 +32,18 @@ use Rattle.hu_kind.specs.Database.{utility, items_of}
 use Rattle.hu_kind.specs.First.{first_some}
 use Rattle.hu_kind.specs.Order.{ranking}
 use Rattle.hu_proof.specs.declared.fault.CheckFault.{CheckFault}
-use Rattle.hu_proof.specs.declared.fault.CheckFault.TheVariants.{TooLong, NotOfForm, WrongMinimum, WrongOrder, WrongPrefix, WrongUtility, WrongChild, LeftOut, WrongBound, NotCut}
+use Rattle.hu_proof.specs.declared.fault.CheckFault.TheVariants.{
+  TooLong,
+  NotOfForm,
+  WrongMinimum,
+  WrongOrder,
+  WrongPrefix,
+  WrongUtility,
+  WrongChild,
+  LeftOut,
+  WrongBound,
+  NotCut,
+}
 use Rattle.hu_proof.specs.declared.token.Token.{Token}
 use Rattle.hu_proof.specs.Text.{Said, pieces, minimum_of, order_of, said_of}
 use Rattle.hu_proof.specs.Bounds.{is_among, after, cut_bound, stands_with}
@@ -41,23 +73,30 @@ first_such test (item ∷ items) = if test item then Some item else first_such t
 -- the first token whose item isn't a later one than the token before
 abbrev pub wrong_child : List ℕ → List Token → Option ℕ
 wrong_child later [] = None
-wrong_child later (token ∷ tokens) = if is_among token.item.0 later then wrong_child (after token.item.0 later) tokens else Some token.item.0
+wrong_child later (token ∷ tokens) =
+    if is_among token.item.0 later then wrong_child
+    (after token.item.0 later) tokens else Some token.item.0
 
 -- the first later item that is no token and stands with the prefix in some record
 abbrev pub left_out : List (List (ℕ × ℤ)) → Node → List Token → Option ℕ
-left_out records node tokens = first_such (λ item. not (list_any (λ token. item == token.item.0) tokens) && stands_with records node.prefix item) node.later
+left_out records node tokens =
+    first_such (λ item. not (list_any (λ token. item == token.item.0) tokens)
+    && stands_with records node.prefix item) node.later
 
 -- the sum that a token's bound has to be
 abbrev pub token_bound : List (List (ℕ × ℤ)) → Node → Token → ℤ
-token_bound records node token = cut_bound records (grown node token.item.0).prefix (grown node token.item.0).later
+token_bound records node token =
+    cut_bound records (grown node token.item.0).prefix (grown node token.item.0).later
 
 -- a stated bound isn't the sum
 abbrev pub wrong_bound_of : ℕ → Item → Option ℤ → ℤ → Option CheckFault
 wrong_bound_of line item None sum = None
-wrong_bound_of line item (Some stated) sum = then_some (not (int_eq stated sum)) (WrongBound line item stated sum)
+wrong_bound_of line item (Some stated) sum =
+    then_some (not (int_eq stated sum)) (WrongBound line item stated sum)
 
 abbrev pub wrong_bound : ℕ → List (List (ℕ × ℤ)) → Node → Token → Option CheckFault
-wrong_bound line records node token = wrong_bound_of line token.item token.bound (token_bound records node token)
+wrong_bound line records node token =
+    wrong_bound_of line token.item token.bound (token_bound records node token)
 
 -- a stated bound reaches the minimum
 abbrev pub not_cut_of : ℕ → ℤ → Item → Option ℤ → Option CheckFault
@@ -75,10 +114,12 @@ abbrev pub utility_fault : ℕ → ℤ → ℤ → Option CheckFault
 utility_fault line stated sum = then_some (not (int_eq stated sum)) (WrongUtility line stated sum)
 
 abbrev pub child_fault : ℕ → Node → Said → Option CheckFault
-child_fault line node said = option_map (λ item. WrongChild line (record { 0 = item })) (wrong_child node.later said.tokens)
+child_fault line node said =
+    option_map (λ item. WrongChild line (record { 0 = item })) (wrong_child node.later said.tokens)
 
 abbrev pub left_fault : List (List (ℕ × ℤ)) → ℕ → Node → Said → Option CheckFault
-left_fault records line node said = option_map (λ item. LeftOut line (record { 0 = item })) (left_out records node said.tokens)
+left_fault records line node said =
+    option_map (λ item. LeftOut line (record { 0 = item })) (left_out records node said.tokens)
 
 abbrev pub bound_fault : List (List (ℕ × ℤ)) → ℕ → Node → Said → Option CheckFault
 bound_fault records line node said = first_some (map (wrong_bound line records node) said.tokens)
@@ -124,12 +165,15 @@ walk records least line (node ∷ nodes) (piece ∷ next ∷ rest) = first_some 
 
 -- whether an order has just the items that occur, each once
 abbrev pub is_order : List (List (ℕ × ℤ)) → List ℕ → Bool
-is_order records order = bytes_eq (ranking nat_cmp order) (items_of records) && (length order == length (items_of records))
+is_order records order =
+    bytes_eq (ranking nat_cmp order) (items_of records)
+    && (length order == length (items_of records))
 
 -- the first fault from line 2 on
 abbrev pub order_fault : List (List (ℕ × ℤ)) → ℤ → Option (List ℕ) → List (List ℕ) → Option CheckFault
 order_fault records least None rest = Some (NotOfForm 2)
-order_fault records least (Some order) rest = if is_order records order then walk records least 3 (root order ∷ []) rest else Some WrongOrder
+order_fault records least (Some order) rest =
+    if is_order records order then walk records least 3 (root order ∷ []) rest else Some WrongOrder
 
 abbrev pub from_order : List (List (ℕ × ℤ)) → ℤ → List (List ℕ) → Option CheckFault
 from_order records least (line ∷ next ∷ rest) = order_fault records least (order_of line) (next ∷ rest)
@@ -138,7 +182,8 @@ from_order records least _ = Some (NotOfForm 2)
 -- the first fault from line 1 on
 abbrev pub minimum_fault : List (List (ℕ × ℤ)) → ℤ → Option ℤ → List (List ℕ) → Option CheckFault
 minimum_fault records least None rest = Some (NotOfForm 1)
-minimum_fault records least (Some stated) rest = if int_eq stated least then from_order records least rest else Some (WrongMinimum stated)
+minimum_fault records least (Some stated) rest =
+    if int_eq stated least then from_order records least rest else Some (WrongMinimum stated)
 
 abbrev pub from_minimum : List (List (ℕ × ℤ)) → ℤ → List (List ℕ) → Option CheckFault
 from_minimum records least (line ∷ next ∷ rest) = minimum_fault records least (minimum_of line) (next ∷ rest)
@@ -146,4 +191,6 @@ from_minimum records least _ = Some (NotOfForm 1)
 
 -- the first fault of a text; one that has none is accepted
 abbrev pub first_fault : List (List (ℕ × ℤ)) → ℤ → List ℕ → Option CheckFault
-first_fault records least text = if nat_lt 268435456 (length text) then Some TooLong else from_minimum records least (pieces text)
+first_fault records least text =
+    if nat_lt 268435456 (length text) then Some TooLong else from_minimum records least
+    (pieces text)

@@ -10,11 +10,13 @@ use Rattle.hu_proof.specs.Opened.{opened, opened_answer}
 
 -- each itemset that reaches the minimum is opened, its items in the order of the text
 abbrev pub OpensAllFound : Type 0
-OpensAllFound = (records : List (List (ℕ × ℤ))) (least : ℤ) (text : List ℕ) → pos 1 ≤ℤ least → first_fault records least text ≡ None →
+OpensAllFound = (records : List (List (ℕ × ℤ))) (least : ℤ) (text : List ℕ) → pos 1 ≤ℤ least
+    → first_fault records least text ≡ None →
     (items : List ℕ) → 0 < length items → Ascend items → least ≤ℤ utility records items →
     (prefix : List ℕ) × Contains (opened text) prefix × (ranking nat_cmp prefix ≡ items)
 
 -- and the opened prefixes that reach it are the whole answer
 abbrev pub OpensTheAnswer : Type 0
-OpensTheAnswer = (records : List (List (ℕ × ℤ))) (least : ℤ) (text : List ℕ) → pos 1 ≤ℤ least → first_fault records least text ≡ None →
+OpensTheAnswer = (records : List (List (ℕ × ℤ))) (least : ℤ) (text : List ℕ) → pos 1 ≤ℤ least
+    → first_fault records least text ≡ None →
     opened_answer records least text ≡ item_answer records least None

@@ -18,7 +18,13 @@ opened text = prefixes_in (drop 2 (pieces text))
 
 -- the entry of a prefix: its items ascending, its utility and its support
 abbrev pub prefix_entry : List (List (ℕ × ℤ)) → List ℕ → Entry
-prefix_entry records prefix = record { key = map pos (ranking nat_cmp prefix); utility = utility records prefix; support = support records prefix }
+prefix_entry records prefix =
+    record {
+      key = map pos (ranking nat_cmp prefix);
+      utility = utility records prefix;
+      support =
+          support records prefix;
+    }
 
 -- those of the prefixes of lines that reach the minimum, each once and in the one order
 abbrev pub answer_of_lines : List (List (ℕ × ℤ)) → ℤ → List (List ℕ) → List Entry

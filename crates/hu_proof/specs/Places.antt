@@ -1,5 +1,26 @@
 -- What a walk keeps of the records that hold a prefix, and the sums over these.
-use Rattle.std.specs.Prelude.{◌≡◌, ⊤, ◌⊎◌, ℕ, ◌+◌, ◌^◌, ◌<◌, ◌≤◌, ℤ, pos, ◌+ℤ◌, unsigned_abs, Option, None, Some, List, [], ◌∷◌, map, if◌then◌else◌}
+use Rattle.std.specs.Prelude.{
+  ◌≡◌,
+  ⊤,
+  ◌⊎◌,
+  ℕ,
+  ◌+◌,
+  ◌^◌,
+  ◌<◌,
+  ◌≤◌,
+  ℤ,
+  pos,
+  ◌+ℤ◌,
+  unsigned_abs,
+  Option,
+  None,
+  Some,
+  List,
+  [],
+  ◌∷◌,
+  map,
+  if◌then◌else◌,
+}
 use Rattle.std.specs.List.{filter, sum_by, AllByRecursion}
 use Rattle.hu_kind.specs.Cell.{pairs_of}
 use Rattle.hu_kind.specs.Record.{has, holds, value_of, values_of, positive_part, absolute_of}
@@ -42,7 +63,9 @@ value_in item cells = if has item cells then Some (value_of item cells) else Non
 -- those that hold an item more
 abbrev pub narrowed : ℕ → List PlaceOf → List PlaceOf
 narrowed item [] = []
-narrowed item (place ∷ places) = if has item place.0 then (place.0, place.1 +ℤ value_of item place.0) ∷ narrowed item places else narrowed item places
+narrowed item (place ∷ places) =
+    if has item place.0 then (place.0, place.1 +ℤ value_of item place.0) ∷ narrowed item places else
+    narrowed item places
 
 -- what the prefix earns in all of them
 abbrev pub earned : List PlaceOf → ℤ
@@ -51,7 +74,9 @@ earned (place ∷ places) = place.1 +ℤ earned places
 
 -- the most that the prefix may earn in a record with an item and with later ones
 abbrev pub share : ℕ → List ℕ → PlaceOf → ℤ
-share item later place = if has item place.0 then positive_part ((place.1 +ℤ value_of item place.0) +ℤ later_gain later place.0) else pos 0
+share item later place =
+    if has item place.0 then positive_part ((place.1 +ℤ value_of item place.0)
+    +ℤ later_gain later place.0) else pos 0
 
 abbrev pub shares : ℕ → List ℕ → List PlaceOf → ℤ
 shares item later [] = pos 0
@@ -60,7 +85,8 @@ shares item later (place ∷ places) = share item later place +ℤ shares item l
 -- the absolute values of the later items of a record together
 abbrev pub later_size : List ℕ → List (ℕ × ℤ) → ℕ
 later_size later [] = 0
-later_size later (cell ∷ cells) = (if is_among cell.0 later then unsigned_abs cell.1 else 0) + later_size later cells
+later_size later (cell ∷ cells) =
+    (if is_among cell.0 later then unsigned_abs cell.1 else 0) + later_size later cells
 
 -- what the prefix earns in a record and the absolute values of its later items are within the record's
 abbrev pub IsRoomy : List ℕ → PlaceOf → Type 0

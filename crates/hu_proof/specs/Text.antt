@@ -1,6 +1,26 @@
 -- The text of a certificate is lines that each end with a line feed (byte 10). Line 1 is `cert`, a space and a minimum;
 -- line 2 is `order` and, for each item, a space and the item; each later line is `prefix:utility:tokens`.
-use Rattle.std.specs.Prelude.{ℕ, ◌==◌, nat_lt, ℤ, unsigned_abs, ◌&&◌, Bool, Option, None, Some, List, [], ◌∷◌, codes, length, take, drop, slice_index, if◌then◌else◌}
+use Rattle.std.specs.Prelude.{
+  ℕ,
+  ◌==◌,
+  nat_lt,
+  ℤ,
+  unsigned_abs,
+  ◌&&◌,
+  Bool,
+  Option,
+  None,
+  Some,
+  List,
+  [],
+  ◌∷◌,
+  codes,
+  length,
+  take,
+  drop,
+  slice_index,
+  if◌then◌else◌,
+}
 use Rattle.std.specs.List.{slice_split}
 use Rattle.std.specs.Option.{option_map, option_and_then}
 use Rattle.std.specs.Result.{result_ok}
@@ -55,7 +75,8 @@ words (b ∷ bs) = slice_split is_space (b ∷ bs)
 
 -- what stands after a front, where the text begins with that
 abbrev pub behind : List ℕ → List ℕ → Option (List ℕ)
-behind front text = if bytes_eq (take (length front) text) front then Some (drop (length front) text) else None
+behind front text =
+    if bytes_eq (take (length front) text) front then Some (drop (length front) text) else None
 
 -- the minimum that line 1 states
 abbrev pub minimum_of : List ℕ → Option ℤ
@@ -91,12 +112,14 @@ pub record Said : Type 0 where
   pub tokens : List Token
 
 abbrev pub said_by : Option (List ℕ) → Option ℤ → Option (List Token) → Option Said
-said_by (Some prefix) (Some utility) (Some tokens) = Some (record { prefix = prefix; utility = utility; tokens = tokens })
+said_by (Some prefix) (Some utility) (Some tokens) =
+    Some (record { prefix = prefix; utility = utility; tokens = tokens })
 said_by _ _ _ = None
 
 -- its three parts have a `:` (byte 58) between
 abbrev pub said_in : List (List ℕ) → Option Said
-said_in (prefix ∷ utility ∷ tokens ∷ []) = said_by (each plain_item (words prefix)) (plain_signed utility) (each token_of (words tokens))
+said_in (prefix ∷ utility ∷ tokens ∷ []) =
+    said_by (each plain_item (words prefix)) (plain_signed utility) (each token_of (words tokens))
 said_in _ = None
 
 abbrev pub said_of : List ℕ → Option Said

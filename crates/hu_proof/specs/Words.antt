@@ -1,5 +1,21 @@
 -- A text that is read word by word: what is still to come, and what was said of it.
-use Rattle.std.specs.Prelude.{◌≡◌, ℕ, ℤ, Bool, true, false, Option, None, Some, unwrap_or, is_some, List, [], ◌++◌, map}
+use Rattle.std.specs.Prelude.{
+  ◌≡◌,
+  ℕ,
+  ℤ,
+  Bool,
+  true,
+  false,
+  Option,
+  None,
+  Some,
+  unwrap_or,
+  is_some,
+  List,
+  [],
+  ◌++◌,
+  map,
+}
 use Rattle.std.specs.Borrow.{Bor}
 use Rattle.std.specs.List.{slice_split}
 use Rattle.std.specs.Option.{option_map}
@@ -34,4 +50,10 @@ are_those (Some said) items = bytes_eq said items
 pub record IsLine (line prefix : List ℕ) (utility : ℤ) (tokens : List ℕ) : Type 0 where
   pub prefixed : is_some (each plain_item (words prefix)) ≡ true
   pub tokened : is_some (each token_of (words tokens)) ≡ true
-  pub is : said_of line ≡ Some (record { prefix = told (each plain_item (words prefix)); utility = utility; tokens = told (each token_of (words tokens)) })
+  pub is : said_of line
+      ≡ Some (record {
+        prefix = told (each plain_item (words prefix));
+        utility = utility;
+        tokens =
+            told (each token_of (words tokens));
+      })

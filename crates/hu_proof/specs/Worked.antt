@@ -3,7 +3,17 @@ use Rattle.std.specs.Prelude.{◌≡◌, ℕ, ℤ, pos, None, Some, List, [], �
 use Rattle.std.specs.List.{flat_map}
 use Rattle.hu_kind.specs.Order.{entry_cmp}
 use Rattle.hu_kind.specs.Worked.{entry_of}
-use Rattle.hu_proof.specs.declared.fault.CheckFault.TheVariants.{NotOfForm, WrongMinimum, WrongOrder, WrongPrefix, WrongUtility, WrongChild, LeftOut, WrongBound, NotCut}
+use Rattle.hu_proof.specs.declared.fault.CheckFault.TheVariants.{
+  NotOfForm,
+  WrongMinimum,
+  WrongOrder,
+  WrongPrefix,
+  WrongUtility,
+  WrongChild,
+  LeftOut,
+  WrongBound,
+  NotCut,
+}
 use Rattle.hu_proof.specs.Check.{first_fault}
 use Rattle.hu_proof.specs.Opened.{opened, opened_answer}
 
@@ -25,7 +35,8 @@ accepted = refl
 pub opens : opened five_lines ≡ [] ∷ (1 ∷ []) ∷ (1 ∷ 2 ∷ []) ∷ []
 opens = refl
 
-pub answers : opened_answer two_items (pos 5) five_lines ≡ entry_of (1 ∷ []) 5 1 ∷ entry_of (1 ∷ 2 ∷ []) 5 1 ∷ []
+pub answers : opened_answer two_items (pos 5) five_lines
+    ≡ entry_of (1 ∷ []) 5 1 ∷ entry_of (1 ∷ 2 ∷ []) 5 1 ∷ []
 unfolding entry_cmp
 answers = refl
 

@@ -1,5 +1,7 @@
 -- The first k itemsets by a floor that k single items reach.
-use Rattle.std.proofs.Common.{◌≡◌, ◌≢◌, ◌↔◌, ℕ, ◌<◌, ◌≤◌, Bool, true, false, eqb, ◌||◌, ℤ, unsigned_abs, ◌≤ℤ◌, int_le, Some, List, [], ◌∷◌, ◌++◌, map, filter, length, take, refl, sym, ap, ◌∙◌, subst, inl, inr, arith, flat_map, Contains, Ordering, Less, Equal, Greater}
+use Rattle.std.proofs.Common.{◌≡◌, ◌≢◌, ◌↔◌, ℕ, ◌<◌, ◌≤◌, Bool, true, false, eqb, ◌||◌, ℤ, unsigned_abs, ◌≤ℤ◌, int_le}
+use Rattle.std.proofs.Common.{Some, List, [], ◌∷◌, ◌++◌, map, filter, length, take, refl, sym, ap, ◌∙◌, subst, inl, inr}
+use Rattle.std.proofs.Common.{arith, flat_map, Contains, Ordering, Less, Equal, Greater}
 use Rattle.std.specs.Int.Signed.{≤ℤ_refl}
 use Rattle.std.specs.Ordering.{eq_by_cmp, is_eq}
 use Rattle.std.specs.List.{AllByRecursion, IsDistinct}
@@ -15,7 +17,9 @@ use Rattle.hu_kind.specs.Record.{has, holds, items_in}
 use Rattle.hu_kind.specs.Database.{utility}
 use Rattle.hu_kind.specs.Itemsets.{item_entry, item_patterns, occurring_sets}
 use Rattle.hu_kind.specs.Answer.{found}
-use Rattle.hu_kind.proofs.lemmas.Members.{Member, Contains-from_member, Member-from_contains, Member-map, Member-from_map, Member-filter, Member-from_filter, Member-append_right, Member-append_cases, Member-from_flat_map}
+use Rattle.hu_kind.proofs.lemmas.Members.{Member, Contains-from_member, Member-from_contains, Member-map}
+use Rattle.hu_kind.proofs.lemmas.Members.{Member-from_map, Member-filter, Member-from_filter, Member-append_right}
+use Rattle.hu_kind.proofs.lemmas.Members.{Member-append_cases, Member-from_flat_map}
 use Rattle.hu_kind.proofs.lemmas.Occurring.{at_member, by_members, count-member, Member-from_occurs}
 use Rattle.hu_totals.specs.Totals.{first_seen}
 use Rattle.hu_totals.proofs.lemmas.AddingLemmas.{Once-first_seen, Member-from_first_seen}
@@ -100,7 +104,8 @@ module _ (records : List (List (ℕ × ℤ))) (floor : ℤ) where
       let reached = Member-from_filter (λ item. int_le floor (utility records (item ∷ []))) x (first_seen (flat_map items_in records)) of_item.1 in
       let occurring = occurs-single records x (Member-from_first_seen x (flat_map items_in records) reached.0) in
       subst (λ z. Member z high) of_item.2
-      (Member-filter (λ (z : Entry). int_le floor z.utility) (item_entry records (x ∷ [])) (item_patterns records) (Member-map (item_entry records) (x ∷ []) (occurring_sets records) occurring) reached.1)
+      (Member-filter (λ (z : Entry). int_le floor z.utility) (item_entry records (x ∷ [])) (item_patterns records)
+      (Member-map (item_entry records) (x ∷ []) (occurring_sets records) occurring) reached.1)
 
   -- as many patterns reach the floor as single items
   pub many : length items ≤ length (ranking entry_cmp high)
@@ -108,7 +113,10 @@ module _ (records : List (List (ℕ × ℤ))) (floor : ℤ) where
       let xs = map (single records) items in
       let ys = ranking entry_cmp high in
       let equiv = eq_by_cmp_equiv entry_cmp_total in
-      let more = length-le_from_is_member equiv xs ys (distinct-singles records items (Once-filter (λ item. int_le floor (utility records (item ∷ []))) (first_seen (flat_map items_in records)) (Once-first_seen (flat_map items_in records))))
+      let more =
+      length-le_from_is_member equiv xs ys (distinct-singles records items
+      (Once-filter (λ item. int_le floor (utility records (item ∷ []))) (first_seen (flat_map items_in records))
+      (Once-first_seen (flat_map items_in records))))
       (λ q h.
       let m = singles-high q (Member-from_contains q xs (Contains-from_any same_entry-is q xs h)) in
       list_any-from_Contains equiv q ys (Contains-from_member q ys (Member-to_ranking entry_cmp entry_exact q high m))) in
@@ -125,7 +133,8 @@ last-reaches floor d (x ∷ y ∷ ys) some all = last-reaches floor x.utility (y
 
 -- ---- a list and its part that reaches a floor make the same
 
-module _ (k : ℕ) (floor least : ℤ) (patterns : List Entry) (some : 1 ≤ k) (low : least ≤ℤ floor) (enough : k ≤ length (ranking entry_cmp (found floor patterns))) where
+module _ (k : ℕ) (floor least : ℤ) (patterns : List Entry) (some : 1 ≤ k) (low : least ≤ℤ floor)
+    (enough : k ≤ length (ranking entry_cmp (found floor patterns))) where
   rule : Rule
   rule = rule_of least (Some k)
 
@@ -147,20 +156,28 @@ module _ (k : ℕ) (floor least : ℤ) (patterns : List Entry) (some : 1 ≤ k) 
 
   same_members : (e : Entry) → Contains (found least patterns) e ↔ Contains (found floor patterns ++ found least patterns) e
   same_members e = (
-    λ c. Contains-from_member e (found floor patterns ++ found least patterns) (Member-append_right e (found floor patterns) (found least patterns) (Member-from_contains e (found least patterns) c)),
-    λ c. Contains-from_member e (found least patterns) (elim (Member-append_cases e (found floor patterns) (found least patterns) (Member-from_contains e (found floor patterns ++ found least patterns) c)) [
-      | inl m ↦ member-found e m
-      | inr m ↦ m
-    ]),
+    λ c. Contains-from_member e (found floor patterns ++ found least patterns)
+        (Member-append_right e (found floor patterns) (found least patterns)
+        (Member-from_contains e (found least patterns) c)),
+    λ c. Contains-from_member e (found least patterns) (elim
+        (Member-append_cases e (found floor patterns) (found least patterns)
+        (Member-from_contains e (found floor patterns ++ found least patterns) c)) [
+          | inl m ↦ member-found e m
+          | inr m ↦ m
+        ]),
   )
 
   twice_members : (e : Entry) → Contains (found floor patterns ++ found floor patterns) e ↔ Contains (found floor patterns) e
   twice_members e = (
-    λ c. Contains-from_member e (found floor patterns) (elim (Member-append_cases e (found floor patterns) (found floor patterns) (Member-from_contains e (found floor patterns ++ found floor patterns) c)) [
-      | inl m ↦ m
-      | inr m ↦ m
-    ]),
-    λ c. Contains-from_member e (found floor patterns ++ found floor patterns) (Member-append_right e (found floor patterns) (found floor patterns) (Member-from_contains e (found floor patterns) c)),
+    λ c. Contains-from_member e (found floor patterns) (elim
+        (Member-append_cases e (found floor patterns) (found floor patterns)
+        (Member-from_contains e (found floor patterns ++ found floor patterns) c)) [
+          | inl m ↦ m
+          | inr m ↦ m
+        ]),
+    λ c. Contains-from_member e (found floor patterns ++ found floor patterns)
+        (Member-append_right e (found floor patterns) (found floor patterns)
+        (Member-from_contains e (found floor patterns) c)),
   )
 
   each-high : AllByRecursion (λ e. floor ≤ℤ e.utility) (found floor patterns)
@@ -170,7 +187,9 @@ module _ (k : ℕ) (floor least : ℤ) (patterns : List Entry) (some : 1 ≤ k) 
   each-pass : (low' : ℤ) → least ≤ℤ low' → AllByRecursion (λ e. passes rule e ≡ true) (found low' patterns)
   unfolding rule
   each-pass low' below = by_members (λ e. passes rule e ≡ true) (found low' patterns)
-      (λ e m. let from = Member-from_filter (λ (z : Entry). int_le low' z.utility) e patterns m in let high : low' ≤ℤ e.utility = grind (arith, ints) in let reaches : int_le least e.utility ≡ true = grind (arith, ints) in reaches)
+      (λ e m. let from = Member-from_filter (λ (z : Entry). int_le low' z.utility) e patterns m in let high : low'
+      ≤ℤ e.utility = grind (arith, ints) in let reaches : int_le least e.utility ≡ true =
+      grind (arith, ints) in reaches)
 
   -- what is made of nothing and of patterns that reach a floor is the answer
   made-found : (low' : ℤ) → least ≤ℤ low' → made rule [] (found low' patterns) ≡ take k (ranking entry_cmp (found low' patterns))
@@ -188,7 +207,8 @@ module _ (k : ℕ) (floor least : ℤ) (patterns : List Entry) (some : 1 ≤ k) 
   kept-high =
       let ranked = by_members (λ e. floor ≤ℤ e.utility) (ranking entry_cmp (found floor patterns))
       (λ e m. at_member (λ e. floor ≤ℤ e.utility) e (found floor patterns) each-high (Member-from_ranking entry_cmp e (found floor patterns) m)) in
-      subst (AllByRecursion (λ e. floor ≤ℤ e.utility)) (sym kept-is) (AllByRecursion-take (λ e. floor ≤ℤ e.utility) k (ranking entry_cmp (found floor patterns)) ranked)
+      subst (AllByRecursion (λ e. floor ≤ℤ e.utility)) (sym kept-is)
+      (AllByRecursion-take (λ e. floor ≤ℤ e.utility) k (ranking entry_cmp (found floor patterns)) ranked)
 
   -- the floor over the first k that reach a floor is no less
   floor-kept : floor ≤ℤ floor_of rule kept

@@ -1,5 +1,7 @@
 -- The cells of a record over ranks.
-use Rattle.std.proofs.Common.{◌≡◌, ◌≢◌, ℕ, zero, suc, ◌+◌, ◌<◌, ◌≤◌, Bool, true, false, cond, eqb, nat_lt, ◌&&◌, ◌||◌, ℤ, pos, ◌+ℤ◌, unsigned_abs, List, [], ◌∷◌, ◌++◌, filter, length, get_or, set, take, drop, refl, sym, ap, ◌∙◌, subst, inl, inr, arith, append-nil}
+use Rattle.std.proofs.Common.{◌≡◌, ◌≢◌, ℕ, zero, suc, ◌+◌, ◌<◌, ◌≤◌, Bool, true, false, cond, eqb, nat_lt, ◌&&◌, ◌||◌}
+use Rattle.std.proofs.Common.{ℤ, pos, ◌+ℤ◌, unsigned_abs, List, [], ◌∷◌, ◌++◌, filter, length, get_or, set, take, drop}
+use Rattle.std.proofs.Common.{refl, sym, ap, ◌∙◌, subst, inl, inr, arith, append-nil}
 use Rattle.std.specs.List.{AllByRecursion}
 use Rattle.std.proofs.lemmas.Bool.{cases_eq, eq-eqb, ne_eqb}
 use Rattle.std.proofs.lemmas.Int.{ints}
@@ -14,7 +16,8 @@ use Rattle.hu_raise.specs.Sums.{sum_at, gain_at}
 
 -- ---- the gain of the first cells
 
-pub gain-more : (cells : List (ℕ × ℤ)) (i : ℕ) (d : ℕ × ℤ) → i < length cells → gain (take (suc i) cells) ≡ gain (take i cells) +ℤ positive_part (get_or cells i d).1
+pub gain-more : (cells : List (ℕ × ℤ)) (i : ℕ) (d : ℕ × ℤ) → i < length cells → gain (take (suc i) cells)
+    ≡ gain (take i cells) +ℤ positive_part (get_or cells i d).1
 gain-more [] i d within = absurd (omega arith)
 gain-more (cell ∷ cells) zero d within = omega (arith, ints)
 gain-more (cell ∷ cells) (suc i) d within = let ih = gain-more cells i d (omega arith) in omega (arith, ints)
@@ -30,7 +33,8 @@ gain-take (cell ∷ cells) (suc i) =
 
 -- ---- whether the first cells have a rank
 
-has-take_more : (rank : ℕ) (cells : List (ℕ × ℤ)) (i : ℕ) (d : ℕ × ℤ) → i < length cells → has rank (take (i + 1) cells) ≡ (has rank (take i cells) || eqb rank (get_or cells i d).0)
+has-take_more : (rank : ℕ) (cells : List (ℕ × ℤ)) (i : ℕ) (d : ℕ × ℤ) → i < length cells → has rank (take (i + 1) cells)
+    ≡ (has rank (take i cells) || eqb rank (get_or cells i d).0)
 has-take_more rank cells i d within = list_any_more (λ cell. eqb rank cell.0) cells i d within
 
 rank-above : (x : ℕ) (cells : List (ℕ × ℤ)) (i : ℕ) (d : ℕ × ℤ) → AllByRecursion (λ y. x < y) (items_in cells) → i < length cells → x < (get_or cells i d).0
@@ -47,7 +51,8 @@ has-take_before (cell ∷ cells) (suc i) d up within =
     let other : eqb (get_or cells i d).0 cell.0 ≡ false = ne_eqb (get_or cells i d).0 cell.0 (λ e. absurd (omega arith)) in
     rw other (has-take_before cells i d up.1 (omega arith))
 
-pub rank-within : (n : ℕ) (cells : List (ℕ × ℤ)) (i : ℕ) (d : ℕ × ℤ) → AllByRecursion (λ rank. rank < n) (items_in cells) → i < length cells → (get_or cells i d).0 < n
+pub rank-within : (n : ℕ) (cells : List (ℕ × ℤ)) (i : ℕ) (d : ℕ × ℤ)
+    → AllByRecursion (λ rank. rank < n) (items_in cells) → i < length cells → (get_or cells i d).0 < n
 rank-within n [] i d all within = absurd (omega arith)
 rank-within n (cell ∷ cells) zero d all within = all.0
 rank-within n (cell ∷ cells) (suc i) d all within = rank-within n cells i d all.1 (omega arith)
@@ -60,7 +65,8 @@ has-take_here cells i d within =
     by true h = refl
     by false h = h
 
-has-take_other : (rank : ℕ) (cells : List (ℕ × ℤ)) (i : ℕ) (d : ℕ × ℤ) → i < length cells → rank ≢ (get_or cells i d).0 → has rank (take (i + 1) cells) ≡ has rank (take i cells)
+has-take_other : (rank : ℕ) (cells : List (ℕ × ℤ)) (i : ℕ) (d : ℕ × ℤ) → i < length cells → rank ≢ (get_or cells i d).0
+    → has rank (take (i + 1) cells) ≡ has rank (take i cells)
 has-take_other rank cells i d within other =
     has-take_more rank cells i d within ∙ by (has rank (take i cells)) (ne_eqb rank (get_or cells i d).0 other)
   where
@@ -81,11 +87,13 @@ add-step first sums next cells i d gained up within so_far below is rank = elim 
       let before : gain_at (take i cells) gained here ≡ pos 0 = ap {B = ℤ} (λ b. cond b gained (pos 0)) (has-take_before cells i d up within) in
       let after : gain_at (take (i + 1) cells) gained here ≡ gained = ap {B = ℤ} (λ b. cond b gained (pos 0)) (has-take_here cells i d within) in
       let old = so_far here in
-      let new : sum_at next here ≡ sum_at sums here +ℤ gained = ap (λ all. sum_at all here) is ∙ get_or-set_same sums here (sum_at sums here +ℤ gained) (pos 0) below in
+      let new : sum_at next here ≡ sum_at sums here +ℤ gained = ap (λ all. sum_at all here) is
+      ∙ get_or-set_same sums here (sum_at sums here +ℤ gained) (pos 0) below in
       subst (λ r. sum_at next r ≡ sum_at first r +ℤ gain_at (take (i + 1) cells) gained r) (sym e) (omega (arith, ints))
   | inr other ↦
       let here = (get_or cells i d).0 in
-      let same : sum_at next rank ≡ sum_at sums rank = ap (λ all. sum_at all rank) is ∙ get_or-set_other sums here rank (sum_at sums here +ℤ gained) (pos 0) other in
+      let same : sum_at next rank ≡ sum_at sums rank = ap (λ all. sum_at all rank) is
+      ∙ get_or-set_other sums here rank (sum_at sums here +ℤ gained) (pos 0) other in
       same ∙ so_far rank ∙ ap (λ b. sum_at first rank +ℤ cond b gained (pos 0)) (sym (has-take_other rank cells i d within other))
 ]
 
@@ -112,7 +120,8 @@ hold-step first lists next cells i d place up within so_far below is rank = elim
 ]
 
 -- the same at a rank that is the cell's
-pub add-step_at : (first sums next : List ℤ) (cells : List (ℕ × ℤ)) (i : ℕ) (cell : ℕ × ℤ) (gained : ℤ) → Ascend (items_in cells) → i < length cells → get_or cells i (0, pos 0) ≡ cell
+pub add-step_at : (first sums next : List ℤ) (cells : List (ℕ × ℤ)) (i : ℕ) (cell : ℕ × ℤ) (gained : ℤ)
+    → Ascend (items_in cells) → i < length cells → get_or cells i (0, pos 0) ≡ cell
     → ((rank : ℕ) → sum_at sums rank ≡ sum_at first rank +ℤ gain_at (take i cells) gained rank) → cell.0 < length sums
     → next ≡ set sums cell.0 (sum_at sums cell.0 +ℤ gained)
     → (rank : ℕ) → sum_at next rank ≡ sum_at first rank +ℤ gain_at (take (i + 1) cells) gained rank
@@ -120,7 +129,8 @@ add-step_at first sums next cells i cell gained up within e so_far below is =
     add-step first sums next cells i (0, pos 0) gained up within so_far (subst (λ (d : ℕ × ℤ). d.0 < length sums) (sym e) below)
     (is ∙ ap (λ (d : ℕ × ℤ). set sums d.0 (sum_at sums d.0 +ℤ gained)) (sym e))
 
-pub hold-step_at : (first lists next : List (List ℕ)) (cells : List (ℕ × ℤ)) (i : ℕ) (cell : ℕ × ℤ) (place : ℕ) → Ascend (items_in cells) → i < length cells → get_or cells i (0, pos 0) ≡ cell
+pub hold-step_at : (first lists next : List (List ℕ)) (cells : List (ℕ × ℤ)) (i : ℕ) (cell : ℕ × ℤ) (place : ℕ)
+    → Ascend (items_in cells) → i < length cells → get_or cells i (0, pos 0) ≡ cell
     → ((rank : ℕ) → get_or lists rank [] ≡ get_or first rank [] ++ cond (has rank (take i cells)) (place ∷ []) []) → cell.0 < length lists
     → next ≡ set lists cell.0 (get_or lists cell.0 [] ++ place ∷ [])
     → (rank : ℕ) → get_or next rank [] ≡ get_or first rank [] ++ cond (has rank (take (i + 1) cells)) (place ∷ []) []
@@ -129,7 +139,8 @@ hold-step_at first lists next cells i cell place up within e so_far below is =
     (is ∙ ap (λ (d : ℕ × ℤ). set lists d.0 (get_or lists d.0 [] ++ place ∷ [])) (sym e))
 
 -- the sum at a cell's rank is still the first one
-pub add-before : (first sums : List ℤ) (cells : List (ℕ × ℤ)) (i : ℕ) (cell : ℕ × ℤ) (gained : ℤ) → Ascend (items_in cells) → i < length cells → get_or cells i (0, pos 0) ≡ cell
+pub add-before : (first sums : List ℤ) (cells : List (ℕ × ℤ)) (i : ℕ) (cell : ℕ × ℤ) (gained : ℤ)
+    → Ascend (items_in cells) → i < length cells → get_or cells i (0, pos 0) ≡ cell
     → ((rank : ℕ) → sum_at sums rank ≡ sum_at first rank +ℤ gain_at (take i cells) gained rank) → sum_at sums cell.0 ≡ sum_at first cell.0
 add-before first sums cells i cell gained up within e so_far =
     let out : has cell.0 (take i cells) ≡ false = subst (λ (d : ℕ × ℤ). has d.0 (take i cells) ≡ false) e (has-take_before cells i (0, pos 0) up within) in
@@ -138,7 +149,8 @@ add-before first sums cells i cell gained up within e so_far =
     omega (arith, ints)
 
 -- ranks that ascend strictly don't fall
-pub ascending-le : (cells : List (ℕ × ℤ)) (i j : ℕ) (d : ℕ × ℤ) → Ascend (items_in cells) → i ≤ j → j < length cells → (get_or cells i d).0 ≤ (get_or cells j d).0
+pub ascending-le : (cells : List (ℕ × ℤ)) (i j : ℕ) (d : ℕ × ℤ) → Ascend (items_in cells) → i ≤ j → j < length cells
+    → (get_or cells i d).0 ≤ (get_or cells j d).0
 ascending-le [] i j d up before within = absurd (omega arith)
 ascending-le (cell ∷ cells) zero zero d up before within = omega arith
 ascending-le (cell ∷ cells) zero (suc j) d up before within = let above = rank-above cell.0 cells j d up.0 (omega arith) in omega arith
@@ -148,7 +160,8 @@ ascending-le (cell ∷ cells) (suc i) (suc j) d up before within = ascending-le 
 -- ---- the cells after a rank
 
 -- what passes a test from a place on, where nothing before it does
-pub drop-filter : {X : Type 0} (p : X → Bool) (xs : List X) (n : ℕ) (d : X) → n ≤ length xs → ((k : ℕ) → k < n → p (get_or xs k d) ≡ false) → ((k : ℕ) → n ≤ k → k < length xs → p (get_or xs k d) ≡ true)
+pub drop-filter : {X : Type 0} (p : X → Bool) (xs : List X) (n : ℕ) (d : X) → n ≤ length xs
+    → ((k : ℕ) → k < n → p (get_or xs k d) ≡ false) → ((k : ℕ) → n ≤ k → k < length xs → p (get_or xs k d) ≡ true)
     → drop n xs ≡ filter p xs
 drop-filter p [] zero d within low high = refl
 drop-filter p [] (suc n) d within low high = absurd (omega arith)

@@ -1,5 +1,6 @@
 -- What sets earn in a record, and what the record gains.
-use Rattle.std.proofs.Common.{◌≡◌, ℕ, ◌<◌, Bool, true, false, not, cond, eqb, ℤ, pos, negsuc, ◌+ℤ◌, ◌≤ℤ◌, List, [], ◌∷◌, filter, refl, sym, ap, ◌∙◌, subst, inl, inr, arith}
+use Rattle.std.proofs.Common.{◌≡◌, ℕ, ◌<◌, Bool, true, false, not, cond, eqb, ℤ, pos, negsuc, ◌+ℤ◌, ◌≤ℤ◌, List, [], ◌∷◌}
+use Rattle.std.proofs.Common.{filter, refl, sym, ap, ◌∙◌, subst, inl, inr, arith}
 use Rattle.std.specs.List.{AllByRecursion}
 use Rattle.std.proofs.lemmas.Bool.{eq-eqb, ne_eqb, cases_eq, and_parts}
 use Rattle.std.proofs.lemmas.Int.{ints}
@@ -42,7 +43,8 @@ Ascend-others x (y ∷ ys) up = by (eqb y x) (each-others (λ z. y < z) x ys up.
     by true above rest = rest
     by false above rest = (above, rest)
 
-values_of-past : (cell : ℕ × ℤ) (cells : List (ℕ × ℤ)) (set : List ℕ) → AllByRecursion (λ i. cell.0 < i) set → values_of set (cell ∷ cells) ≡ values_of (others cell.0 set) cells
+values_of-past : (cell : ℕ × ℤ) (cells : List (ℕ × ℤ)) (set : List ℕ) → AllByRecursion (λ i. cell.0 < i) set
+    → values_of set (cell ∷ cells) ≡ values_of (others cell.0 set) cells
 unfolding others
 values_of-past cell cells [] above = refl
 values_of-past cell cells (i ∷ is) above =
@@ -50,7 +52,8 @@ values_of-past cell cells (i ∷ is) above =
     let ih = values_of-past cell cells is above.1 in
     simp other (ap (λ v. value_of i cells +ℤ v) ih)
 
-values_of-cell : (cell : ℕ × ℤ) (cells : List (ℕ × ℤ)) (set : List ℕ) → Ascend set → values_of set (cell ∷ cells) ≤ℤ (positive_part cell.1 +ℤ values_of (others cell.0 set) cells)
+values_of-cell : (cell : ℕ × ℤ) (cells : List (ℕ × ℤ)) (set : List ℕ) → Ascend set
+    → values_of set (cell ∷ cells) ≤ℤ (positive_part cell.1 +ℤ values_of (others cell.0 set) cells)
 unfolding others
 values_of-cell cell cells [] up = let part = (positive_part-upper cell.1).1 in omega (arith, ints)
 values_of-cell cell cells (i ∷ is) up = elim (cases_eq i cell.0) [
@@ -83,7 +86,8 @@ has-held x [] cells h m = absurd m
 has-held x (y ∷ ys) cells h (inl e) = ap (λ i. has i cells) (sym e) ∙ (and_parts (has y cells) (holds ys cells) h).0
 has-held x (y ∷ ys) cells h (inr m) = has-held x ys cells (and_parts (has y cells) (holds ys cells) h).1 m
 
-utility_in-pair : (a b : ℕ) (set : List ℕ) (cells : List (ℕ × ℤ)) → Ascend set → Member a set → Member b set → utility_in set cells ≤ℤ cond (holds (a ∷ b ∷ []) cells) (gain cells) (pos 0)
+utility_in-pair : (a b : ℕ) (set : List ℕ) (cells : List (ℕ × ℤ)) → Ascend set → Member a set → Member b set
+    → utility_in set cells ≤ℤ cond (holds (a ∷ b ∷ []) cells) (gain cells) (pos 0)
 utility_in-pair a b set cells up m n = by (holds set cells) refl
   where
     least : (h : Bool) → pos 0 ≤ℤ cond h (gain cells) (pos 0)

@@ -1,5 +1,6 @@
 -- Lists of numbers: what passes a test, and ranges.
-use Rattle.std.proofs.Common.{◌≡◌, ℕ, zero, suc, ◌+◌, ◌<◌, ◌≤◌, Bool, true, false, cond, List, [], ◌∷◌, ◌++◌, length, get_or, take, filter, sym, ◌∙◌, inl, inr, arith, append-nil}
+use Rattle.std.proofs.Common.{◌≡◌, ℕ, zero, suc, ◌+◌, ◌<◌, ◌≤◌, Bool, true, false, cond, List, [], ◌∷◌, ◌++◌, length}
+use Rattle.std.proofs.Common.{get_or, take, filter, sym, ◌∙◌, inl, inr, arith, append-nil}
 use Rattle.std.specs.List.{range_with_len}
 use Rattle.std.specs.List.Sorted.{IsStrictlyIncreasing}
 use Rattle.std.specs.Ordering.{nat_cmp}
@@ -50,7 +51,12 @@ Member-from_range a (suc n) x (inr m) = let ih = Member-from_range (a + 1) n x m
 
 range_ascends : (a n : ℕ) → IsStrictlyIncreasing (range_with_len a n)
 range_ascends a n k within =
-    omega (arith, length-range_with_len a n, get_or-range_with_len a n k 0 (omega (arith, length-range_with_len a n)), get_or-range_with_len a n (k + 1) 0 (omega (arith, length-range_with_len a n)))
+    omega (
+      arith,
+      length-range_with_len a n,
+      get_or-range_with_len a n k 0 (omega (arith, length-range_with_len a n)),
+      get_or-range_with_len a n (k + 1) 0 (omega (arith, length-range_with_len a n)),
+    )
 
 -- numbers of a range that pass a test, in order
 pub filter-range_ascends : (p : ℕ → Bool) (a n : ℕ) → IsStrictlyIncreasing (filter p (range_with_len a n))
@@ -60,5 +66,8 @@ pub Member-filter_range : (p : ℕ → Bool) (a n x : ℕ) → a ≤ x → x < a
 Member-filter_range p a n x low high h = Member-filter p x (range_with_len a n) (Member-range a n x low high) h
 
 -- ascending lists with the same members are one
-pub ascending_same : (xs ys : List ℕ) → IsStrictlyIncreasing xs → IsStrictlyIncreasing ys → ((x : ℕ) → Member x xs → Member x ys) → ((x : ℕ) → Member x ys → Member x xs) → xs ≡ ys
-ascending_same xs ys up rise to back = sorted_same nat_cmp nat_cmp_total xs ys (sorted_from_strictly_increasing xs up) (sorted_from_strictly_increasing ys rise) to back
+pub ascending_same : (xs ys : List ℕ) → IsStrictlyIncreasing xs → IsStrictlyIncreasing ys
+    → ((x : ℕ) → Member x xs → Member x ys) → ((x : ℕ) → Member x ys → Member x xs) → xs ≡ ys
+ascending_same xs ys up rise to back =
+    sorted_same nat_cmp nat_cmp_total xs ys (sorted_from_strictly_increasing xs up)
+    (sorted_from_strictly_increasing ys rise) to back

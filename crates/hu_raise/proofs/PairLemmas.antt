@@ -1,5 +1,7 @@
 -- The records that hold a rank, and what the records of a pair gain.
-use Rattle.std.proofs.Common.{◌≡◌, ℕ, zero, suc, ◌+◌, ◌-◌, ◌<◌, ◌≤◌, ◌^◌, Bool, true, false, cond, nat_lt, ◌&&◌, ℤ, pos, ◌+ℤ◌, ◌≤ℤ◌, ◌<ℤ◌, int_le, List, [], ◌∷◌, ◌++◌, map, filter, length, get_or, take, refl, sym, ap, ◌∙◌, arith, append-nil, append_assoc, sum_by}
+use Rattle.std.proofs.Common.{◌≡◌, ℕ, zero, suc, ◌+◌, ◌-◌, ◌<◌, ◌≤◌, ◌^◌, Bool, true, false, cond, nat_lt, ◌&&◌, ℤ, pos}
+use Rattle.std.proofs.Common.{◌+ℤ◌, ◌≤ℤ◌, ◌<ℤ◌, int_le, List, [], ◌∷◌, ◌++◌, map, filter, length, get_or, take, refl}
+use Rattle.std.proofs.Common.{sym, ap, ◌∙◌, arith, append-nil, append_assoc, sum_by}
 use Rattle.std.specs.List.{AllByRecursion, range_with_len}
 use Rattle.std.proofs.lemmas.Bool.{lt-ltb, ltb-true}
 use Rattle.std.proofs.lemmas.Int.{ints}
@@ -32,14 +34,17 @@ places-more place rank (r ∷ rs) zero within =
 places-more place rank (r ∷ rs) (suc i) within =
     let ih = places-more (place + 1) rank rs i (omega arith) in
     let next : (place + 1) + i ≡ place + suc i = omega arith in
-    ap (λ ps. cond (has rank r) (place ∷ []) [] ++ ps) (ih ∙ ap (λ p. places_from (place + 1) rank (take i rs) ++ cond (has rank (get_or rs i [])) (p ∷ []) []) next)
-    ∙ sym (append_assoc (cond (has rank r) (place ∷ []) []) (places_from (place + 1) rank (take i rs)) (cond (has rank (get_or rs i [])) ((place + suc i) ∷ []) []))
+    ap (λ ps. cond (has rank r) (place ∷ []) [] ++ ps) (ih
+    ∙ ap (λ p. places_from (place + 1) rank (take i rs) ++ cond (has rank (get_or rs i [])) (p ∷ []) []) next)
+    ∙ sym (append_assoc (cond (has rank r) (place ∷ []) []) (places_from (place + 1) rank (take i rs))
+    (cond (has rank (get_or rs i [])) ((place + suc i) ∷ []) []))
 
 get_or-middle : (before : List (List (ℕ × ℤ))) (r : List (ℕ × ℤ)) (rs : List (List (ℕ × ℤ))) → get_or (before ++ r ∷ rs) (length before) [] ≡ r
 get_or-middle [] r rs = refl
 get_or-middle (b ∷ bs) r rs = get_or-middle bs r rs
 
-records-from : (rank : ℕ) (before records : List (List (ℕ × ℤ))) → map (λ place. get_or (before ++ records) place []) (places_from (length before) rank records) ≡ held rank records
+records-from : (rank : ℕ) (before records : List (List (ℕ × ℤ)))
+    → map (λ place. get_or (before ++ records) place []) (places_from (length before) rank records) ≡ held rank records
 records-from rank before [] = refl
 records-from rank before (r ∷ rs) =
     let all = append_assoc before (r ∷ []) rs in
@@ -50,7 +55,9 @@ records-from rank before (r ∷ rs) =
     by (has rank r) rest
   where
     by : (b : Bool) → map (λ place. get_or (before ++ r ∷ rs) place []) (places_from (length before + 1) rank rs) ≡ held rank rs
-        → map (λ place. get_or (before ++ r ∷ rs) place []) (cond b (length before ∷ []) [] ++ places_from (length before + 1) rank rs) ≡ cond b (r ∷ held rank rs) (held rank rs)
+        → map (λ place. get_or (before ++ r ∷ rs) place [])
+        (cond b (length before ∷ []) [] ++ places_from (length before + 1) rank rs)
+        ≡ cond b (r ∷ held rank rs) (held rank rs)
     by true rest = λ j. get_or-middle before r rs j ∷ rest j
     by false rest = rest
 
@@ -61,7 +68,8 @@ places-held rank records = records-from rank [] records
 pub length-places : (rank : ℕ) (records : List (List (ℕ × ℤ))) → length (places_from 0 rank records) ≡ length (held rank records)
 length-places rank records = sym (length-map (places_from 0 rank records) (λ place. get_or records place [])) ∙ ap length (places-held rank records)
 
-pub place-held : (rank : ℕ) (records : List (List (ℕ × ℤ))) (i : ℕ) → i < length (places_from 0 rank records) → get_or records (get_or (places_from 0 rank records) i 0) [] ≡ get_or (held rank records) i []
+pub place-held : (rank : ℕ) (records : List (List (ℕ × ℤ))) (i : ℕ) → i < length (places_from 0 rank records)
+    → get_or records (get_or (places_from 0 rank records) i 0) [] ≡ get_or (held rank records) i []
 place-held rank records i within =
     sym (get_or-map (λ place. get_or records place []) (places_from 0 rank records) i 0 [] within) ∙ ap (λ rs. get_or rs i []) (places-held rank records)
 
@@ -83,7 +91,8 @@ each-at P [] i d all within = absurd (omega arith)
 each-at P (x ∷ xs) zero d all within = all.0
 each-at P (x ∷ xs) (suc i) d all within = each-at P xs i d all.1 (omega arith)
 
-pub place-below : (rank : ℕ) (records : List (List (ℕ × ℤ))) (i d : ℕ) → i < length (places_from 0 rank records) → get_or (places_from 0 rank records) i d < length records
+pub place-below : (rank : ℕ) (records : List (List (ℕ × ℤ))) (i d : ℕ) → i < length (places_from 0 rank records)
+    → get_or (places_from 0 rank records) i d < length records
 place-below rank records i d within = omega (arith, each-at (λ p. p < 0 + length records) (places_from 0 rank records) i d (places-below 0 rank records) within)
 
 -- ---- what records gain together
@@ -119,7 +128,8 @@ twu-absolute (r ∷ rs) = let ih = twu-absolute rs in let one = gain-within r in
 
 -- what the first records of a rank gain stays within the sum of absolute values
 pub pair-fits : (rank later : ℕ) (records : List (List (ℕ × ℤ))) (i : ℕ) (sum : ℤ) → sum_by absolute_of records < 2 ^ 127 → i < length (held rank records)
-    → sum ≡ cond (nat_lt rank later) (pair_twu (take i (held rank records)) rank later) (pos 0) → (sum +ℤ gain (get_or (held rank records) i [])) <ℤ pos (2 ^ 127)
+    → sum ≡ cond (nat_lt rank later) (pair_twu (take i (held rank records)) rank later) (pos 0)
+    → (sum +ℤ gain (get_or (held rank records) i [])) <ℤ pos (2 ^ 127)
 pair-fits rank later records i sum fits within is =
     let some = held rank records in
     let upper = upper_of (nat_lt rank later) in
@@ -134,7 +144,8 @@ pair-fits rank later records i sum fits within is =
 
 -- ---- a record more
 
-twu-push : (a b : ℕ) (records : List (List (ℕ × ℤ))) (r : List (ℕ × ℤ)) → pair_twu (records ++ r ∷ []) a b ≡ pair_twu records a b +ℤ cond (holds (a ∷ b ∷ []) r) (gain r) (pos 0)
+twu-push : (a b : ℕ) (records : List (List (ℕ × ℤ))) (r : List (ℕ × ℤ)) → pair_twu (records ++ r ∷ []) a b
+    ≡ pair_twu records a b +ℤ cond (holds (a ∷ b ∷ []) r) (gain r) (pos 0)
 twu-push a b [] r = omega (arith, ints)
 twu-push a b (s ∷ ss) r = let ih = twu-push a b ss r in omega (arith, ints)
 
@@ -145,7 +156,8 @@ has-held_at rank records i within = at (held rank records) (passed records) i wi
     passed [] = tt
     passed (r ∷ rs) = by (has rank r) refl (passed rs)
       where
-        by : (b : Bool) → has rank r ≡ b → AllByRecursion (λ s. has rank s ≡ true) (held rank rs) → AllByRecursion (λ s. has rank s ≡ true) (cond b (r ∷ held rank rs) (held rank rs))
+        by : (b : Bool) → has rank r ≡ b → AllByRecursion (λ s. has rank s ≡ true) (held rank rs)
+            → AllByRecursion (λ s. has rank s ≡ true) (cond b (r ∷ held rank rs) (held rank rs))
         by true h ih = (h, ih)
         by false h ih = ih
 
@@ -157,7 +169,9 @@ has-held_at rank records i within = at (held rank records) (passed records) i wi
 -- sums with a record more of those that hold a rank
 pub pair-step : (rank : ℕ) (records : List (List (ℕ × ℤ))) (sums next : List ℤ) (i : ℕ) → i < length (held rank records)
     → ((later : ℕ) → sum_at sums later ≡ cond (nat_lt rank later) (pair_twu (take i (held rank records)) rank later) (pos 0))
-    → ((later : ℕ) → sum_at next later ≡ sum_at sums later +ℤ gain_at (filter (λ cell. nat_lt rank cell.0) (get_or (held rank records) i [])) (gain (get_or (held rank records) i [])) later)
+    → ((later : ℕ) → sum_at next later ≡ sum_at sums later
+    +ℤ gain_at (filter (λ cell. nat_lt rank cell.0) (get_or (held rank records) i []))
+    (gain (get_or (held rank records) i [])) later)
     → (later : ℕ) → sum_at next later ≡ cond (nat_lt rank later) (pair_twu (take (i + 1) (held rank records)) rank later) (pos 0)
 pair-step rank records sums next i within so_far is later =
     let some = held rank records in
@@ -165,7 +179,8 @@ pair-step rank records sums next i within so_far is later =
     let here : has rank r ≡ true = has-held_at rank records i within in
     let both : holds (rank ∷ later ∷ []) r ≡ has later r = (λ j. here j && (has later r && true)) ∙ and_true (has later r) in
     let more : pair_twu (take (i + 1) some) rank later ≡ pair_twu (take i some) rank later +ℤ cond (has later r) (gain r) (pos 0) =
-    ap (λ rs. pair_twu rs rank later) (take_more some i [] within) ∙ twu-push rank later (take i some) r ∙ ap (λ b. pair_twu (take i some) rank later +ℤ cond b (gain r) (pos 0)) both in
+    ap (λ rs. pair_twu rs rank later) (take_more some i [] within) ∙ twu-push rank later (take i some) r
+    ∙ ap (λ b. pair_twu (take i some) rank later +ℤ cond b (gain r) (pos 0)) both in
     is later
     ∙ (λ j. so_far later j +ℤ cond (has-after rank later r j) (gain r) (pos 0))
     ∙ by (nat_lt rank later) more
@@ -174,8 +189,11 @@ pair-step rank records sums next i within so_far is later =
     and_true true = refl
     and_true false = refl
 
-    by : (b : Bool) → pair_twu (take (i + 1) (held rank records)) rank later ≡ pair_twu (take i (held rank records)) rank later +ℤ cond (has later (get_or (held rank records) i [])) (gain (get_or (held rank records) i [])) (pos 0)
-        → cond b (pair_twu (take i (held rank records)) rank later) (pos 0) +ℤ cond (b && has later (get_or (held rank records) i [])) (gain (get_or (held rank records) i [])) (pos 0)
+    by : (b : Bool) → pair_twu (take (i + 1) (held rank records)) rank later
+        ≡ pair_twu (take i (held rank records)) rank later +ℤ cond (has later (get_or (held rank records) i []))
+        (gain (get_or (held rank records) i [])) (pos 0)
+        → cond b (pair_twu (take i (held rank records)) rank later) (pos 0)
+        +ℤ cond (b && has later (get_or (held rank records) i [])) (gain (get_or (held rank records) i [])) (pos 0)
         ≡ cond b (pair_twu (take (i + 1) (held rank records)) rank later) (pos 0)
     by true more = sym more
     by false more = omega (arith, ints)
@@ -187,7 +205,8 @@ pub pair-held : (rank later : ℕ) (records : List (List (ℕ × ℤ))) → pair
 pair-held rank later [] = refl
 pair-held rank later (r ∷ rs) = by (has rank r) refl (pair-held rank later rs)
   where
-    by : (b : Bool) → has rank r ≡ b → pair_twu (held rank rs) rank later ≡ pair_twu rs rank later → pair_twu (cond b (r ∷ held rank rs) (held rank rs)) rank later ≡ pair_twu (r ∷ rs) rank later
+    by : (b : Bool) → has rank r ≡ b → pair_twu (held rank rs) rank later ≡ pair_twu rs rank later
+        → pair_twu (cond b (r ∷ held rank rs) (held rank rs)) rank later ≡ pair_twu (r ∷ rs) rank later
     by true h ih = ap (λ rest. cond (holds (rank ∷ later ∷ []) r) (gain r) (pos 0) +ℤ rest) ih
     by false h ih =
         let none : cond (holds (rank ∷ later ∷ []) r) (gain r) (pos 0) ≡ pos 0 = ap {B = ℤ} (λ b. cond (b && (has later r && true)) (gain r) (pos 0)) h in
@@ -195,7 +214,8 @@ pair-held rank later (r ∷ rs) = by (has rank r) refl (pair-held rank later rs)
 
 -- the ranks whose sum reaches the floor are those that may join
 pub reaching-partners : (records : List (List (ℕ × ℤ))) (floor : ℤ) (rank : ℕ) (sums : List ℤ) → pos 1 ≤ℤ floor
-    → ((later : ℕ) → sum_at sums later ≡ cond (nat_lt rank later) (pair_twu records rank later) (pos 0)) → ranks_reaching floor sums ≡ partners records floor (length sums) rank
+    → ((later : ℕ) → sum_at sums later ≡ cond (nat_lt rank later) (pair_twu records rank later) (pos 0))
+    → ranks_reaching floor sums ≡ partners records floor (length sums) rank
 reaching-partners records floor rank sums least is =
     ascending_same (ranks_reaching floor sums) (partners records floor n rank) (filter-range_ascends (λ later. int_le floor (sum_at sums later)) 0 n)
     (filter-range_ascends (λ later. int_le floor (pair_twu records rank later)) (rank + 1) (n - (rank + 1))) to back
@@ -206,7 +226,8 @@ reaching-partners records floor rank sums least is =
     later_of : (later : ℕ) → floor ≤ℤ sum_at sums later → (rank < later) × (sum_at sums later ≡ pair_twu records rank later)
     later_of later high = by (nat_lt rank later) refl (is later)
       where
-        by : (b : Bool) → nat_lt rank later ≡ b → sum_at sums later ≡ cond b (pair_twu records rank later) (pos 0) → (rank < later) × (sum_at sums later ≡ pair_twu records rank later)
+        by : (b : Bool) → nat_lt rank later ≡ b → sum_at sums later ≡ cond b (pair_twu records rank later) (pos 0)
+            → (rank < later) × (sum_at sums later ≡ pair_twu records rank later)
         by true h e = (ltb-true rank later h, e)
         by false h e = absurd (omega (arith, ints))
 
@@ -218,7 +239,8 @@ reaching-partners records floor rank sums least is =
         let at = later_of x high in
         let above : rank < x = at.0 in
         let below : x < 0 + n = range.1 in
-        Member-filter_range (λ later. int_le floor (pair_twu records rank later)) (rank + 1) (n - (rank + 1)) x (omega arith) (omega arith) (ap (int_le floor) (sym at.1) ∙ from.1)
+        Member-filter_range (λ later. int_le floor (pair_twu records rank later)) (rank + 1) (n - (rank + 1)) x
+        (omega arith) (omega arith) (ap (int_le floor) (sym at.1) ∙ from.1)
 
     back : (x : ℕ) → Member x (partners records floor n rank) → Member x (ranks_reaching floor sums)
     back x m =

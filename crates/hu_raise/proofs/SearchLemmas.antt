@@ -11,14 +11,18 @@ use Rattle.std.proofs.lemmas.List.Sorted.{searched, IsNonDecreasingBy-from_all_a
 
 IsNonDecreasing-from_strictly : (xs : List ℕ) → IsStrictlyIncreasing xs → IsNonDecreasing xs
 IsNonDecreasing-from_strictly xs up =
-    IsNonDecreasingBy-from_all_adjacent (λ x. x) xs (λ k d within. omega (arith, up k within, get_or_default xs k 0 d (omega arith), get_or_default xs (k + 1) 0 d within))
+    IsNonDecreasingBy-from_all_adjacent (λ x. x) xs (λ k d within. omega
+    (arith, up k within, get_or_default xs k 0 d (omega arith), get_or_default xs (k + 1) 0 d within))
 
 -- it finds a number just where it is there
-pub found-list_any : (xs : List ℕ) (x : ℕ) (r : Result ℕ ℕ) → IsStrictlyIncreasing xs → IsBinarySearchResult (λ y. nat_cmp y x) xs r → is_ok r ≡ list_any (λ y. y == x) xs
+pub found-list_any : (xs : List ℕ) (x : ℕ) (r : Result ℕ ℕ) → IsStrictlyIncreasing xs
+    → IsBinarySearchResult (λ y. nat_cmp y x) xs r → is_ok r ≡ list_any (λ y. y == x) xs
 found-list_any xs x r up h = by r (searched xs x r h (λ i j before within. IsNonDecreasing-from_strictly xs up i j 0 before within))
   where
     by : (r : Result ℕ ℕ)
-        → MatchResult r (λ i. (i < length xs) × (get_or xs i 0 ≡ x)) (λ i. (i ≤ length xs) × ((k : ℕ) → k < i → get_or xs k 0 < x) × ((k : ℕ) → i ≤ k → k < length xs → x < get_or xs k 0))
+        → MatchResult r (λ i. (i < length xs) × (get_or xs i 0 ≡ x))
+        (λ i. (i ≤ length xs) × ((k : ℕ) → k < i → get_or xs k 0 < x)
+        × ((k : ℕ) → i ≤ k → k < length xs → x < get_or xs k 0))
         → is_ok r ≡ list_any (λ y. y == x) xs
     by (Ok i) f = sym (list_any_at (λ y. y == x) xs i 0 f.0 (eq-eqb (get_or xs i 0) x f.1))
     by (Err i) f = sym (list_any_none (λ y. y == x) xs none)

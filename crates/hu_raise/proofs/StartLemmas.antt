@@ -1,5 +1,6 @@
 -- The k-th greatest utility of a single item.
-use Rattle.std.proofs.Common.{◌≡◌, ℕ, ◌-◌, ◌<◌, ◌≤◌, Bool, true, false, cond, ℤ, pos, ◌≤ℤ◌, int_le, Some, List, [], ◌∷◌, map, length, refl, ap, ◌∙◌, subst, inl, inr, arith, flat_map}
+use Rattle.std.proofs.Common.{◌≡◌, ℕ, ◌-◌, ◌<◌, ◌≤◌, Bool, true, false, cond, ℤ, pos, ◌≤ℤ◌, int_le, Some, List, [], ◌∷◌}
+use Rattle.std.proofs.Common.{map, length, refl, ap, ◌∙◌, subst, inl, inr, arith, flat_map}
 use Rattle.std.specs.Int.Signed.{≤ℤ_refl}
 use Rattle.std.specs.List.{AllByRecursion}
 use Rattle.std.proofs.lemmas.Bool.{cases_lt}
@@ -30,7 +31,9 @@ pub start_of-least : (k : ℕ) (totals : List (ℕ × ItemTotal)) → pos 1 ≤�
 start_of-least k totals = descending-each_at (λ utility. pos 1 ≤ℤ utility) (earned totals) (k - 1) (pos 1) (≤ℤ_refl (pos 1)) (each-earned totals)
 
 -- no more utilities of at least 1 reach a floor than items do
-reach-earned : (records : List (List (ℕ × ℤ))) (floor : ℤ) (items : List ℕ) → reach_count floor (earned (map (λ item. (item, total_of records item)) items)) ≤ length (reaching records floor items)
+reach-earned : (records : List (List (ℕ × ℤ))) (floor : ℤ) (items : List ℕ)
+    → reach_count floor (earned (map (λ item. (item, total_of records item)) items))
+    ≤ length (reaching records floor items)
 reach-earned records floor [] = omega arith
 reach-earned records floor (x ∷ xs) = by (int_le (pos 1) earns) (int_le floor earns) refl (reach-earned records floor xs)
   where
@@ -42,8 +45,10 @@ reach-earned records floor (x ∷ xs) = by (int_le (pos 1) earns) (int_le floor 
 
     by : (b r : Bool) → int_le floor earns ≡ r → reach_count floor rest ≤ length (reaching records floor xs)
         → reach_count floor (cond b (earns ∷ rest) rest) ≤ length (cond r (x ∷ reaching records floor xs) (reaching records floor xs))
-    by true true h ih = let one : ◌≡◌ {A = ℕ} (cond (int_le floor earns) 1 0) 1 = rw h refl in omega (arith, sum_by-cons (λ u. cond (int_le floor u) 1 0) earns rest)
-    by true false h ih = let one : ◌≡◌ {A = ℕ} (cond (int_le floor earns) 1 0) 0 = rw h refl in omega (arith, sum_by-cons (λ u. cond (int_le floor u) 1 0) earns rest)
+    by true true h ih = let one : ◌≡◌ {A = ℕ} (cond (int_le floor earns) 1 0) 1 =
+        rw h refl in omega (arith, sum_by-cons (λ u. cond (int_le floor u) 1 0) earns rest)
+    by true false h ih = let one : ◌≡◌ {A = ℕ} (cond (int_le floor earns) 1 0) 0 =
+        rw h refl in omega (arith, sum_by-cons (λ u. cond (int_le floor u) 1 0) earns rest)
     by false true h ih = omega arith
     by false false h ih = ih
 

@@ -1,5 +1,7 @@
 -- Sums by rank.
-use Rattle.std.proofs.Common.{◌≡◌, ◌≢◌, ℕ, zero, suc, ◌<◌, Bool, true, false, cond, nat_eq, ◌&&◌, ◌||◌, ℤ, pos, negsuc, ◌+ℤ◌, ◌≤ℤ◌, ◌<ℤ◌, int_le, int_lt, List, [], ◌∷◌, ◌++◌, length, get_or, set, replicate, filter, refl, sym, ap, ◌∙◌, subst, inl, inr, arith, append-nil, ◌^◌, FitsSigned}
+use Rattle.std.proofs.Common.{◌≡◌, ◌≢◌, ℕ, zero, suc, ◌<◌, Bool, true, false, cond, nat_eq, ◌&&◌, ◌||◌, ℤ, pos, negsuc}
+use Rattle.std.proofs.Common.{◌+ℤ◌, ◌≤ℤ◌, ◌<ℤ◌, int_le, int_lt, List, [], ◌∷◌, ◌++◌, length, get_or, set, replicate}
+use Rattle.std.proofs.Common.{filter, refl, sym, ap, ◌∙◌, subst, inl, inr, arith, append-nil, ◌^◌, FitsSigned}
 use Rattle.std.specs.Int.{w128}
 use Rattle.std.specs.Int.Signed.{≤ℤ_refl}
 use Rattle.std.specs.List.{All, list_any, range_with_len, IsDistinct}
@@ -45,7 +47,8 @@ replicate-from_zeros : (sums : List ℤ) (n : ℕ) → length sums ≡ n → ((r
 replicate-from_zeros [] zero long zeros = refl
 replicate-from_zeros [] (suc n) long zeros = absurd (omega arith)
 replicate-from_zeros (x ∷ xs) zero long zeros = absurd (omega arith)
-replicate-from_zeros (x ∷ xs) (suc n) long zeros = let first = zeros 0 in let rest = replicate-from_zeros xs n (omega arith) (λ rank. zeros (suc rank)) in (λ j. first j ∷ rest j)
+replicate-from_zeros (x ∷ xs) (suc n) long zeros = let first = zeros 0 in let rest =
+    replicate-from_zeros xs n (omega arith) (λ rank. zeros (suc rank)) in (λ j. first j ∷ rest j)
 
 -- a rank that is listed has a sum
 listed-below : (sums : List ℤ) (touched : List ℕ) (i d : ℕ) → AreSums sums touched → i < length touched → get_or touched i d < length sums
@@ -70,7 +73,9 @@ All-listed_below sums touched are k d within = listed-below sums touched k d are
 -- with the listed ones set to 0 all are
 pub replicate-cleared : (sums cleared : List ℤ) (touched : List ℕ) → AreSums sums touched → length cleared ≡ length sums
     → ((rank : ℕ) → sum_at cleared rank ≡ cond (list_any (nat_eq rank) touched) (pos 0) (sum_at sums rank)) → cleared ≡ replicate (length sums) (pos 0)
-replicate-cleared sums cleared touched are long is = replicate-from_zeros cleared (length sums) long (λ rank. is rank ∙ by rank (list_any (nat_eq rank) touched) (are.listed rank))
+replicate-cleared sums cleared touched are long is =
+    replicate-from_zeros cleared (length sums) long (λ rank. is rank
+    ∙ by rank (list_any (nat_eq rank) touched) (are.listed rank))
   where
     by : (rank : ℕ) (b : Bool) → b ≡ int_lt (pos 0) (sum_at sums rank) → cond b (pos 0) (sum_at sums rank) ≡ pos 0
     by rank true h = refl
@@ -78,7 +83,8 @@ replicate-cleared sums cleared touched are long is = replicate-from_zeros cleare
 
 -- ---- a gain more
 
-module _ (sums : List ℤ) (touched : List ℕ) (rank : ℕ) (gain sum : ℤ) (are : AreSums sums touched) (within : rank < length sums) (least : pos 0 ≤ℤ gain) (is : sum ≡ sum_at sums rank +ℤ gain) where
+module _ (sums : List ℤ) (touched : List ℕ) (rank : ℕ) (gain sum : ℤ) (are : AreSums sums touched)
+    (within : rank < length sums) (least : pos 0 ≤ℤ gain) (is : sum ≡ sum_at sums rank +ℤ gain) where
   here : sum_at (set sums rank sum) rank ≡ sum
   here = get_or-set_same sums rank sum (pos 0) within
 
@@ -103,10 +109,15 @@ module _ (sums : List ℤ) (touched : List ℕ) (rank : ℕ) (gain sum : ℤ) (a
       listed other = elim (cases_eq other rank) [
         | inl e ↦
             let high : int_lt (pos 0) sum ≡ true = grind (arith, ints) in
-            let found : list_any (nat_eq rank) (touched ++ rank ∷ []) ≡ true = list_any-append (nat_eq rank) touched (rank ∷ []) ∙ at_end (list_any (nat_eq rank) touched) (eq-eqb rank rank refl) in
-            subst (λ r. list_any (nat_eq r) (touched ++ rank ∷ []) ≡ int_lt (pos 0) (sum_at (set sums rank sum) r)) (sym e) (found ∙ sym (ap (λ s. int_lt (pos 0) s) here ∙ high))
+            let found : list_any (nat_eq rank) (touched ++ rank ∷ []) ≡ true =
+            list_any-append (nat_eq rank) touched (rank ∷ [])
+            ∙ at_end (list_any (nat_eq rank) touched) (eq-eqb rank rank refl) in
+            subst (λ r. list_any (nat_eq r) (touched ++ rank ∷ []) ≡ int_lt (pos 0) (sum_at (set sums rank sum) r))
+            (sym e) (found ∙ sym (ap (λ s. int_lt (pos 0) s) here ∙ high))
         | inr apart ↦
-            list_any-append (nat_eq other) touched (rank ∷ []) ∙ not_at_end (list_any (nat_eq other) touched) (ne_eqb other rank apart) ∙ are.listed other ∙ ap (λ s. int_lt (pos 0) s) (sym (there other apart))
+            list_any-append (nat_eq other) touched (rank ∷ [])
+            ∙ not_at_end (list_any (nat_eq other) touched) (ne_eqb other rank apart) ∙ are.listed other
+            ∙ ap (λ s. int_lt (pos 0) s) (sym (there other apart))
       ]
         where
           at_end : (b : Bool) → nat_eq rank rank ≡ true → (b || (nat_eq rank rank || false)) ≡ true
@@ -126,7 +137,8 @@ module _ (sums : List ℤ) (touched : List ℕ) (rank : ℕ) (gain sum : ℤ) (a
         | inl e ↦
             let old = are.least rank in
             let alike : int_lt (pos 0) (sum_at sums rank) ≡ int_lt (pos 0) sum = positive (sum_at sums rank) gain sum old least is again in
-            subst (λ r. list_any (nat_eq r) touched ≡ int_lt (pos 0) (sum_at (set sums rank sum) r)) (sym e) (are.listed rank ∙ alike ∙ ap (λ s. int_lt (pos 0) s) (sym here))
+            subst (λ r. list_any (nat_eq r) touched ≡ int_lt (pos 0) (sum_at (set sums rank sum) r)) (sym e)
+            (are.listed rank ∙ alike ∙ ap (λ s. int_lt (pos 0) s) (sym here))
         | inr apart ↦ are.listed other ∙ ap (λ s. int_lt (pos 0) s) (sym (there other apart))
       ]
         where
@@ -136,11 +148,13 @@ module _ (sums : List ℤ) (touched : List ℕ) (rank : ℕ) (gain sum : ℤ) (a
           positive (negsuc n) g t h k e again = absurd (omega (arith, ints))
 
 -- and so the list that the first rank is put to
-pub AreSums-set : (sums : List ℤ) (touched touched' : List ℕ) (rank : ℕ) (gain sum : ℤ) → AreSums sums touched → rank < length sums → pos 0 ≤ℤ gain → sum ≡ sum_at sums rank +ℤ gain
+pub AreSums-set : (sums : List ℤ) (touched touched' : List ℕ) (rank : ℕ) (gain sum : ℤ) → AreSums sums touched
+    → rank < length sums → pos 0 ≤ℤ gain → sum ≡ sum_at sums rank +ℤ gain
     → touched' ≡ touched ++ first_rank rank (sum_at sums rank) gain → AreSums (set sums rank sum) touched'
 AreSums-set sums touched touched' rank gain sum are within least is next = by (int_eq (sum_at sums rank) (pos 0)) (int_lt (pos 0) gain) refl refl next
   where
-    by : (b d : Bool) → int_eq (sum_at sums rank) (pos 0) ≡ b → int_lt (pos 0) gain ≡ d → touched' ≡ touched ++ (cond (b && d) (rank ∷ []) []) → AreSums (set sums rank sum) touched'
+    by : (b d : Bool) → int_eq (sum_at sums rank) (pos 0) ≡ b → int_lt (pos 0) gain ≡ d → touched'
+        ≡ touched ++ (cond (b && d) (rank ∷ []) []) → AreSums (set sums rank sum) touched'
     by true true h k n =
         let none : sum_at sums rank ≡ pos 0 = (Decides-int_eq (sum_at sums rank) (pos 0)).0 h in
         let some : pos 0 <ℤ gain = grind (arith, ints) in
@@ -182,15 +196,22 @@ module _ (floor : ℤ) (sums : List ℤ) (touched : List ℕ) (are : AreSums sum
       Member-from_contains rank touched (Contains-from_any (λ x y e. eqb-true x y e) rank touched (are.listed rank ∙ some))
 
   -- the listed ranks that reach it, once sorted
-  pub reaching-sorted : (found sorted : List ℕ) → found ≡ filter reaches touched → IsPermutation found sorted → IsSorted nat_cmp sorted → sorted ≡ ranks_reaching floor sums
+  pub reaching-sorted : (found sorted : List ℕ) → found ≡ filter reaches touched → IsPermutation found sorted
+      → IsSorted nat_cmp sorted → sorted ≡ ranks_reaching floor sums
   reaching-sorted found sorted is same up =
-      let once = subst (IsDistinct nat_eq) (sym is) (IsDistinct-from_once (filter reaches touched) (Once-filter reaches touched (Once-from_distinct touched are.once))) in
-      let rise = IsStrictlyIncreasing-from_distinct sorted (IsNonDecreasingBy-from_sort (λ x. x) sorted up) (IsDistinct-IsPermutation nat_eq flips found sorted same once) in
+      let once =
+      subst (IsDistinct nat_eq) (sym is) (IsDistinct-from_once (filter reaches touched)
+      (Once-filter reaches touched (Once-from_distinct touched are.once))) in
+      let rise =
+      IsStrictlyIncreasing-from_distinct sorted (IsNonDecreasingBy-from_sort (λ x. x) sorted up)
+      (IsDistinct-IsPermutation nat_eq flips found sorted same once) in
       ascending_same sorted (ranks_reaching floor sums) rise (filter-range_ascends reaches 0 (length sums)) to back
     where
       to : (x : ℕ) → Member x sorted → Member x (ranks_reaching floor sums)
       to x m =
-          let before = Member-from_contains x found (Contains-permutation sorted found x (IsPermutation-sym found sorted same) (Contains-from_member x sorted m)) in
+          let before =
+          Member-from_contains x found (Contains-permutation sorted found x (IsPermutation-sym found sorted same)
+          (Contains-from_member x sorted m)) in
           let passed = (Member-from_filter reaches x touched (subst (Member x) is before)).1 in
           Member-filter_range reaches 0 (length sums) x (omega arith) (omega (arith, reaching-within x passed)) passed
 

@@ -1,5 +1,7 @@
 -- The table of the pairs that may join.
-use Rattle.std.proofs.Common.{◌≡◌, ℕ, suc, ◌+◌, ◌-◌, ◌<◌, ◌≤◌, Bool, true, false, cond, eqb, ◌==◌, ◌&&◌, ◌||◌, ℤ, pos, ◌≤ℤ◌, ◌<ℤ◌, int_le, List, [], ◌∷◌, length, get_or, refl, sym, ap, ◌∙◌, subst, inl, inr, arith}
+use Rattle.std.proofs.Common.{◌≡◌, ℕ, suc, ◌+◌, ◌-◌, ◌<◌, ◌≤◌, Bool, true, false, cond, eqb, ◌==◌, ◌&&◌, ◌||◌, ℤ, pos}
+use Rattle.std.proofs.Common.{◌≤ℤ◌, ◌<ℤ◌, int_le, List, [], ◌∷◌, length, get_or, refl, sym, ap, ◌∙◌, subst, inl, inr}
+use Rattle.std.proofs.Common.{arith}
 use Rattle.std.specs.List.{All, AllByRecursion, AllAdjacentBelow, list_any, range_with_len}
 use Rattle.std.specs.List.Sorted.{IsStrictlyIncreasing}
 use Rattle.std.proofs.lemmas.Bool.{cases_lt, eq-eqb, eqb-true, ne_eqb, or_cases}
@@ -18,11 +20,14 @@ use Rattle.hu_raise.proofs.NumberLists.{filter-range_ascends, Member-filter_rang
 
 -- ---- ranked records are over ranks
 
-Ascend-from : (first : ℕ × ℤ) (cells : List (ℕ × ℤ)) → AllAdjacentBelow (λ a b. a.0 < b.0) (first ∷ cells) (length (first ∷ cells)) → Ascend (items_in (first ∷ cells))
+Ascend-from : (first : ℕ × ℤ) (cells : List (ℕ × ℤ)) → AllAdjacentBelow (λ a b. a.0 < b.0) (first ∷ cells)
+    (length (first ∷ cells)) → Ascend (items_in (first ∷ cells))
 Ascend-from first [] up = (tt, tt)
 Ascend-from first (next ∷ cells) up =
     let up' : AllAdjacentBelow (λ (a b : ℕ × ℤ). a.0 < b.0) (next ∷ cells) (length (next ∷ cells)) =
-    λ k d within. let e : suc k + 1 ≡ suc (k + 1) = omega arith in subst (λ j. (get_or (next ∷ cells) k d).0 < (get_or (first ∷ next ∷ cells) j d).0) e (up (suc k) d (omega arith)) in
+    λ k d within. let e : suc k + 1 ≡ suc (k + 1) =
+    omega arith in subst (λ j. (get_or (next ∷ cells) k d).0 < (get_or (first ∷ next ∷ cells) j d).0) e
+    (up (suc k) d (omega arith)) in
     let rest = Ascend-from next cells up' in
     let before : first.0 < next.0 = up 0 first (omega arith) in
     ((before, above_all first.0 next.0 (items_in cells) before rest.0), rest)
@@ -35,7 +40,9 @@ each-rank : (n : ℕ) (cells : List (ℕ × ℤ)) → All (λ cell. cell.0 < n) 
 each-rank n [] all = tt
 each-rank n (cell ∷ cells) all = (all 0 cell (omega arith), each-rank n cells (λ k d within. all (suc k) d (omega arith)))
 
-each-record : (n : ℕ) (records : List (List (ℕ × ℤ))) → All (λ cells. AllAdjacentBelow (λ a b. a.0 < b.0) cells (length cells)) records → All (λ cells. All (λ cell. cell.0 < n) cells) records
+each-record : (n : ℕ) (records : List (List (ℕ × ℤ))) → All
+    (λ cells. AllAdjacentBelow (λ a b. a.0 < b.0) cells (length cells)) records
+    → All (λ cells. All (λ cell. cell.0 < n) cells) records
     → AllByRecursion (IsOverRanks n) records
 each-record n [] up all = tt
 each-record n (r ∷ rs) up all =

@@ -14,11 +14,13 @@ each_at P (x ∷ xs) zero d all within = all.0
 each_at P (x ∷ xs) (suc i) d all within = each_at P xs i d all.1 (omega arith)
 
 -- the record at a place, as pairs
-pub pairs-at : (records : List (Vec Dense Global)) (i : ℕ) (record' : Vec Dense Global) → i < length records → record' ≡ get_or records i record' → pairs_in record' ≡ get_or (map pairs_in records) i []
+pub pairs-at : (records : List (Vec Dense Global)) (i : ℕ) (record' : Vec Dense Global) → i < length records → record'
+    ≡ get_or records i record' → pairs_in record' ≡ get_or (map pairs_in records) i []
 pairs-at records i record' within is = ap pairs_in is ∙ sym (get_or-map pairs_in records i record' [] within)
 
 -- the list at a place
-pub list-at : (lists : List (Vec ℕ Global)) (i : ℕ) (list : Vec ℕ Global) → i < length lists → list ≡ get_or lists i list → list.items ≡ get_or (lists_in lists) i []
+pub list-at : (lists : List (Vec ℕ Global)) (i : ℕ) (list : Vec ℕ Global) → i < length lists → list
+    ≡ get_or lists i list → list.items ≡ get_or (lists_in lists) i []
 list-at lists i list within is = ap (λ v. v.items) is ∙ sym (get_or-map (λ v. v.items) lists i list [] within)
 
 -- the cell at a place, as a pair
@@ -32,8 +34,10 @@ lists-set lists i place d new within grown =
     map-set (λ v. v.items) lists i new ∙ ap (set (lists_in lists) i) (grown ∙ ap (λ xs. xs ++ place ∷ []) (sym (get_or-map (λ v. v.items) lists i d [] within)))
 
 -- the gains of a record more
-pub gains-step : (records : List (Vec Dense Global)) (i : ℕ) (record' : Vec Dense Global) (before after : List ℤ) → i < length records → record' ≡ get_or records i record'
-    → before ≡ map gain (map pairs_in (take i records)) → after ≡ before ++ gain (pairs_in record') ∷ [] → after ≡ map gain (map pairs_in (take (i + 1) records))
+pub gains-step : (records : List (Vec Dense Global)) (i : ℕ) (record' : Vec Dense Global) (before after : List ℤ)
+    → i < length records → record' ≡ get_or records i record'
+    → before ≡ map gain (map pairs_in (take i records)) → after ≡ before ++ gain (pairs_in record') ∷ [] → after
+    ≡ map gain (map pairs_in (take (i + 1) records))
 gains-step records i record' before after within is so_far next =
     next
     ∙ ap (λ gains. gains ++ gain (pairs_in record') ∷ []) so_far

@@ -1,6 +1,23 @@
 -- Which pairs of ranks may join by a floor: those whose records gain at least the floor. No set that holds another pair
 -- earns the floor. After FHM (Fournier-Viger, Wu, Zida and Tseng, 2014).
-use Rattle.std.specs.Prelude.{◌≡◌, ◌↔◌, ℕ, ◌+◌, ◌-◌, ◌<◌, ◌==◌, Bool, false, ℤ, ◌<ℤ◌, int_le, List, [], map, slice_index_or}
+use Rattle.std.specs.Prelude.{
+  ◌≡◌,
+  ◌↔◌,
+  ℕ,
+  ◌+◌,
+  ◌-◌,
+  ◌<◌,
+  ◌==◌,
+  Bool,
+  false,
+  ℤ,
+  ◌<ℤ◌,
+  int_le,
+  List,
+  [],
+  map,
+  slice_index_or,
+}
 use Rattle.std.specs.List.{filter, list_any, range_with_len}
 use Rattle.hu_collect.specs.Pairs.{pair_twu}
 
@@ -16,7 +33,8 @@ pub record PairTable : Type 0 where
 
 -- the pairs of ranks below a number that may join by a floor
 abbrev pub pair_table : List (List (ℕ × ℤ)) → ℤ → ℕ → PairTable
-pair_table records floor n = record { floor = floor; partners = map (partners records floor n) (range_with_len 0 n) }
+pair_table records floor n =
+    record { floor = floor; partners = map (partners records floor n) (range_with_len 0 n) }
 
 -- whether a later rank is among those that a rank may join
 abbrev pub joins : PairTable → ℕ → ℕ → Bool
@@ -28,4 +46,5 @@ RefusesLow table records = (a b : ℕ) → a < b → joins table a b ≡ false �
 
 -- the refused pairs are just those whose records gain less than the floor
 abbrev pub RefusesJustLow : List (List (ℕ × ℤ)) → PairTable → Type 0
-RefusesJustLow records table = (a b : ℕ) → a < b → (joins table a b ≡ false) ↔ (pair_twu records a b <ℤ table.floor)
+RefusesJustLow records table = (a b : ℕ) → a < b
+    → (joins table a b ≡ false) ↔ (pair_twu records a b <ℤ table.floor)

@@ -1,5 +1,20 @@
 -- The floor with which a search for the first k patterns may start: the k-th greatest utility of a single item.
-use Rattle.std.specs.Prelude.{◌≡◌, ℕ, ◌-◌, ℤ, pos, ◌≤ℤ◌, int_le, Some, List, [], ◌∷◌, map, slice_index_or, if◌then◌else◌}
+use Rattle.std.specs.Prelude.{
+  ◌≡◌,
+  ℕ,
+  ◌-◌,
+  ℤ,
+  pos,
+  ◌≤ℤ◌,
+  int_le,
+  Some,
+  List,
+  [],
+  ◌∷◌,
+  map,
+  slice_index_or,
+  if◌then◌else◌,
+}
 use Rattle.std.specs.List.{filter}
 use Rattle.hu_kind.specs.Answer.{item_answer}
 use Rattle.hu_totals.specs.declared.totals.ItemTotal.{ItemTotal}

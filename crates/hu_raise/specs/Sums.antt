@@ -1,5 +1,21 @@
 -- Sums by rank.
-use Rattle.std.specs.Prelude.{◌≡◌, ℕ, nat_eq, ◌&&◌, ℤ, pos, ◌≤ℤ◌, int_le, int_lt, List, [], ◌∷◌, length, slice_index_or, if◌then◌else◌}
+use Rattle.std.specs.Prelude.{
+  ◌≡◌,
+  ℕ,
+  nat_eq,
+  ◌&&◌,
+  ℤ,
+  pos,
+  ◌≤ℤ◌,
+  int_le,
+  int_lt,
+  List,
+  [],
+  ◌∷◌,
+  length,
+  slice_index_or,
+  if◌then◌else◌,
+}
 use Rattle.std.specs.List.{filter, list_any, range_with_len, IsDistinct}
 use Rattle.std.specs.Ordering.{int_eq}
 use Rattle.hu_kind.specs.Record.{has}

@@ -49,7 +49,8 @@ pub(crate) fn holders_of(
     ranks: u32,
 ) -> Result<Vec<Vec<usize>>, NoMemory>
     requires { AllByRecursion (IsOverRanks ranks) (map pairs_in records.now) }
-    ensures { IfOk result (λ holders. lists_in holders.items ≡ places_of_each ranks (map pairs_in records.now)) }
+    ensures { IfOk result (λ holders. lists_in holders.items
+        ≡ places_of_each ranks (map pairs_in records.now)) }
 {
     let mut holders = empty_lists(alloc, ranks)?;
     for (place, record) in records.iter().enumerate() {

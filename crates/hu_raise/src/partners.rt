@@ -25,7 +25,8 @@ pub(crate) fn partners_of_each(
 ) -> Result<Vec<Vec<u32>>, NoMemory>
     requires rules { AreOverRanks ranks (map pairs_in records.now) }
     requires floor { pos 1 ≤ℤ floor }
-    ensures { IfOk result (λ table. lists_in table.items ≡ (pair_table (map pairs_in records.now) floor ranks).partners) }
+    ensures { IfOk result (λ table. lists_in table.items
+        ≡ (pair_table (map pairs_in records.now) floor ranks).partners) }
 {
     let gains = gains_of(alloc, records)?;
     let holders = holders_of(alloc, records, ranks)?;

@@ -84,7 +84,8 @@ fn list_first(touched: &mut Vec<u32>, rank: u32, sum: i128, gain: i128) -> Resul
 /// Sets the sums of these ranks to 0.
 fn set_to_0(sums: &mut [i128], ranks: &[u32])
     requires { All (λ rank. rank < length sums.old) ranks.now }
-    ensures { (rank : ℕ) → sum_at sums.new rank ≡ (if list_any (nat_eq rank) ranks.now then pos 0 else sum_at sums.old rank) }
+    ensures { (rank : ℕ) → sum_at sums.new rank
+        ≡ (if list_any (nat_eq rank) ranks.now then pos 0 else sum_at sums.old rank) }
 {
     for rank in ranks {
         sums[*rank as usize] = 0;
@@ -99,7 +100,8 @@ fn reaching_among(
     floor: i128,
 ) -> Result<Vec<u32>, NoMemory>
     requires { All (λ rank. rank < length sums.now) ranks.now }
-    ensures { IfOk result (λ reaching. reaching.items ≡ filter (λ rank. int_le floor (sum_at sums.now rank)) ranks.now) }
+    ensures { IfOk result (λ reaching. reaching.items ≡ filter
+        (λ rank. int_le floor (sum_at sums.now rank)) ranks.now) }
 {
     let mut reaching = Vec::new(alloc);
     for rank in ranks {

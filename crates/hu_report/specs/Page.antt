@@ -9,6 +9,7 @@ pub record Forwards (old new : SinkState) (waited waits text : List ℕ) : Type 
   pub whole : front ++ waits ≡ waited ++ text
 
 -- Ok forwards the text, and after Failed a proper front of what waited and then the text went out
-abbrev pub Passes : {E : Type 0} → SinkState → SinkState → Result (Unit {0}) E → List ℕ → List ℕ → List ℕ → Type 0
+abbrev pub Passes : {E : Type 0} → SinkState → SinkState → Result (Unit {0}) E → List ℕ → List ℕ
+    → List ℕ → Type 0
 Passes old new result waited waits text =
     MatchResult result (λ _. Forwards old new waited waits text) (λ _. Broke old new (waited ++ text))

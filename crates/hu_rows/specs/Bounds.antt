@@ -1,6 +1,21 @@
 -- Two bounds on what a set of kept ranks earns over rows. After EFIM (Zida and others, 2015), with the positive part
 -- taken for each row, so that values below 0 are allowed.
-use Rattle.std.specs.Prelude.{ℕ, ◌<◌, ◌==◌, Bool, IsTrue, ℤ, pos, ◌+ℤ◌, ◌≤ℤ◌, List, [], ◌∷◌, slice_index_or, if◌then◌else◌}
+use Rattle.std.specs.Prelude.{
+  ℕ,
+  ◌<◌,
+  ◌==◌,
+  Bool,
+  IsTrue,
+  ℤ,
+  pos,
+  ◌+ℤ◌,
+  ◌≤ℤ◌,
+  List,
+  [],
+  ◌∷◌,
+  slice_index_or,
+  if◌then◌else◌,
+}
 use Rattle.std.specs.List.{AllByRecursion, list_any}
 use Rattle.hu_kind.specs.Order.{Ascend}
 use Rattle.hu_kind.specs.Record.{has, value_of, positive_part}
@@ -14,7 +29,8 @@ among rank ranks = list_any (λ other. rank == other) ranks
 -- the sum of the kept values above 0
 abbrev pub kept_gain : List ℕ → List (ℕ × ℤ) → ℤ
 kept_gain keep [] = pos 0
-kept_gain keep (cell ∷ cells) = (if among cell.0 keep then positive_part cell.1 else pos 0) +ℤ kept_gain keep cells
+kept_gain keep (cell ∷ cells) =
+    (if among cell.0 keep then positive_part cell.1 else pos 0) +ℤ kept_gain keep cells
 
 -- the most that a row gives a set of kept ranks
 abbrev pub local_share : List ℕ → RowOf → ℤ
@@ -22,17 +38,20 @@ local_share keep row = positive_part (row.before +ℤ kept_gain keep row.cells)
 
 -- the most that a row gives a set of kept ranks of which the least is z
 abbrev pub subtree_share : List ℕ → ℕ → RowOf → ℤ
-subtree_share keep z row = positive_part (row.before +ℤ value_of z row.cells +ℤ kept_gain keep (after z row.cells))
+subtree_share keep z row =
+    positive_part (row.before +ℤ value_of z row.cells +ℤ kept_gain keep (after z row.cells))
 
 -- the local bound of a rank: the sum of these over the rows that hold it
 abbrev pub local_bound : List RowOf → List ℕ → ℕ → ℤ
 local_bound [] keep z = pos 0
-local_bound (row ∷ rows) keep z = (if has z row.cells then local_share keep row else pos 0) +ℤ local_bound rows keep z
+local_bound (row ∷ rows) keep z =
+    (if has z row.cells then local_share keep row else pos 0) +ℤ local_bound rows keep z
 
 -- the subtree bound of a rank
 abbrev pub subtree_bound : List RowOf → List ℕ → ℕ → ℤ
 subtree_bound [] keep z = pos 0
-subtree_bound (row ∷ rows) keep z = (if has z row.cells then subtree_share keep z row else pos 0) +ℤ subtree_bound rows keep z
+subtree_bound (row ∷ rows) keep z =
+    (if has z row.cells then subtree_share keep z row else pos 0) +ℤ subtree_bound rows keep z
 
 -- what bins hold: for how many ranks, and what each rank was set to last
 pub record BinsOf : Type 0 where
@@ -60,8 +79,10 @@ pub record IsKeptSet (keep set : List ℕ) : Type 0 where
 
 -- no set of kept ranks earns more over rows than a setting gives any of its ranks
 abbrev pub BoundsEach : List RowOf → List ℕ → (ℕ → ℤ) → Type 0
-BoundsEach rows keep setting = (set : List ℕ) → IsKeptSet keep set → (z : ℕ) → IsTrue (among z set) → over rows set ≤ℤ setting z
+BoundsEach rows keep setting = (set : List ℕ) → IsKeptSet keep set → (z : ℕ) → IsTrue (among z set)
+    → over rows set ≤ℤ setting z
 
 -- no set of kept ranks earns more over rows than a setting gives its least rank
 abbrev pub BoundsLeast : List RowOf → List ℕ → (ℕ → ℤ) → Type 0
-BoundsLeast rows keep setting = (z : ℕ) (set : List ℕ) → IsKeptSet keep (z ∷ set) → over rows (z ∷ set) ≤ℤ setting z
+BoundsLeast rows keep setting = (z : ℕ) (set : List ℕ) → IsKeptSet keep (z ∷ set)
+    → over rows (z ∷ set) ≤ℤ setting z

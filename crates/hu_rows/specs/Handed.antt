@@ -1,6 +1,25 @@
 -- Rows with the cells of some ranks alone, and the rows that are handed to what grows a rank.
 -- After EFIM (Zida and others, 2015).
-use Rattle.std.specs.Prelude.{◌≡◌, ℕ, nat_lt, ◌+◌, ◌<◌, Bool, ℤ, pos, int_le, ◌+ℤ◌, List, [], ◌∷◌, map, drop, length, slice_index_or, if◌then◌else◌}
+use Rattle.std.specs.Prelude.{
+  ◌≡◌,
+  ℕ,
+  nat_lt,
+  ◌+◌,
+  ◌<◌,
+  Bool,
+  ℤ,
+  pos,
+  int_le,
+  ◌+ℤ◌,
+  List,
+  [],
+  ◌∷◌,
+  map,
+  drop,
+  length,
+  slice_index_or,
+  if◌then◌else◌,
+}
 use Rattle.std.specs.List.{AllByRecursion, filter, flat_map}
 use Rattle.hu_kind.specs.Record.{has, value_of}
 use Rattle.hu_rows.specs.declared.places.Place.{Place}
@@ -19,7 +38,9 @@ only p cells = filter (λ cell. p cell.0) cells
 
 -- a row of these cells, where there are two or more
 abbrev pub row_if_two : ℤ → ℕ → List (ℕ × ℤ) → List RowOf
-row_if_two before count cells = if nat_lt 1 (length cells) then record { before = before; count = count; cells = cells } ∷ [] else []
+row_if_two before count cells =
+    if nat_lt 1 (length cells) then record { before = before; count = count; cells = cells } ∷ []
+    else []
 
 -- a row with the cells of some ranks, where these are two or more
 abbrev pub narrowed_row : (ℕ → Bool) → RowOf → List RowOf
@@ -36,7 +57,9 @@ row_if_some before count (cell ∷ cells) = record { before = before; count = co
 
 -- a row that holds a rank and a later one, projected by the first
 abbrev pub handed_row : ℕ → RowOf → List RowOf
-handed_row z row = if has z row.cells then row_if_some (row.before +ℤ value_of z row.cells) row.count (after z row.cells) else []
+handed_row z row =
+    if has z row.cells then row_if_some (row.before +ℤ value_of z row.cells) row.count
+    (after z row.cells) else []
 
 -- rows projected by a rank, without those that no cell is left of
 abbrev pub handed : ℕ → List RowOf → List RowOf
@@ -51,7 +74,12 @@ no_cell = (0, pos 0)
 
 -- a row projected by the rank at a place
 abbrev pub row_after : RowOf → ℕ → RowOf
-row_after row cell = record { before = row.before +ℤ (slice_index_or row.cells cell no_cell).1; count = row.count; cells = drop (cell + 1) row.cells }
+row_after row cell =
+    record {
+      before = row.before +ℤ (slice_index_or row.cells cell no_cell).1;
+      count = row.count;
+      cells = drop (cell + 1) row.cells;
+    }
 
 -- the row that a place gives
 abbrev pub row_at : List RowOf → Place → RowOf

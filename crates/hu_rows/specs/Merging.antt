@@ -20,12 +20,20 @@ added_cells (cell ∷ cells) (other ∷ others) = (cell.0, cell.1 +ℤ other.1) 
 
 -- a row with another of the same ranks added
 abbrev pub added : RowOf → RowOf → RowOf
-added row other = record { before = row.before +ℤ other.before; count = row.count + other.count; cells = added_cells row.cells other.cells }
+added row other =
+    record {
+      before = row.before +ℤ other.before;
+      count = row.count + other.count;
+      cells =
+          added_cells row.cells other.cells;
+    }
 
 -- a row and those after it, where rows of the same ranks that stand side by side become one
 abbrev pub merged_from : RowOf → List RowOf → List RowOf
 merged_from row [] = row ∷ []
-merged_from row (next ∷ rows) = if is_eq (row_cmp row next) then merged_from (added row next) rows else row ∷ merged_from next rows
+merged_from row (next ∷ rows) =
+    if is_eq (row_cmp row next) then merged_from
+    (added row next) rows else row ∷ merged_from next rows
 
 -- rows where those of the same ranks that stand side by side become one
 abbrev pub merged : List RowOf → List RowOf

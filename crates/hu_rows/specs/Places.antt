@@ -12,7 +12,9 @@ lists_in lists = map (λ list. list.items) lists
 abbrev pub places_from : (ℕ → Bool) → ℕ → ℕ → List (ℕ × ℤ) → ℕ → List Place
 places_from p row i [] z = []
 places_from p row i (cell ∷ []) z = []
-places_from p row i (cell ∷ next ∷ cells) z = (if p cell.0 && (z == cell.0) then (record { row = row; cell = i }) ∷ [] else []) ++ places_from p row (i + 1) (next ∷ cells) z
+places_from p row i (cell ∷ next ∷ cells) z =
+    (if p cell.0 && (z == cell.0) then (record { row = row; cell = i }) ∷ [] else [])
+    ++ places_from p row (i + 1) (next ∷ cells) z
 
 -- the places of a rank in a row
 abbrev pub places_in : (ℕ → Bool) → ℕ → List (ℕ × ℤ) → ℕ → List Place

@@ -13,7 +13,12 @@ after z cells = filter (λ cell. nat_lt z cell.0) cells
 abbrev pub projected_row : ℕ → RowOf → List RowOf
 projected_row z row =
     if has z row.cells
-    then record { before = row.before +ℤ value_of z row.cells; count = row.count; cells = after z row.cells } ∷ []
+    then record {
+      before = row.before +ℤ value_of z row.cells;
+      count = row.count;
+      cells =
+          after z row.cells;
+    } ∷ []
     else []
 
 -- rows projected by a rank

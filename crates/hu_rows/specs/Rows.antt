@@ -1,6 +1,21 @@
 -- Rows over ranks: what a set of ranks earns over rows, and how many records these stand for. A row is a record, or
 -- several with the same ranks, from which a prefix of the search was taken away. After EFIM (Zida and others, 2015).
-use Rattle.std.specs.Prelude.{ℕ, ◌+◌, ◌^◌, ◌<◌, ◌≢◌, ℤ, pos, ◌+ℤ◌, unsigned_abs, List, [], ◌∷◌, ⊤, if◌then◌else◌}
+use Rattle.std.specs.Prelude.{
+  ℕ,
+  ◌+◌,
+  ◌^◌,
+  ◌<◌,
+  ◌≢◌,
+  ℤ,
+  pos,
+  ◌+ℤ◌,
+  unsigned_abs,
+  List,
+  [],
+  ◌∷◌,
+  ⊤,
+  if◌then◌else◌,
+}
 use Rattle.std.specs.List.{AllByRecursion, flat_map, sum_by}
 use Rattle.hu_kind.specs.Order.{Ascend}
 use Rattle.hu_kind.specs.Record.{items_in, holds, values_of, absolute_of}

@@ -1,5 +1,18 @@
 -- A setting of bins: the kept ranks, and a value for each rank.
-use Rattle.std.specs.Prelude.{◌≡◌, ℕ, ◌<◌, Bool, false, ◌&&◌, ℤ, pos, List, length, slice_index_or, if◌then◌else◌}
+use Rattle.std.specs.Prelude.{
+  ◌≡◌,
+  ℕ,
+  ◌<◌,
+  Bool,
+  false,
+  ◌&&◌,
+  ℤ,
+  pos,
+  List,
+  length,
+  slice_index_or,
+  if◌then◌else◌,
+}
 use Rattle.std.specs.List.{AllByRecursion}
 use Rattle.hu_kind.specs.Record.{has, positive_part}
 use Rattle.hu_rows.specs.Rows.{RowOf}
@@ -31,4 +44,5 @@ local_part kept row rank = if among rank kept && has rank row.cells then local_s
 
 -- what a row adds to the subtree bound of a rank
 abbrev pub subtree_part : List ℕ → RowOf → ℕ → ℤ
-subtree_part kept row rank = if among rank kept && has rank row.cells then subtree_share kept rank row else pos 0
+subtree_part kept row rank =
+    if among rank kept && has rank row.cells then subtree_share kept rank row else pos 0

@@ -1,6 +1,24 @@
 -- What rows say of each rank that they hold: what it earns over them, how many records hold it, and a bound.
 -- After EFIM (Zida and others, 2015), with the positive part taken for each row.
-use Rattle.std.specs.Prelude.{◌≡◌, ℕ, ◌+◌, ◌^◌, ◌<◌, ◌⊎◌, Bool, ℤ, pos, ◌+ℤ◌, unsigned_abs, List, [], ◌∷◌, length, slice_index_or, if◌then◌else◌}
+use Rattle.std.specs.Prelude.{
+  ◌≡◌,
+  ℕ,
+  ◌+◌,
+  ◌^◌,
+  ◌<◌,
+  ◌⊎◌,
+  Bool,
+  ℤ,
+  pos,
+  ◌+ℤ◌,
+  unsigned_abs,
+  List,
+  [],
+  ◌∷◌,
+  length,
+  slice_index_or,
+  if◌then◌else◌,
+}
 use Rattle.std.specs.List.{AllByRecursion, Contains}
 use Rattle.hu_kind.specs.Record.{has, value_of, gain, positive_part}
 use Rattle.hu_rows.specs.declared.tally.Tally.{Tally}

@@ -39,6 +39,7 @@ sum_of sum = row_with sum.before sum.count sum.cells.items
 
 -- the rules of rows, read off the rows
 pub record KeepRules (rows : List Row) : Type 0 where
-  pub ascending : All (λ row. AllAdjacentBelow (λ a b. a.rank < b.rank) row.cells.now (length row.cells.now)) rows
+  pub ascending : All (λ row. AllAdjacentBelow (λ a b. a.rank < b.rank) row.cells.now
+      (length row.cells.now)) rows
   pub sizes : sum_by size_of (rows_of rows) < 2 ^ 127
   pub counts : sum_by count_of (rows_of rows) < 2 ^ 64

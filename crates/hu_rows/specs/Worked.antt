@@ -1,5 +1,21 @@
 -- Worked rows: projections, merged rows and bounds, by computation.
-use Rattle.std.specs.Prelude.{◌≡◌, ℕ, ℤ, nat_eq, pos, negsuc, unsigned_abs, List, [], ◌∷◌, refl, Bool, true, false, ⊤}
+use Rattle.std.specs.Prelude.{
+  ◌≡◌,
+  ℕ,
+  ℤ,
+  nat_eq,
+  pos,
+  negsuc,
+  unsigned_abs,
+  List,
+  [],
+  ◌∷◌,
+  refl,
+  Bool,
+  true,
+  false,
+  ⊤,
+}
 use mathlib.Core.Path.{subst}
 use Rattle.hu_rows.specs.Rows.{RowOf, over, count_over}
 use Rattle.hu_rows.specs.Projection.{projected}
@@ -46,7 +62,9 @@ subtree_of_2 = refl
 
 -- two rows with values of either sign
 abbrev pub signed_rows : List RowOf
-signed_rows = row (pos 0) 1 ((0, negsuc 3) ∷ (1, pos 2) ∷ []) ∷ row (pos 0) 1 ((0, pos 1) ∷ (1, pos 5) ∷ []) ∷ []
+signed_rows =
+    row (pos 0) 1 ((0, negsuc 3) ∷ (1, pos 2) ∷ []) ∷ row (pos 0) 1
+    ((0, pos 1) ∷ (1, pos 5) ∷ []) ∷ []
 
 pub signed_rows_by_0 : merged (projected 0 signed_rows) ≡ row (negsuc 2) 2 ((1, pos 7) ∷ []) ∷ []
 signed_rows_by_0 = refl
@@ -58,16 +76,19 @@ pub signed_subtree : subtree_bound (merged (projected 0 signed_rows)) (1 ∷ [])
 signed_subtree = refl
 
 -- merged rows are the sums of the rows with their ranks
-pub sum_with_1_and_2 : summed (1 ∷ 2 ∷ []) (with_ranks (1 ∷ 2 ∷ []) (projected 0 three_rows)) ≡ with_ranks (1 ∷ 2 ∷ []) two_rows
+pub sum_with_1_and_2 : summed (1 ∷ 2 ∷ []) (with_ranks (1 ∷ 2 ∷ []) (projected 0 three_rows))
+    ≡ with_ranks (1 ∷ 2 ∷ []) two_rows
 sum_with_1_and_2 = refl
 
 pub sum_with_2 : summed (2 ∷ []) (with_ranks (2 ∷ []) (projected 0 three_rows)) ≡ with_ranks (2 ∷ []) two_rows
 sum_with_2 = refl
 
-pub none_with_1 : summed (1 ∷ []) (with_ranks (1 ∷ []) (projected 0 three_rows)) ≡ with_ranks (1 ∷ []) two_rows
+pub none_with_1 : summed (1 ∷ []) (with_ranks (1 ∷ []) (projected 0 three_rows))
+    ≡ with_ranks (1 ∷ []) two_rows
 none_with_1 = refl
 
-pub signed_sum_with_1 : summed (1 ∷ []) (with_ranks (1 ∷ []) (projected 0 signed_rows)) ≡ row (negsuc 2) 2 ((1, pos 7) ∷ []) ∷ []
+pub signed_sum_with_1 : summed (1 ∷ []) (with_ranks (1 ∷ []) (projected 0 signed_rows))
+    ≡ row (negsuc 2) 2 ((1, pos 7) ∷ []) ∷ []
 signed_sum_with_1 = refl
 
 -- two rows over which each set earns the same as over these two
@@ -93,4 +114,6 @@ Holds false = ⊥
 
 -- but they are not the sums
 pub shifted_not_sums : AreSums (projected 0 three_rows) shifted_rows → ⊥
-shifted_not_sums sums = subst (λ rows. Holds (nat_eq (unsigned_abs (sum_over (λ r. r.before) rows)) 1)) (sums (2 ∷ [])) tt
+shifted_not_sums sums =
+    subst (λ rows. Holds (nat_eq (unsigned_abs (sum_over (λ r. r.before) rows)) 1))
+    (sums (2 ∷ [])) tt

@@ -48,7 +48,8 @@ impl Bins {
     /// the cells of each row twice, and takes time for each rank that is kept or was before.
     pub fn local(&mut self, rows: &Rows<'_>, keep: &[u32])
         requires kept { AreKept self.old.ranks keep.now }
-        ensures value { (rank : ℕ) → value_at self.new.local rank ≡ set_to (local_bound rows.now keep.now) keep.now rank }
+        ensures value { (rank : ℕ) → value_at self.new.local rank
+            ≡ set_to (local_bound rows.now keep.now) keep.now rank }
         ensures bounds { BoundsEach rows.now keep.now (value_at self.new.local) }
         ensures ranks { self.new.ranks ≡ self.old.ranks }
         ensures subtree { self.new.subtree ≡ self.old.subtree }
@@ -61,7 +62,8 @@ impl Bins {
     /// bound of its least rank. It costs what `local` costs.
     pub fn subtree(&mut self, rows: &Rows<'_>, keep: &[u32])
         requires kept { AreKept self.old.ranks keep.now }
-        ensures value { (rank : ℕ) → value_at self.new.subtree rank ≡ set_to (subtree_bound rows.now keep.now) keep.now rank }
+        ensures value { (rank : ℕ) → value_at self.new.subtree rank
+            ≡ set_to (subtree_bound rows.now keep.now) keep.now rank }
         ensures bounds { BoundsLeast rows.now keep.now (value_at self.new.subtree) }
         ensures ranks { self.new.ranks ≡ self.old.ranks }
         ensures local { self.new.local ≡ self.old.local }

@@ -40,7 +40,8 @@ fn narrowed_rows<'a, 'b: 'a>(
     arena: &'a Bump<Global>,
 ) -> Result<Vec<Row<'a>>, NoMemory>
     requires below { AreBelow (length tallies.now) (rows_of rows.now) }
-    ensures { IfOk result (λ answer. rows_of answer.items ≡ narrowed (reaches tallies.now floor) (rows_of rows.now)) }
+    ensures { IfOk result (λ answer. rows_of answer.items
+        ≡ narrowed (reaches tallies.now floor) (rows_of rows.now)) }
 {
     let mut narrowed = Vec::new(alloc);
     let mut kept = Vec::new(alloc);
@@ -60,7 +61,8 @@ fn push_narrowed<'a, 'b: 'a>(
     arena: &'a Bump<Global>,
 ) -> Result<(), NoMemory>
     requires below { AllByRecursion (λ rank. rank < length tallies.now) (ranks_of (row_of row.now)) }
-    ensures { OnOk result (rows_of narrowed.new.items ≡ rows_of narrowed.old.items ++ narrowed_row (reaches tallies.now floor) (row_of row.now)) }
+    ensures { OnOk result (rows_of narrowed.new.items ≡ rows_of narrowed.old.items
+        ++ narrowed_row (reaches tallies.now floor) (row_of row.now)) }
 {
     keep_cells(kept, row.cells, tallies, floor)?;
     if kept.len() > 1 {
@@ -79,7 +81,8 @@ fn cells_in<'a, 'b: 'a>(
     cells: &'b [Dense],
     arena: &'a Bump<Global>,
 ) -> Result<&'a [Dense], NoMemory>
-    ensures { IfOk result (λ r. r.now ≡ (if length kept.now == length cells.now then cells.now else kept.now)) }
+    ensures { IfOk result
+        (λ r. r.now ≡ (if length kept.now == length cells.now then cells.now else kept.now)) }
 {
     if kept.len() == cells.len() {
         return Ok(cells);
@@ -95,7 +98,8 @@ fn keep_cells(
     floor: i128,
 ) -> Result<(), NoMemory>
     requires below { AllByRecursion (λ rank. rank < length tallies.now) (items_in (cells_of cells.now)) }
-    ensures { OnOk result (cells_of kept.new.items ≡ only (reaches tallies.now floor) (cells_of cells.now)) }
+    ensures { OnOk result (cells_of kept.new.items ≡ only (reaches tallies.now floor)
+        (cells_of cells.now)) }
 {
     kept.clear();
     for cell in cells {

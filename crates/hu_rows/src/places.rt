@@ -65,7 +65,9 @@ impl Places {
         requires below { AreBelow (length self.old) rows.now }
         requires told { length tallies.now ≡ length self.old }
         ensures len { length self.new ≡ length self.old }
-        ensures value { OnOk result ((rank : ℕ) → ArePlaces rows.now (handed_if (reaches tallies.now floor rank) rank rows.now) (places_at self.new rank)) }
+        ensures value { OnOk result ((rank : ℕ) → ArePlaces rows.now
+            (handed_if (reaches tallies.now floor rank) rank rows.now)
+            (places_at self.new rank)) }
     {
         hand_rows(&mut self.of_ranks, rows.rows(), tallies, floor)
     }
@@ -83,7 +85,8 @@ impl Places {
         requires { rank < length self.old }
         ensures value { result.items ≡ places_at self.old rank }
         ensures len { length self.new ≡ length self.old }
-        ensures left { (other : ℕ) → places_at self.new other ≡ (if other == rank then [] else places_at self.old other) }
+        ensures left { (other : ℕ) → places_at self.new other
+            ≡ (if other == rank then [] else places_at self.old other) }
     {
         std::mem::replace(&mut self.of_ranks[rank as usize], Vec::new(alloc))
     }
@@ -146,7 +149,9 @@ fn hand_rows(
     requires below { AreBelow (length (lists_in lists.old.items)) (rows_of rows.now) }
     requires told { length tallies.now ≡ length (lists_in lists.old.items) }
     ensures len { length (lists_in lists.new.items) ≡ length (lists_in lists.old.items) }
-    ensures value { OnOk result ((rank : ℕ) → ArePlaces (rows_of rows.now) (handed_if (reaches tallies.now floor rank) rank (rows_of rows.now)) (places_at (lists_in lists.new.items) rank)) }
+    ensures value { OnOk result ((rank : ℕ) → ArePlaces (rows_of rows.now)
+        (handed_if (reaches tallies.now floor rank) rank (rows_of rows.now))
+        (places_at (lists_in lists.new.items) rank)) }
 {
     for row in 0..rows.len() {
         hand_row(lists, row, rows[row].cells, tallies, floor)?;
@@ -162,10 +167,13 @@ fn hand_row(
     tallies: &Tallies,
     floor: i128,
 ) -> Result<(), NoMemory>
-    requires below { AllByRecursion (λ rank. rank < length (lists_in lists.old.items)) (items_in (cells_of cells.now)) }
+    requires below { AllByRecursion (λ rank. rank < length (lists_in lists.old.items))
+        (items_in (cells_of cells.now)) }
     requires told { length tallies.now ≡ length (lists_in lists.old.items) }
     ensures len { length (lists_in lists.new.items) ≡ length (lists_in lists.old.items) }
-    ensures value { OnOk result ((rank : ℕ) → places_at (lists_in lists.new.items) rank ≡ places_at (lists_in lists.old.items) rank ++ places_in (reaches tallies.now floor) row (cells_of cells.now) rank) }
+    ensures value { OnOk result ((rank : ℕ) → places_at (lists_in lists.new.items) rank
+        ≡ places_at (lists_in lists.old.items) rank
+        ++ places_in (reaches tallies.now floor) row (cells_of cells.now) rank) }
 {
     for next in 1..cells.len() {
         let cell = next - 1;
@@ -189,7 +197,9 @@ fn push_place(
 ) -> Result<(), NoMemory>
     requires { rank < length (lists_in lists.old.items) }
     ensures len { length (lists_in lists.new.items) ≡ length (lists_in lists.old.items) }
-    ensures value { OnOk result ((other : ℕ) → places_at (lists_in lists.new.items) other ≡ places_at (lists_in lists.old.items) other ++ (if is_open && (other == rank) then place ∷ [] else [])) }
+    ensures value { OnOk result ((other : ℕ) → places_at (lists_in lists.new.items) other
+        ≡ places_at (lists_in lists.old.items) other
+        ++ (if is_open && (other == rank) then place ∷ [] else [])) }
 {
     if is_open {
         lists[rank as usize].push(place)?;

@@ -26,12 +26,15 @@ pub fn project<'a, 'b: 'a>(
     z: u32,
     arena: &'a Bump<Global>,
 ) -> Result<Rows<'a>, NoMemory>
-    ensures over { IfOk result (λ answer. (set : List ℕ) → AllByRecursion (λ rank. z < rank) set → over answer set ≡ over rows.now (z ∷ set)) }
-    ensures count { IfOk result (λ answer. (set : List ℕ) → AllByRecursion (λ rank. z < rank) set → count_over answer set ≡ count_over rows.now (z ∷ set)) }
+    ensures over { IfOk result (λ answer. (set : List ℕ) → AllByRecursion (λ rank. z < rank) set
+        → over answer set ≡ over rows.now (z ∷ set)) }
+    ensures count { IfOk result (λ answer. (set : List ℕ) → AllByRecursion (λ rank. z < rank) set
+        → count_over answer set ≡ count_over rows.now (z ∷ set)) }
     ensures sums { IfOk result (AreSums (projected z rows.now)) }
     ensures apart { IfOk result AreApart }
     ensures after { IfOk result (λ answer. (rank : ℕ) → Contains (ranks_in answer) rank → z < rank) }
-    ensures among { IfOk result (λ answer. (rank : ℕ) → Contains (ranks_in answer) rank → Contains (ranks_in rows.now) rank) }
+    ensures among { IfOk result (λ answer. (rank : ℕ) → Contains (ranks_in answer) rank
+        → Contains (ranks_in rows.now) rank) }
 {
     merge(alloc, projected_rows(alloc, rows, z)?, arena)
 }
@@ -71,7 +74,8 @@ fn projected_row<'a, 'b: 'a>(row: &Row<'b>, z: u32) -> Option<Row<'a>>
 /// Where a rank stands, by binary search.
 fn place_of(cells: &[Dense], z: u32) -> Option<usize>
     requires { Ascend (items_in (cells_of cells.now)) }
-    ensures { MatchOption result (has z (cells_of cells.now) ≡ false) (λ i. (i < length cells.now) × (slice_index (items_in (cells_of cells.now)) i ≡ z)) }
+    ensures { MatchOption result (has z (cells_of cells.now) ≡ false)
+        (λ i. (i < length cells.now) × (slice_index (items_in (cells_of cells.now)) i ≡ z)) }
 {
     cells.binary_search_by_key(&z, |cell| cell.rank).ok()
 }

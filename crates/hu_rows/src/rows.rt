@@ -72,8 +72,10 @@ impl<'a> Rows<'a> {
         cells: &'a [Dense],
         arena: &'a Bump<Global>,
     ) -> Result<Option<Rows<'a>>, NoMemory>
-        ensures valid { IfOk result (λ rows. IsSome rows ↔ AreRows (self.now ++ row_with before count cells.now ∷ [])) }
-        ensures value { IfOk result (λ rows. IfSome rows (λ r. r ≡ self.now ++ row_with before count cells.now ∷ [])) }
+        ensures valid { IfOk result (λ rows. IsSome rows ↔ AreRows
+            (self.now ++ row_with before count cells.now ∷ [])) }
+        ensures value { IfOk result
+            (λ rows. IfSome rows (λ r. r ≡ self.now ++ row_with before count cells.now ∷ [])) }
     {
         let row = Row {
             before,
@@ -102,7 +104,8 @@ impl<'a> Rows<'a> {
         arena: &'a Bump<Global>,
     ) -> Result<Rows<'a>, NoMemory>
         ensures over { IfOk result (λ rows. (set : List ℕ) → over rows set ≡ utility ranked.now.records set) }
-        ensures count { IfOk result (λ rows. (set : List ℕ) → count_over rows set ≡ support ranked.now.records set) }
+        ensures count { IfOk result (λ rows. (set : List ℕ) → count_over rows set
+            ≡ support ranked.now.records set) }
         ensures sums { IfOk result (AreSums (map unmerged ranked.now.records)) }
         ensures apart { IfOk result AreApart }
         ensures rules { IfOk result AreRows }
@@ -148,7 +151,9 @@ fn are_rows(rows: &[Row<'_>]) -> bool
 
 /// Whether ranks ascend strictly in each row.
 fn all_ascend(rows: &[Row<'_>]) -> bool
-    ensures { IsTrue result ↔ All (λ row. AllAdjacentBelow (λ a b. a.rank < b.rank) row.cells.now (length row.cells.now)) rows.now }
+    ensures { IsTrue result
+        ↔ All (λ row. AllAdjacentBelow (λ a b. a.rank < b.rank) row.cells.now
+        (length row.cells.now)) rows.now }
 {
     rows.iter().all(|row| ascends(row.cells))
 }
@@ -167,7 +172,8 @@ fn ascends(cells: &[Dense]) -> bool
 
 /// The absolute values of all `before` and cells together, where they are at most 2^127 - 1.
 fn total_size(rows: &[Row<'_>]) -> Option<u128>
-    ensures { SomeIff result (sum_by size_of (rows_of rows.now) < 2 ^ 127) (sum_by size_of (rows_of rows.now)) }
+    ensures { SomeIff result (sum_by size_of (rows_of rows.now) < 2 ^ 127)
+        (sum_by size_of (rows_of rows.now)) }
 {
     let mut total = 0;
     for row in rows {
@@ -202,7 +208,8 @@ fn plus(sum: u128, value: i128) -> Option<u128>
 
 /// All counts together, where they are at most 2^64 - 1.
 fn total_count(rows: &[Row<'_>]) -> Option<u64>
-    ensures { SomeIff result (sum_by count_of (rows_of rows.now) < 2 ^ 64) (sum_by count_of (rows_of rows.now)) }
+    ensures { SomeIff result (sum_by count_of (rows_of rows.now) < 2 ^ 64)
+        (sum_by count_of (rows_of rows.now)) }
 {
     let mut total = 0u64;
     for row in rows {

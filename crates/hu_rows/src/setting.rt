@@ -98,7 +98,9 @@ impl Setting {
         requires { unsigned_abs (value_at self.old.values rank) + unsigned_abs share < 2 ^ 127 }
         ensures kept { self.new.kept ≡ self.old.kept }
         ensures len { length self.new.values ≡ length self.old.values }
-        ensures value { (other : ℕ) → value_at self.new.values other ≡ value_at self.old.values other +ℤ (if among other self.old.kept && (other == rank) then share else pos 0) }
+        ensures value { (other : ℕ) → value_at self.new.values other
+            ≡ value_at self.old.values other +ℤ (if among other self.old.kept
+            && (other == rank) then share else pos 0) }
     {
         if self.is_kept(rank) {
             self.values[rank as usize] += share;
@@ -108,10 +110,12 @@ impl Setting {
     /// Adds to the value of each kept rank what a row gives the sets that hold it.
     fn add_local(&mut self, row: &Row<'_>)
         requires ascending { Ascend (ranks_of (row_of row.now)) }
-        requires fits { (rank : ℕ) → unsigned_abs (value_at self.old.values rank) + size_of (row_of row.now) < 2 ^ 127 }
+        requires fits { (rank : ℕ) → unsigned_abs (value_at self.old.values rank) + size_of
+            (row_of row.now) < 2 ^ 127 }
         ensures kept { self.new.kept ≡ self.old.kept }
         ensures len { length self.new.values ≡ length self.old.values }
-        ensures value { (rank : ℕ) → value_at self.new.values rank ≡ value_at self.old.values rank +ℤ local_part self.old.kept (row_of row.now) rank }
+        ensures value { (rank : ℕ) → value_at self.new.values rank
+            ≡ value_at self.old.values rank +ℤ local_part self.old.kept (row_of row.now) rank }
     {
         let share = positive(row.before + self.gain(row.cells));
         for cell in row.cells {
@@ -122,10 +126,12 @@ impl Setting {
     /// Adds to the value of each kept rank what a row gives the sets of which it is the least.
     fn add_subtree(&mut self, row: &Row<'_>)
         requires ascending { Ascend (ranks_of (row_of row.now)) }
-        requires fits { (rank : ℕ) → unsigned_abs (value_at self.old.values rank) + size_of (row_of row.now) < 2 ^ 127 }
+        requires fits { (rank : ℕ) → unsigned_abs (value_at self.old.values rank) + size_of
+            (row_of row.now) < 2 ^ 127 }
         ensures kept { self.new.kept ≡ self.old.kept }
         ensures len { length self.new.values ≡ length self.old.values }
-        ensures value { (rank : ℕ) → value_at self.new.values rank ≡ value_at self.old.values rank +ℤ subtree_part self.old.kept (row_of row.now) rank }
+        ensures value { (rank : ℕ) → value_at self.new.values rank
+            ≡ value_at self.old.values rank +ℤ subtree_part self.old.kept (row_of row.now) rank }
     {
         let mut rest = self.gain(row.cells);
         for cell in row.cells {
@@ -139,7 +145,8 @@ impl Setting {
         requires kept { AreKept (length self.old.values) keep.now }
         requires rules { AreRows (rows_of rows.now) }
         ensures len { length self.new.values ≡ length self.old.values }
-        ensures value { (rank : ℕ) → value_at self.new.values rank ≡ set_to (local_bound (rows_of rows.now) keep.now) keep.now rank }
+        ensures value { (rank : ℕ) → value_at self.new.values rank
+            ≡ set_to (local_bound (rows_of rows.now) keep.now) keep.now rank }
     {
         self.restart(keep);
         for row in rows {
@@ -152,7 +159,8 @@ impl Setting {
         requires kept { AreKept (length self.old.values) keep.now }
         requires rules { AreRows (rows_of rows.now) }
         ensures len { length self.new.values ≡ length self.old.values }
-        ensures value { (rank : ℕ) → value_at self.new.values rank ≡ set_to (subtree_bound (rows_of rows.now) keep.now) keep.now rank }
+        ensures value { (rank : ℕ) → value_at self.new.values rank
+            ≡ set_to (subtree_bound (rows_of rows.now) keep.now) keep.now rank }
     {
         self.restart(keep);
         for row in rows {
@@ -194,8 +202,10 @@ fn unset(values: &mut Vec<i128>, marks: &mut Vec<bool>, kept: &[u32])
     requires marked { length marks.old.items ≡ length values.old.items }
     ensures len { length values.new.items ≡ length values.old.items }
     ensures marked { length marks.new.items ≡ length marks.old.items }
-    ensures values { (rank : ℕ) → value_at values.new.items rank ≡ (if among rank kept.now then pos 0 else value_at values.old.items rank) }
-    ensures marks { (rank : ℕ) → slice_index_or marks.new.items rank false ≡ (if among rank kept.now then false else slice_index_or marks.old.items rank false) }
+    ensures values { (rank : ℕ) → value_at values.new.items rank
+        ≡ (if among rank kept.now then pos 0 else value_at values.old.items rank) }
+    ensures marks { (rank : ℕ) → slice_index_or marks.new.items rank false
+        ≡ (if among rank kept.now then false else slice_index_or marks.old.items rank false) }
 {
     for rank in kept {
         values[*rank as usize] = 0;
@@ -207,7 +217,8 @@ fn unset(values: &mut Vec<i128>, marks: &mut Vec<bool>, kept: &[u32])
 fn mark(marks: &mut Vec<bool>, keep: &[u32])
     requires { AllByRecursion (λ rank. rank < length marks.old.items) keep.now }
     ensures len { length marks.new.items ≡ length marks.old.items }
-    ensures marks { (rank : ℕ) → slice_index_or marks.new.items rank false ≡ among rank keep.now || slice_index_or marks.old.items rank false }
+    ensures marks { (rank : ℕ) → slice_index_or marks.new.items rank false
+        ≡ among rank keep.now || slice_index_or marks.old.items rank false }
 {
     for rank in keep {
         marks[*rank as usize] = true;

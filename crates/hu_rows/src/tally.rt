@@ -100,7 +100,8 @@ impl Tallies {
         requires { rank < length self.old }
         ensures value { result ≡ tally_at self.old rank }
         ensures len { length self.new ≡ length self.old }
-        ensures left { (other : ℕ) → tally_at self.new other ≡ (if other == rank then no_tally else tally_at self.old other) }
+        ensures left { (other : ℕ) → tally_at self.new other
+            ≡ (if other == rank then no_tally else tally_at self.old other) }
     {
         let tally = self.of_ranks[rank as usize];
         self.of_ranks[rank as usize] = NONE;
@@ -138,7 +139,9 @@ fn tell_row(tallies: &mut Vec<Tally>, met: &mut Vec<u32>, row: &Row<'_>) -> Resu
     requires room { (rank : ℕ) → HasRoom (tally_at tallies.old.items rank) (row_of row.now) }
     requires noted { AreNoted tallies.old.items met.old.items }
     ensures len { length tallies.new.items ≡ length tallies.old.items }
-    ensures value { OnOk result (Adds (λ rank. share_if (has rank (row_of row.now).cells) (row_share (row_of row.now) rank)) tallies.old.items tallies.new.items) }
+    ensures value { OnOk result
+        (Adds (λ rank. share_if (has rank (row_of row.now).cells)
+        (row_share (row_of row.now) rank)) tallies.old.items tallies.new.items) }
     ensures noted { OnOk result (AreNoted tallies.new.items met.new.items) }
 {
     let bound = most(row);
@@ -171,7 +174,8 @@ fn tell_tails(tallies: &mut Vec<Tally>, row: &Row<'_>)
     requires below { AllByRecursion (λ rank. rank < length tallies.old.items) (ranks_of (row_of row.now)) }
     requires room { (rank : ℕ) → HasRoom (tally_at tallies.old.items rank) (row_of row.now) }
     ensures len { length tallies.new.items ≡ length tallies.old.items }
-    ensures value { Adds (λ rank. share_if (has rank (row_of row.now).cells) (tail_share (row_of row.now) rank)) tallies.old.items tallies.new.items }
+    ensures value { Adds (λ rank. share_if (has rank (row_of row.now).cells) (tail_share (row_of row.now) rank))
+        tallies.old.items tallies.new.items }
 {
     let mut rest = 0;
     let mut place = row.cells.len();

@@ -1,5 +1,6 @@
 -- What the check of a certificate comes to, over what was read of the files and of the certificate.
-use Rattle.std.proofs.Common.{◌≡◌, ℕ, ℤ, ◌+◌, ◌≤◌, ◌<◌, Bool, true, false, nat_lt, List, [], ◌∷◌, ◌++◌, length, take, Result, Ok, Err, Option, Some, None, refl, sym, ap, ◌∙◌, subst, arith}
+use Rattle.std.proofs.Common.{◌≡◌, ℕ, ℤ, ◌+◌, ◌≤◌, ◌<◌, Bool, true, false, nat_lt, List, [], ◌∷◌, ◌++◌, length, take}
+use Rattle.std.proofs.Common.{Result, Ok, Err, Option, Some, None, refl, sym, ap, ◌∙◌, subst, arith}
 use Rattle.std.specs.Prelude.{IfSome, IsSomeAnd, IsOk, slice_get}
 use Rattle.std.specs.Option.{option_map}
 use Rattle.std.proofs.lemmas.Bool.{ltb-true, ltb-false}
@@ -63,7 +64,8 @@ module _ (least : ℤ) (cert : List ℕ) (files read : FilesState) (names : List
           → checking_ending least cert told names ≡ judging_ending least cert (records_in bases) (first_fault (records_in bases) least text)
       by None there front = absurd front
       by (Some content) there front = simp (are, there)
-          (sym (ap (judging_ending least cert (records_in bases)) (ap (first_fault (records_in bases) least) front ∙ fault-of-front (records_in bases) least content)))
+          (sym (ap (judging_ending least cert (records_in bases))
+          (ap (first_fault (records_in bases) least) front ∙ fault-of-front (records_in bases) least content)))
 
   -- a read of the certificate failed, or there was no memory
   pub cert-unread : (new : FilesState) (stop : InputStop) → StopsReading read new cert stop → StopsAt (check least cert) files new names (stop_of_input stop)

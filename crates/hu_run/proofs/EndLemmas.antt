@@ -298,7 +298,8 @@ module _ (s : Streams) where
 
   -- a read failed
   unread : (name : List ℕ)
-      → IsOkAnd (job s.words) (λ asked. HasFailed asked s.files s.files_after (names_of asked s.words) name) → s.out_after ≡ s.out → Tells s (read_failed_line name) → Runs s 3
+      → IsOkAnd (job s.words) (λ asked. HasFailed asked s.files s.files_after (names_of asked s.words) name)
+      → s.out_after ≡ s.out → Tells s (read_failed_line name) → Runs s 3
   unread name ends unwritten told_ =
       let told = sink-told s (read_failed_line name) told_ in
       let missed : Missed s.files s.files_after name = from_ok (job s.words) _ _ (λ asked p. p.missed) ends in

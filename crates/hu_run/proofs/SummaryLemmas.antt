@@ -18,7 +18,8 @@ use Rattle.hu_run.specs.Run.{Streams, Runs, Writing}
 use Rattle.hu_run.specs.Summary.{ListsFound, WritesFound, HasMined, ItemRunsWriteFound, ClosedRunsWriteFound, SequenceRunsWriteFound}
 
 -- what was appended is the text of the ending
-mined-text : (s : Streams) (task : Task) (engine : Engine) (least : ℤ) (top : Option ℕ) (told : List ℕ → Option (List ℕ)) → HasMined s task engine least top told
+mined-text : (s : Streams) (task : Task) (engine : Engine) (least : ℤ) (top : Option ℕ)
+    (told : List ℕ → Option (List ℕ)) → HasMined s task engine least top told
     → Writing (Appended s.out s.out_after)
     (mining_ending (record { task = task; engine = engine; least = least; top = top }) told (names_of (mining task engine least top) s.words))
 mined-text s task engine least top told mined =

@@ -1,5 +1,20 @@
 -- What a job comes to over the contents of its files. This is the whole program in one definition.
-use Rattle.std.specs.Prelude.{⊤, ℕ, ℤ, nat_lt, Option, None, Some, Result, Ok, Err, List, length, IsOk, if◌then◌else◌}
+use Rattle.std.specs.Prelude.{
+  ⊤,
+  ℕ,
+  ℤ,
+  nat_lt,
+  Option,
+  None,
+  Some,
+  Result,
+  Ok,
+  Err,
+  List,
+  length,
+  IsOk,
+  if◌then◌else◌,
+}
 use Rattle.std.specs.Option.{option_map}
 use Rattle.std.specs.List.{sum_by}
 use Rattle.hu_kind.specs.declared.task.Task.{Task}
@@ -50,26 +65,40 @@ abbrev pub mining_ending : Mining → (List ℕ → Option (List ℕ)) → List 
 mining_ending mining contents names = by_task mining.task
   where
     by_task : Task → Ending
-    by_task Items = ending_by (λ records. writes (answer_text Items (item_answer records mining.least mining.top))) (transactions contents names)
-    by_task Closed = ending_by (λ records. writes (answer_text Closed (closed_answer records mining.least mining.top))) (transactions contents names)
-    by_task Sequences = ending_by (λ records. writes (answer_text Sequences (sequence_answer records mining.least mining.top))) (sequences contents names)
+    by_task Items =
+        ending_by
+        (λ records. writes (answer_text Items (item_answer records mining.least mining.top)))
+        (transactions contents names)
+    by_task Closed =
+        ending_by
+        (λ records. writes (answer_text Closed (closed_answer records mining.least mining.top)))
+        (transactions contents names)
+    by_task Sequences =
+        ending_by
+        (λ records. writes
+        (answer_text Sequences (sequence_answer records mining.least mining.top)))
+        (sequences contents names)
 
 -- the ending of asking for itemsets of some lengths: the text of those of all records of the named files
 abbrev pub sized_ending : Sizing → (List ℕ → Option (List ℕ)) → List (List ℕ) → Ending
 sized_ending s contents names =
-    ending_by (λ records. writes (answer_text Items (sized_answer records s.least s.top s.short s.long))) (transactions contents names)
+    ending_by
+    (λ records. writes (answer_text Items (sized_answer records s.least s.top s.short s.long)))
+    (transactions contents names)
 
 -- the ending of asking for itemsets of high average utility: the text of those of all records of the named files
 abbrev pub averaging_ending : Searching → (List ℕ → Option (List ℕ)) → List (List ℕ) → Ending
 averaging_ending s contents names =
-    ending_by (λ records. writes (average_text (average_answer records s.least s.top))) (transactions contents names)
+    ending_by (λ records. writes (average_text (average_answer records s.least s.top)))
+    (transactions contents names)
 
 -- the ending of making a certificate: its text, unless that is too long
 abbrev pub given : List ℕ → Ending
 given text = if nat_lt 268435456 (length text) then denies too_long else writes text
 
 abbrev pub certifying_ending : ℤ → (List ℕ → Option (List ℕ)) → List (List ℕ) → Ending
-certifying_ending least contents names = ending_by (λ records. given (certificate_text records least)) (transactions contents names)
+certifying_ending least contents names =
+    ending_by (λ records. given (certificate_text records least)) (transactions contents names)
 
 -- the ending of a check over records: where the text of the certificate has no fault, that of all their itemsets that reach the
 -- least utility
@@ -79,7 +108,8 @@ judging_ending least cert records (Some fault) = denies (has_fault cert fault)
 
 abbrev pub certificate_ending : ℤ → List ℕ → List (List (ℕ × ℤ)) → Option (List ℕ) → Ending
 certificate_ending least cert records None = lacks cert
-certificate_ending least cert records (Some text) = judging_ending least cert records (first_fault records least text)
+certificate_ending least cert records (Some text) =
+    judging_ending least cert records (first_fault records least text)
 
 -- the ending of a check of a certificate over all records of the named files
 abbrev pub checking_ending : ℤ → List ℕ → (List ℕ → Option (List ℕ)) → List (List ℕ) → Ending
@@ -90,7 +120,8 @@ checking_ending least cert contents names =
 abbrev pub ending : Asked → Option (List ℕ → Option (List ℕ)) → List (List ℕ) → Option Ending
 ending (mine mining) contents names = option_map (λ told. mining_ending mining told names) contents
 ending (size sizing) contents names = option_map (λ told. sized_ending sizing told names) contents
-ending (average searching) contents names = option_map (λ told. averaging_ending searching told names) contents
+ending (average searching) contents names =
+    option_map (λ told. averaging_ending searching told names) contents
 ending (certify least) contents names = option_map (λ told. certifying_ending least told names) contents
 ending (check least cert) contents names = option_map (λ told. checking_ending least cert told names) contents
 ending (drill seed) contents names = Some (writes (drill_text seed))

@@ -1,6 +1,38 @@
 -- The words of the command line as a job: TASK ENGINE MIN TOP FILE [BATCH ..], average ENGINE MIN TOP FILE [BATCH ..],
 -- sized ENGINE MIN TOP SHORT LONG FILE [BATCH ..], certify MIN FILE [BATCH ..], check MIN CERT FILE [BATCH ..], or drill SEED.
-use Rattle.std.specs.Prelude.{◌≡◌, ⊤, ℕ, ◌≤◌, nat_lt, nat_le, Bool, true, false, ◌&&◌, ℤ, pos, ◌≤ℤ◌, int_le, unsigned_abs, IfSome, Option, None, Some, Result, Ok, Err, List, [], ◌∷◌, ◌++◌, length, drop, codes, slice_index_or, if◌then◌else◌}
+use Rattle.std.specs.Prelude.{
+  ◌≡◌,
+  ⊤,
+  ℕ,
+  ◌≤◌,
+  nat_lt,
+  nat_le,
+  Bool,
+  true,
+  false,
+  ◌&&◌,
+  ℤ,
+  pos,
+  ◌≤ℤ◌,
+  int_le,
+  unsigned_abs,
+  IfSome,
+  Option,
+  None,
+  Some,
+  Result,
+  Ok,
+  Err,
+  List,
+  [],
+  ◌∷◌,
+  ◌++◌,
+  length,
+  drop,
+  codes,
+  slice_index_or,
+  if◌then◌else◌,
+}
 use Rattle.std.specs.Option.{option_and_then, option_map}
 use Rattle.std.specs.Result.{result_ok}
 use Rattle.std.specs.Str.{bytes_eq}
@@ -15,7 +47,17 @@ use Rattle.hu_mine.specs.Engine.{offers, offers_further}
 use Rattle.hu_run.specs.declared.words.Job.{Job}
 use Rattle.hu_run.specs.declared.words.Job.TheVariants as words
 use Rattle.hu_run.specs.declared.words.WordFault.{WordFault}
-use Rattle.hu_run.specs.declared.words.WordFault.TheVariants.{TooFewWords, TooManyWords, BadSeed, TaskUnknown, EngineNotOffered, BadMinimum, BadTop, BadLengths, TooManyFiles}
+use Rattle.hu_run.specs.declared.words.WordFault.TheVariants.{
+  TooFewWords,
+  TooManyWords,
+  BadSeed,
+  TaskUnknown,
+  EngineNotOffered,
+  BadMinimum,
+  BadTop,
+  BadLengths,
+  TooManyFiles,
+}
 
 -- the task that a word names
 abbrev pub task_of : List ℕ → Option Task
@@ -66,11 +108,14 @@ least_of word = kept_if (λ n. int_le (pos 1) n) (result_ok (number word))
 abbrev pub top_of : List ℕ → Option (Option ℕ)
 top_of word =
     if bytes_eq word (codes "all") then Some None
-    else option_map (λ n. Some (unsigned_abs n)) (kept_if (λ n. int_le (pos 1) n && int_le n (pos 1000000)) (result_ok (number word)))
+    else option_map (λ n. Some (unsigned_abs n))
+    (kept_if (λ n. int_le (pos 1) n && int_le n (pos 1000000)) (result_ok (number word)))
 
 -- the seed that a word says: a number from 1 to 2,147,483,646
 abbrev pub seed_of : List ℕ → Option ℕ
-seed_of word = option_map unsigned_abs (kept_if (λ n. int_le (pos 1) n && int_le n (pos 2147483646)) (result_ok (number word)))
+seed_of word =
+    option_map unsigned_abs (kept_if (λ n. int_le (pos 1) n && int_le n (pos 2147483646))
+    (result_ok (number word)))
 
 -- the engine that a word names, where a further task offers it
 abbrev pub further_engine : List ℕ → Option Engine
@@ -78,7 +123,9 @@ further_engine word = kept_if offers_further (engine_of word)
 
 -- the length that a word says: a number from 1 to 4,096
 abbrev pub length_of : List ℕ → Option ℕ
-length_of word = option_map unsigned_abs (kept_if (λ n. int_le (pos 1) n && int_le n (pos 4096)) (result_ok (number word)))
+length_of word =
+    option_map unsigned_abs (kept_if (λ n. int_le (pos 1) n && int_le n (pos 4096))
+    (result_ok (number word)))
 
 -- a least and a greatest length of itemsets
 abbrev pub AreLengths : ℕ → ℕ → Type 0
@@ -86,7 +133,9 @@ AreLengths short long = (1 ≤ short) × (short ≤ long) × (long ≤ 4096)
 
 -- the least and the greatest length that two words say
 abbrev pub lengths_of : List ℕ → List ℕ → Option (ℕ × ℕ)
-lengths_of short_word long_word = option_and_then (λ short. option_and_then (λ long. if nat_le short long then Some (short, long) else None)
+lengths_of short_word long_word =
+    option_and_then
+    (λ short. option_and_then (λ long. if nat_le short long then Some (short, long) else None)
     (length_of long_word)) (length_of short_word)
 
 -- the patterns of a task by an engine: those that earn a least utility, all of them or the first k
@@ -233,7 +282,9 @@ IsSeed seed = (1 ≤ seed) × (seed ≤ 2147483646)
 -- the numbers of a job are in their ranges, and its task offers its engine
 abbrev pub IsLawful : Asked → Type 0
 IsLawful (mine m) = (offers m.task m.engine ≡ true) × (pos 1 ≤ℤ m.least) × IfSome m.top (λ k. 1 ≤ k)
-IsLawful (size s) = (offers_further s.engine ≡ true) × (pos 1 ≤ℤ s.least) × IfSome s.top (λ k. 1 ≤ k) × AreLengths s.short s.long
+IsLawful (size s) =
+    (offers_further s.engine ≡ true) × (pos 1 ≤ℤ s.least) × IfSome s.top (λ k. 1 ≤ k)
+    × AreLengths s.short s.long
 IsLawful (average s) = (offers_further s.engine ≡ true) × (pos 1 ≤ℤ s.least) × IfSome s.top (λ k. 1 ≤ k)
 IsLawful (certify least) = pos 1 ≤ℤ least
 IsLawful (check least cert) = pos 1 ≤ℤ least

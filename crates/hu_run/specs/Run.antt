@@ -1,11 +1,41 @@
 -- What a run promises of its words, files and streams.
-use Rattle.std.specs.Prelude.{◌≡◌, ◌≢◌, ◌↔◌, ◌⊎◌, ℕ, ◌≤◌, Some, List, take, slice_get, codes, IsOkAnd, IsErr, IfErr, IfOk, IfSome, ⊤}
+use Rattle.std.specs.Prelude.{
+  ◌≡◌,
+  ◌≢◌,
+  ◌↔◌,
+  ◌⊎◌,
+  ℕ,
+  ◌≤◌,
+  Some,
+  List,
+  take,
+  slice_get,
+  codes,
+  IsOkAnd,
+  IsErr,
+  IfErr,
+  IfOk,
+  IfSome,
+  ⊤,
+}
 use Rattle.std.specs.List.{Contains}
 use Rattle.hu_io.specs.Count.{Rose}
 use Rattle.hu_io.specs.State.{SinkState, FilesState, Appended, Broke}
 use Rattle.hu_input.specs.Input.{Refusal}
 use Rattle.hu_run.specs.Job.{Asked, certify, check, job, names_of, reads_of}
-use Rattle.hu_run.specs.Ending.{Denial, has_fault, too_long, Ending, writes, refuses, lacks, denies, ending, status_of, IsAccepted}
+use Rattle.hu_run.specs.Ending.{
+  Denial,
+  has_fault,
+  too_long,
+  Ending,
+  writes,
+  refuses,
+  lacks,
+  denies,
+  ending,
+  status_of,
+  IsAccepted,
+}
 use Rattle.hu_run.specs.Stop.{told_line, word_text, refusal_line, read_failed_line, denial_line}
 
 -- a run's words, and its files and streams before and after it
@@ -19,7 +49,8 @@ pub record Streams : Type 0 where
   pub err_after : SinkState
 
 -- those of a run
-abbrev pub streams : List (List ℕ) → FilesState → FilesState → SinkState → SinkState → SinkState → SinkState → Streams
+abbrev pub streams : List (List ℕ) → FilesState → FilesState → SinkState → SinkState → SinkState
+    → SinkState → Streams
 streams words files files_after out out_after err err_after = record {
   words = words;
   files = files;
@@ -36,11 +67,15 @@ Tells s line = Appended s.err s.err_after line ⊎ Broke s.err s.err_after line
 
 -- the words are a job, and where its contents are told this is so of what it comes to
 abbrev pub ComesTo : Streams → (Ending → Type 0) → Type 0
-ComesTo s fact = IsOkAnd (job s.words) (λ asked. IfSome (ending asked s.files.contents (names_of asked s.words)) fact)
+ComesTo s fact =
+    IsOkAnd (job s.words)
+    (λ asked. IfSome (ending asked s.files.contents (names_of asked s.words)) fact)
 
 -- where the words are a job and its contents are told, this is so of what it comes to
 abbrev pub WhereTold : Streams → (Ending → Type 0) → Type 0
-WhereTold s fact = IfOk (job s.words) (λ asked. IfSome (ending asked s.files.contents (names_of asked s.words)) fact)
+WhereTold s fact =
+    IfOk (job s.words)
+    (λ asked. IfSome (ending asked s.files.contents (names_of asked s.words)) fact)
 
 -- the ending is a text, and this is so of it
 abbrev pub Writing : (List ℕ → Type 0) → Ending → Type 0

@@ -13,7 +13,15 @@ use Rattle.hu_certify.specs.declared.fault.CertFault.{CertFault}
 use Rattle.hu_certify.specs.declared.fault.CertFault.TheVariants as cert
 use Rattle.hu_run.specs.declared.stop.Stop.{Stop}
 use Rattle.hu_run.specs.Ending.{Denial, has_fault, too_long}
-use Rattle.hu_run.specs.declared.stop.Stop.TheVariants.{Words, Refused, ReadFailed, Denied, TooLong, WriteFailed, NoMemory}
+use Rattle.hu_run.specs.declared.stop.Stop.TheVariants.{
+  Words,
+  Refused,
+  ReadFailed,
+  Denied,
+  TooLong,
+  WriteFailed,
+  NoMemory,
+}
 
 -- the reason of refused words
 abbrev pub word_text : WordFault → List ℕ

@@ -19,49 +19,63 @@ use Rattle.hu_run.specs.Run.{Streams, Runs}
 pub record ListsFound (IsFound : Entry → Type 0) (top : Option ℕ) (entries : List Entry) : Type 0 where
   pub whole : List Entry
   pub each : (entry : Entry) → Contains whole entry ↔ IsFound entry
-  pub ascends : (i j : ℕ) (d : Entry) → i < j → j < length whole → Before (get_or whole i d) (get_or whole j d)
+  pub ascends : (i j : ℕ) (d : Entry) → i < j → j < length whole
+      → Before (get_or whole i d) (get_or whole j d)
   pub first : entries ≡ cut top whole
 
 -- the text of such a list was appended to `out`
 abbrev pub WritesFound : Streams → Task → (Entry → Type 0) → Option ℕ → Type 0
-WritesFound s task IsFound top = (entries : List Entry) × ListsFound IsFound top entries × Appended s.out s.out_after (answer_text task entries)
+WritesFound s task IsFound top =
+    (entries : List Entry) × ListsFound IsFound top entries
+    × Appended s.out s.out_after (answer_text task entries)
 
 -- a run of a task over told contents that ended with status 0
-pub record HasMined (s : Streams) (task : Task) (engine : Engine) (least : ℤ) (top : Option ℕ) (told : List ℕ → Option (List ℕ)) : Type 0 where
+pub record HasMined (s : Streams) (task : Task) (engine : Engine) (least : ℤ) (top : Option ℕ)
+    (told : List ℕ → Option (List ℕ)) : Type 0 where
   pub runs : Runs s 0
   pub asked : job s.words ≡ Ok (mining task engine least top)
   pub contents : s.files.contents ≡ Some told
 
 -- the entry of an itemset that is found
 abbrev pub IsFoundItemset : List (List (ℕ × ℤ)) → ℤ → Entry → Type 0
-IsFoundItemset records least entry = (items : List ℕ) × IsFoundSet records least items × IsEntryOf records items entry
+IsFoundItemset records least entry =
+    (items : List ℕ) × IsFoundSet records least items × IsEntryOf records items entry
 
 -- of a closed one
 abbrev pub IsFoundClosed : List (List (ℕ × ℤ)) → ℤ → Entry → Type 0
 IsFoundClosed records least entry =
-    (items : List ℕ) × IsFoundSet records least items × IsClosedSet records items × IsEntryOf records items entry
+    (items : List ℕ) × IsFoundSet records least items × IsClosedSet records items
+    × IsEntryOf records items entry
 
 -- of a sequence
 abbrev pub IsFoundPattern : List (List (List (ℕ × ℤ))) → ℤ → Entry → Type 0
-IsFoundPattern records least entry = (pattern : List (List ℕ)) × IsFoundSequence records least pattern × IsSequenceEntryOf records pattern entry
+IsFoundPattern records least entry =
+    (pattern : List (List ℕ)) × IsFoundSequence records least pattern
+    × IsSequenceEntryOf records pattern entry
 
 -- a run of `items` read the records of its files, and wrote all itemsets that earn the minimum in these
 abbrev pub ItemRunsWriteFound : Type 0
-ItemRunsWriteFound = (s : Streams) (engine : Engine) (least : ℤ) (top : Option ℕ) (told : List ℕ → Option (List ℕ)) →
+ItemRunsWriteFound =
+    (s : Streams) (engine : Engine) (least : ℤ) (top : Option ℕ) (told : List ℕ → Option (List ℕ)) →
     HasMined s Items engine least top told →
-    (records : List (List (ℕ × ℤ))) × (transactions told (names_of (mining Items engine least top) s.words) ≡ Ok records)
+    (records : List (List (ℕ × ℤ)))
+    × (transactions told (names_of (mining Items engine least top) s.words) ≡ Ok records)
     × WritesFound s Items (IsFoundItemset records least) top
 
 -- a run of `closed` wrote all closed ones
 abbrev pub ClosedRunsWriteFound : Type 0
-ClosedRunsWriteFound = (s : Streams) (engine : Engine) (least : ℤ) (top : Option ℕ) (told : List ℕ → Option (List ℕ)) →
+ClosedRunsWriteFound =
+    (s : Streams) (engine : Engine) (least : ℤ) (top : Option ℕ) (told : List ℕ → Option (List ℕ)) →
     HasMined s Closed engine least top told →
-    (records : List (List (ℕ × ℤ))) × (transactions told (names_of (mining Closed engine least top) s.words) ≡ Ok records)
+    (records : List (List (ℕ × ℤ)))
+    × (transactions told (names_of (mining Closed engine least top) s.words) ≡ Ok records)
     × WritesFound s Closed (IsFoundClosed records least) top
 
 -- a run of `seq` wrote all sequences, the records being lawful sequences
 abbrev pub SequenceRunsWriteFound : Type 0
-SequenceRunsWriteFound = (s : Streams) (engine : Engine) (least : ℤ) (top : Option ℕ) (told : List ℕ → Option (List ℕ)) →
+SequenceRunsWriteFound =
+    (s : Streams) (engine : Engine) (least : ℤ) (top : Option ℕ) (told : List ℕ → Option (List ℕ)) →
     HasMined s Sequences engine least top told →
-    (records : List (List (List (ℕ × ℤ)))) × (sequences told (names_of (mining Sequences engine least top) s.words) ≡ Ok records)
+    (records : List (List (List (ℕ × ℤ))))
+    × (sequences told (names_of (mining Sequences engine least top) s.words) ≡ Ok records)
     × (AllByRecursion IsSequence records → WritesFound s Sequences (IsFoundPattern records least) top)

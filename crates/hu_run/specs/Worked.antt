@@ -1,5 +1,21 @@
 -- Worked rows: what words ask for, what jobs come to, and the line of a refusal, by computation.
-use Rattle.std.specs.Prelude.{◌≡◌, ℕ, pos, Option, None, Some, Ok, Err, List, [], ◌∷◌, codes, length, replicate, refl}
+use Rattle.std.specs.Prelude.{
+  ◌≡◌,
+  ℕ,
+  pos,
+  Option,
+  None,
+  Some,
+  Ok,
+  Err,
+  List,
+  [],
+  ◌∷◌,
+  codes,
+  length,
+  replicate,
+  refl,
+}
 use Rattle.std.specs.Fmt.{digits}
 use Rattle.std.specs.Map.{lookup}
 use Rattle.std.specs.Str.{bytes_eq}
@@ -9,7 +25,17 @@ use Rattle.hu_lines.specs.Limits.{refusal}
 use Rattle.hu_trans.specs.declared.fault.Fault.TheVariants.{TotalDisagrees}
 use Rattle.hu_mine.specs.declared.engine.Engine.TheVariants.{Plain, Lists, Kept, Chain}
 use Rattle.hu_input.specs.declared.reason.Reason.TheVariants.{Transaction}
-use Rattle.hu_run.specs.declared.words.WordFault.TheVariants.{TooFewWords, TooManyWords, BadSeed, TaskUnknown, EngineNotOffered, BadMinimum, BadTop, BadLengths, TooManyFiles}
+use Rattle.hu_run.specs.declared.words.WordFault.TheVariants.{
+  TooFewWords,
+  TooManyWords,
+  BadSeed,
+  TaskUnknown,
+  EngineNotOffered,
+  BadMinimum,
+  BadTop,
+  BadLengths,
+  TooManyFiles,
+}
 use Rattle.hu_run.specs.Job.{job, drill, certify, check, mining, sizing, averaging}
 use Rattle.hu_run.specs.Ending.{Ending, writes, refuses, lacks, has_fault, denies, ending}
 use Rattle.hu_proof.specs.declared.fault.CheckFault.TheVariants.{NotOfForm}

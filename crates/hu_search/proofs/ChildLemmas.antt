@@ -31,12 +31,16 @@ unfolding FallsTo
 falls_to bound [] each = tt
 falls_to bound (c ∷ cs) each = (each 0 c (omega arith), falls_to bound cs (λ k d within. each (suc k) d (omega arith)))
 
-fall-far : (children : List Child) → ((i j : ℕ) (d : Child) → i ≤ j → j < length children → (get_or children j d).bound ≤ℤ (get_or children i d).bound) → Fall children
+fall-far : (children : List Child) → ((i j : ℕ) (d : Child) → i ≤ j → j < length children
+    → (get_or children j d).bound ≤ℤ (get_or children i d).bound) → Fall children
 unfolding FallsTo
 fall-far [] far = tt
-fall-far (c ∷ cs) far =
-    (falls_to c.bound cs (λ k d within. far 0 (suc k) d (omega arith) (omega arith)), fall-far cs (λ i j d upto within. far (suc i) (suc j) d (omega arith) (omega arith)))
+fall-far (c ∷ cs) far = (
+  falls_to c.bound cs (λ k d within. far 0 (suc k) d (omega arith) (omega arith)),
+  fall-far cs (λ i j d upto within. far (suc i) (suc j) d (omega arith) (omega arith)),
+)
 
 pub fall-sorted : (children : List Child) → IsSortedBy stands_before children → Fall children
 fall-sorted children up =
-    fall-far children (λ i j d upto within. not_before (get_or children i d) (get_or children j d) (sorted_far stands_before stands_before_order children up i j d upto within))
+    fall-far children (λ i j d upto within. not_before (get_or children i d) (get_or children j d)
+    (sorted_far stands_before stands_before_order children up i j d upto within))

@@ -1,5 +1,7 @@
 -- The keys of sets of ranks.
-use Rattle.std.proofs.Common.{◌≡◌, ◌≢◌, ℕ, zero, suc, ◌<◌, ◌+◌, true, false, eqb, pos, List, [], ◌∷◌, map, length, get_or, slice_get, slice_index, Some, refl, sym, ap, ◌∙◌, subst, inl, inr, arith, nat_cmp, is_eq, Ordering, Less, Equal, Greater}
+use Rattle.std.proofs.Common.{◌≡◌, ◌≢◌, ℕ, zero, suc, ◌<◌, ◌+◌, true, false, eqb, pos, List, [], ◌∷◌, map, length}
+use Rattle.std.proofs.Common.{get_or, slice_get, slice_index, Some, refl, sym, ap, ◌∙◌, subst, inl, inr, arith, nat_cmp}
+use Rattle.std.proofs.Common.{is_eq, Ordering, Less, Equal, Greater}
 use Rattle.std.specs.List.{AllByRecursion}
 use Rattle.std.specs.List.Sorted.{IsPermutation, IsNonDecreasing, IsNonDecreasingBy}
 use Rattle.std.specs.Ordering.{int_eq, int_cmp}
@@ -34,10 +36,16 @@ rising : (items : List Item) → IsNonDecreasingBy (λ item. item.0) items → I
 unfolding no_item
 rising items up i j d upto within =
     let size = length-map items (λ (item : Item). item.0) in
-    omega (arith, get_or-map (λ (item : Item). item.0) items i no_item d (omega arith), get_or-map (λ (item : Item). item.0) items j no_item d (omega arith), up i j no_item upto (omega arith))
+    omega (
+      arith,
+      get_or-map (λ (item : Item). item.0) items i no_item d (omega arith),
+      get_or-map (λ (item : Item). item.0) items j no_item d (omega arith),
+      up i j no_item upto (omega arith),
+    )
 
 -- items sorted by their numbers, of which each stands once
-pub sorted-items : (items sorted : List Item) → Once (numbers items) → IsPermutation items sorted → IsNonDecreasingBy (λ item. item.0) sorted → numbers sorted ≡ ranking nat_cmp (numbers items)
+pub sorted-items : (items sorted : List Item) → Once (numbers items) → IsPermutation items sorted
+    → IsNonDecreasingBy (λ item. item.0) sorted → numbers sorted ≡ ranking nat_cmp (numbers items)
 sorted-items items sorted o moved up =
     let moved_numbers = IsPermutation-map (λ (item : Item). item.0) items sorted moved in
     let apart = IsDistinct-IsPermutation eqb nat_eq_equiv.symm (numbers items) (numbers sorted) moved_numbers (IsDistinct-from_once (numbers items) o) in
@@ -50,7 +58,8 @@ sorted-items items sorted o moved up =
 abbrev pub items_at : List ℕ → List ℕ → List ℕ
 items_at table ranks = map (λ rank. slice_index table rank) ranks
 
-pub Once-items_at : (r : Ranking) → IsRanking r → (ranks : List ℕ) → Ascend ranks → AllByRecursion (λ rank. rank < length r.items) ranks → Once (items_at r.items ranks)
+pub Once-items_at : (r : Ranking) → IsRanking r → (ranks : List ℕ) → Ascend ranks
+    → AllByRecursion (λ rank. rank < length r.items) ranks → Once (items_at r.items ranks)
 Once-items_at r rules [] up within = tt
 Once-items_at r rules (x ∷ xs) up within = (out, Once-items_at r rules xs up.1 within.1)
   where
@@ -67,7 +76,8 @@ slice_get-index (y ∷ ys) zero x is = cc
 slice_get-index (y ∷ ys) (suc i) x is = slice_get-index ys i x is
 
 -- a key of sorted items
-pub key-sorted : (r : Ranking) → IsRanking r → (ranks : List ℕ) (items sorted : List Item) → Ascend ranks → AllByRecursion (λ rank. rank < length r.items) ranks → numbers items ≡ items_at r.items ranks
+pub key-sorted : (r : Ranking) → IsRanking r → (ranks : List ℕ) (items sorted : List Item) → Ascend ranks
+    → AllByRecursion (λ rank. rank < length r.items) ranks → numbers items ≡ items_at r.items ranks
     → IsPermutation items sorted → IsNonDecreasingBy (λ item. item.0) sorted → map (λ item. pos item.0) sorted ≡ key_of r.items ranks
 key-sorted r rules ranks items sorted up within is moved rise =
     let o : Once (numbers items) = subst Once (sym is) (Once-items_at r rules ranks up within) in
@@ -130,7 +140,9 @@ is_part-members (a ∷ xs) (b ∷ ys) up rise each = elim (cases_eq a b) [
 
 pub is_part-key_of : (table xs ys : List ℕ) → ((z : ℕ) → Member z xs → Member z ys) → is_part (key_of table xs) (key_of table ys) ≡ true
 is_part-key_of table xs ys each =
-    is_part-members (ranking nat_cmp (items_at table xs)) (ranking nat_cmp (items_at table ys)) (Ascend-ranking (items_at table xs)) (Ascend-ranking (items_at table ys))
+    is_part-members (ranking nat_cmp (items_at table xs)) (ranking nat_cmp (items_at table ys))
+    (Ascend-ranking (items_at table xs)) (Ascend-ranking (items_at table ys))
     (λ z m.
     let from = Member-from_map (λ rank. slice_index table rank) z xs (Member-from_ranking nat_cmp z (items_at table xs) m) in
-    Member-ranking z (items_at table ys) (subst (λ w. Member w (items_at table ys)) from.2 (Member-map (λ rank. slice_index table rank) from.0 ys (each from.0 from.1))))
+    Member-ranking z (items_at table ys) (subst (λ w. Member w (items_at table ys)) from.2
+    (Member-map (λ rank. slice_index table rank) from.0 ys (each from.0 from.1))))

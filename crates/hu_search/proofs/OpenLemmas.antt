@@ -15,14 +15,21 @@ use Rattle.hu_search.proofs.KeyLemmas.{IsRankSet-from, is_part-key_of}
 use Rattle.hu_search.proofs.lemmas.UnrankLemmas.{InTable-occurs}
 
 -- the key of a set of ranks may be asked about
-pub can_open : (table : Option (List ℕ)) (items ranks : List ℕ) (last : ℕ) (key : List ℤ) → RestsOn table items → Ascend (ranks ++ last ∷ []) → AllByRecursion (λ rank. rank < length items) (ranks ++ last ∷ [])
+pub can_open : (table : Option (List ℕ)) (items ranks : List ℕ) (last : ℕ) (key : List ℤ) → RestsOn table items
+    → Ascend (ranks ++ last ∷ []) → AllByRecursion (λ rank. rank < length items) (ranks ++ last ∷ [])
     → key ≡ key_of items (ranks ++ last ∷ []) → CanOpen table key last
 can_open None items ranks last key rests up within is = tt
-can_open (Some table) items ranks last key rests up within is =
-    (ranks, subst (λ t. IsRankSet t (ranks ++ last ∷ [])) (sym rests) (IsRankSet-from items (ranks ++ last ∷ []) up within), is ∙ ap (λ t. key_of t (ranks ++ last ∷ [])) (sym rests))
+can_open (Some table) items ranks last key rests up within is = (
+  ranks,
+  subst (λ t. IsRankSet t (ranks ++ last ∷ [])) (sym rests)
+      (IsRankSet-from items (ranks ++ last ∷ []) up within),
+  is ∙ ap (λ t. key_of t (ranks ++ last ∷ [])) (sym rests),
+)
 
 -- and what grows it by later ranks has a key that grows out of it
-pub is_grown : (table : Option (List ℕ)) (items ranks : List ℕ) (last : ℕ) (more : List ℕ) (key : List ℤ) → RestsOn table items → Ascend (ranks ++ last ∷ more) → AllByRecursion (λ rank. rank < length items) (ranks ++ last ∷ more)
+pub is_grown : (table : Option (List ℕ)) (items ranks : List ℕ) (last : ℕ) (more : List ℕ) (key : List ℤ)
+    → RestsOn table items → Ascend (ranks ++ last ∷ more)
+    → AllByRecursion (λ rank. rank < length items) (ranks ++ last ∷ more)
     → key ≡ key_of items (ranks ++ last ∷ []) → IsGrown table key last (key_of items (ranks ++ last ∷ more))
 is_grown None items ranks last more key rests up within is =
     subst (λ k. IsTrue (is_part k (key_of items (ranks ++ last ∷ more)))) (sym is) (is_part-key_of items (ranks ++ last ∷ []) (ranks ++ last ∷ more) front)
@@ -33,8 +40,15 @@ is_grown None items ranks last more key rests up within is =
       | inr (inl e) ↦ Member-append_right z ranks (last ∷ more) (inl e)
       | inr (inr none) ↦ absurd none
     ]
-is_grown (Some table) items ranks last more key rests up within is =
-    (ranks, more, subst (λ t. IsRankSet t (ranks ++ last ∷ more)) (sym rests) (IsRankSet-from items (ranks ++ last ∷ more) up within), is ∙ ap (λ t. key_of t (ranks ++ last ∷ [])) (sym rests), ap (λ t. key_of t (ranks ++ last ∷ more)) (sym rests))
+is_grown (Some table) items ranks last more key rests up within is = (
+  ranks,
+  more,
+  subst (λ t. IsRankSet t (ranks ++ last ∷ more)) (sym rests)
+      (IsRankSet-from items (ranks ++ last ∷ more) up within),
+  is
+      ∙ ap (λ t. key_of t (ranks ++ last ∷ [])) (sym rests),
+  ap (λ t. key_of t (ranks ++ last ∷ more)) (sym rests),
+)
 
 -- nothing counts that grows a set whose key is shut
 pub barren-shut : (r : Ranking) (s : State) (ranks : List ℕ) (last : ℕ) (key : List ℤ) → IsRanking r → RestsOn s.rule.table r.items

@@ -47,7 +47,8 @@ pub record Counts (s : State) (entry : Entry) : Type 0 where
 
 -- every set that counts and grows a set grows it by these ranks alone
 abbrev pub AreEnough : State → Ranking → List ℕ → List ℕ → Type 0
-AreEnough s r set ranks = (more : List ℕ) → Ascend (set ++ more) → 0 < support r.records (set ++ more) → Counts s (rank_entry r (set ++ more))
+AreEnough s r set ranks = (more : List ℕ) → Ascend (set ++ more)
+    → 0 < support r.records (set ++ more) → Counts s (rank_entry r (set ++ more))
     → AllByRecursion (Contains ranks) more
 
 -- no set counts that grows a set
@@ -60,7 +61,8 @@ IsBound s r set bound = (entry : Entry) → Grows r set entry → Counts s entry
 
 -- of the ranks of children those to be entered: each other one leads to nothing that counts, and the bounds hold
 pub record AreOpen (s : State) (r : Ranking) (set ranks : List ℕ) (chosen : List Child) : Type 0 where
-  pub others : (rank : ℕ) → Contains ranks rank → Contains (ranks_of chosen) rank ⊎ IsBarren s r (set ++ rank ∷ [])
+  pub others : (rank : ℕ) → Contains ranks rank
+      → Contains (ranks_of chosen) rank ⊎ IsBarren s r (set ++ rank ∷ [])
   pub bounds : AllByRecursion (λ child. IsBound s r (set ++ child.rank ∷ []) child.bound) chosen
 
 -- bounds that fall
@@ -70,4 +72,5 @@ Fall (child ∷ children) = AllByRecursion (λ later. later.bound ≤ℤ child.b
 
 -- all children were offered, and the first of those to be entered were entered
 abbrev pub IsUpto : Ranking → List ℕ → List ℕ → List Child → ℕ → Entry → Type 0
-IsUpto r set ranks chosen count entry = IsOneOf r set ranks entry ⊎ IsBelow r set (ranks_of (take count chosen)) entry
+IsUpto r set ranks chosen count entry =
+    IsOneOf r set ranks entry ⊎ IsBelow r set (ranks_of (take count chosen)) entry

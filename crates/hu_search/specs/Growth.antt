@@ -9,7 +9,13 @@ use Rattle.hu_collect.specs.Ranks.{key_of}
 
 -- the entry of a set of ranks
 abbrev pub rank_entry : Ranking → List ℕ → Entry
-rank_entry r ranks = record { key = key_of r.items ranks; utility = utility r.records ranks; support = support r.records ranks }
+rank_entry r ranks =
+    record {
+      key = key_of r.items ranks;
+      utility = utility r.records ranks;
+      support =
+          support r.records ranks;
+    }
 
 -- an entry is that of a set that grows a set by later ranks, and occurs
 pub record Grows (r : Ranking) (ranks : List ℕ) (entry : Entry) : Type 0 where

@@ -27,7 +27,8 @@ pub fn key_of(alloc: Global, ranked: &Ranked, ranks: &[u32], last: u32) -> Resul
 /// The items of ranks.
 fn items_of(alloc: Global, ranked: &Ranked, ranks: &[u32]) -> Result<Vec<Item>, NoMemory>
     requires { InTable ranked.now ranks.now }
-    ensures { IfOk result (λ items. map (λ item. item.0) items.items ≡ map (λ rank. slice_index ranked.now.items rank) ranks.now) }
+    ensures { IfOk result (λ items. map (λ item. item.0) items.items
+        ≡ map (λ rank. slice_index ranked.now.items rank) ranks.now) }
 {
     let mut items = Vec::new(alloc);
     for rank in ranks {

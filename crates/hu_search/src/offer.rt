@@ -27,7 +27,8 @@ pub fn offer_children<C: Collect>(
     requires rules { IsRanking ranked.now }
     requires children { AreChildren ranked.now ranks.now children.now }
     requires ordered { IsInOrder (C.state collect.old) }
-    ensures { Searches (C.state collect.old) (IsOneOf ranked.now ranks.now (ranks_of children.now)) (C.state collect.new) result }
+    ensures { Searches (C.state collect.old) (IsOneOf ranked.now ranks.now (ranks_of children.now))
+        (C.state collect.new) result }
 {
     for child in children {
         offer_child(alloc, ranked, ranks, child, collect)?;
@@ -45,7 +46,8 @@ fn offer_child<C: Collect>(
 ) -> Result<(), NoMemory>
     requires rules { IsRanking ranked.now }
     requires child { IsChild ranked.now ranks.now child.now }
-    ensures { Takes (C.state collect.old) (rank_entry ranked.now (ranks.now ++ child.now.rank ∷ []) ∷ []) (C.state collect.new) result }
+    ensures { Takes (C.state collect.old) (rank_entry ranked.now (ranks.now ++ child.now.rank ∷ []) ∷ [])
+        (C.state collect.new) result }
 {
     if child.utility < collect.floor() {
         return Ok(());
@@ -69,7 +71,8 @@ pub fn opens<C: Collect>(
     requires table { InTable ranked.now (ranks.now ++ rank ∷ []) }
     requires ascending { Ascend (ranks.now ++ rank ∷ []) }
     requires rests { RestsOn (C.state collect.now).rule.table ranked.now.items }
-    ensures { IfOk result (λ opens. opens ≡ false → IsBarren (C.state collect.now) ranked.now (ranks.now ++ rank ∷ [])) }
+    ensures { IfOk result (λ opens. opens ≡ false → IsBarren (C.state collect.now) ranked.now
+        (ranks.now ++ rank ∷ [])) }
 {
     let key = key_of(alloc, ranked, ranks, rank)?;
     Ok(collect.opens(&key, rank))

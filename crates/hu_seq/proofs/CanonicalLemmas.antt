@@ -1,5 +1,7 @@
 -- The canonical line of a sequence says that sequence.
-use Rattle.std.proofs.Common.{◌≡◌, ℕ, ◌+◌, ◌<◌, ◌≤◌, ◌^◌, nat_lt, ℤ, pos, unsigned_abs, true, false, not, None, Ok, List, [], ◌∷◌, ◌++◌, length, filter_map, refl, sym, ap, ◌∙◌, arith, position, sum_by, subst}
+use Rattle.std.proofs.Common.{◌≡◌, ℕ, ◌+◌, ◌<◌, ◌≤◌, ◌^◌, nat_lt, ℤ, pos, unsigned_abs, true, false, not, None, Ok}
+use Rattle.std.proofs.Common.{List, [], ◌∷◌, ◌++◌, length, filter_map, refl, sym, ap, ◌∙◌, arith, position, sum_by}
+use Rattle.std.proofs.Common.{subst}
 use Rattle.std.specs.Bool.{then_some}
 use Rattle.std.specs.List.{AllByRecursion, AllAdjacentBelow, AllZip, count_by, list_any}
 use Rattle.std.specs.List.Sorted.{IsStrictlyIncreasing}

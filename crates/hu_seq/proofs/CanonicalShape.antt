@@ -1,5 +1,7 @@
 -- The tokens of the canonical line of a sequence have no fault in their order, and their itemsets are those of the sequence.
-use Rattle.std.proofs.Common.{◌≡◌, ℕ, ◌-◌, ◌<◌, ℤ, pos, Bool, true, false, not, ◌||◌, None, Some, is_none, slice_get, List, [], ◌∷◌, ◌++◌, length, map, take, refl, sym, ap, ◌∙◌, append_assoc, length-append, arith, position}
+use Rattle.std.proofs.Common.{◌≡◌, ℕ, ◌-◌, ◌<◌, ℤ, pos, Bool, true, false, not, ◌||◌, None, Some, is_none, slice_get}
+use Rattle.std.proofs.Common.{List, [], ◌∷◌, ◌++◌, length, map, take, refl, sym, ap, ◌∙◌, append_assoc, length-append}
+use Rattle.std.proofs.Common.{arith, position}
 use Rattle.std.specs.Bool.{then_some}
 use Rattle.std.specs.List.{AllByRecursion, before_first, after_first, list_any, position_or_len, slice_split}
 use Rattle.std.specs.Option.{option_map_or}
@@ -10,7 +12,8 @@ use Rattle.hu_seq.specs.declared.fault.SeqFault.TheVariants.{NoEnd, AfterEnd, Op
 use Rattle.hu_seq.specs.declared.token.Token.{Token}
 use Rattle.hu_seq.specs.declared.token.Token.TheVariants.{ItemsetEnd, SequenceEnd, Total}
 use Rattle.hu_seq.specs.Token.{is_cell, is_itemset_end, is_sequence_end, is_total}
-use Rattle.hu_seq.specs.Reading.{body, cells, itemsets, first_is, last_is, has_two_ends, is_total_or_nothing, after_end, open_itemset, empty_itemset, no_items, order_faults}
+use Rattle.hu_seq.specs.Reading.{body, cells, itemsets, first_is, last_is, has_two_ends, is_total_or_nothing, after_end}
+use Rattle.hu_seq.specs.Reading.{open_itemset, empty_itemset, no_items, order_faults}
 use Rattle.hu_seq.proofs.CanonicalTokens.{cell_token, front, ending}
 use Rattle.hu_seq.proofs.lemmas.Cuts.{slice_split-append, split-whole}
 use Rattle.hu_seq.proofs.lemmas.Firsts.{place-append, position-append, before_first-append, after_first-append, after_first-here, any-none}

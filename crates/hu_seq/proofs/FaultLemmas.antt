@@ -1,5 +1,7 @@
 -- The first fault of a line, and what stands where a check finds none.
-use Rattle.std.proofs.Common.{◌≡◌, ℕ, ◌+◌, ◌-◌, ◌^◌, ◌<◌, ◌≤◌, ℤ, pos, int_lt, nat_lt, Bool, true, false, Option, None, Some, Result, Ok, Err, List, [], ◌∷◌, ◌++◌, map, refl, sym, ap, ◌∙◌, length, get_or, arith, sum_by, filter_map, IfOk, IfErr, OnOk, ◌⊎◌, inl, inr}
+use Rattle.std.proofs.Common.{◌≡◌, ℕ, ◌+◌, ◌-◌, ◌^◌, ◌<◌, ◌≤◌, ℤ, pos, int_lt, nat_lt, Bool, true, false, Option, None}
+use Rattle.std.proofs.Common.{Some, Result, Ok, Err, List, [], ◌∷◌, ◌++◌, map, refl, sym, ap, ◌∙◌, length, get_or}
+use Rattle.std.proofs.Common.{arith, sum_by, filter_map, IfOk, IfErr, OnOk, ◌⊎◌, inl, inr}
 use Rattle.std.specs.Bool.{then_some}
 use Rattle.std.specs.List.{All, AllByRecursion, AllZip, count_by, list_any, position, position_or_len, slice_split}
 use Rattle.std.specs.Option.{option_map, option_map_or}
@@ -21,10 +23,13 @@ use Rattle.hu_seq.specs.declared.fault.SeqFault.TheVariants.{TooManyItems, ItemO
 use Rattle.hu_seq.specs.declared.token.Token.{Token}
 use Rattle.hu_seq.specs.declared.token.Token.TheVariants.{ItemsetEnd, SequenceEnd}
 use Rattle.hu_seq.specs.Token.{is_cell, is_itemset_end, is_out_of_range, is_negative, pair_in, sum_in}
-use Rattle.hu_seq.specs.Reading.{known, cells, body, itemsets, bad_token, too_many_items, item_out_of_range, duplicate_item, negative, sum_too_large, total_disagrees, order_faults, cell_faults, reading}
+use Rattle.hu_seq.specs.Reading.{known, cells, body, itemsets, bad_token, too_many_items, item_out_of_range}
+use Rattle.hu_seq.specs.Reading.{duplicate_item, negative, sum_too_large, total_disagrees, order_faults, cell_faults}
+use Rattle.hu_seq.specs.Reading.{reading}
 use Rattle.hu_seq.specs.Itemset.{IsSound, IsOrdered}
 use Rattle.hu_seq.proofs.ShapeLemmas.{IsShaped, IsShaped-full, neither, not_any, then_none}
-use Rattle.hu_seq.proofs.SumLemmas.{any-parts, end_in_range, ordered-length, ordered-absolute, ordered-negative, ordered-some, length-cells, any_negative-cells, total-absolute, cells-after}
+use Rattle.hu_seq.proofs.SumLemmas.{any-parts, end_in_range, ordered-length, ordered-absolute, ordered-negative}
+use Rattle.hu_seq.proofs.SumLemmas.{ordered-some, length-cells, any_negative-cells, total-absolute, cells-after}
 
 -- ---- the faults of known tokens, one group of checks after another
 
@@ -35,15 +40,19 @@ abbrev pub item_faults : List Token → List (Option SeqFault)
 item_faults told = too_many_items told ∷ item_out_of_range told ∷ []
 
 abbrev later_faults : List Token → List (Option SeqFault)
-later_faults told = duplicate_item (itemsets (body told)) ∷ negative told ∷ sum_too_large (cells told) ∷ total_disagrees (filter_map sum_in told) (cells told) ∷ []
+later_faults told =
+    duplicate_item (itemsets (body told)) ∷ negative told ∷ sum_too_large (cells told) ∷ total_disagrees
+    (filter_map sum_in told) (cells told) ∷ []
 
 pub faults-order : (told : List Token) (fault : SeqFault) → first_some (order_faults told) ≡ Some fault → first_some (all_faults told) ≡ Some fault
 faults-order told fault h = first_before (order_faults told) (cell_faults told) fault h
 
-pub faults-items : (told : List Token) (fault : SeqFault) → first_some (order_faults told) ≡ None → first_some (item_faults told) ≡ Some fault → first_some (all_faults told) ≡ Some fault
+pub faults-items : (told : List Token) (fault : SeqFault) → first_some (order_faults told) ≡ None
+    → first_some (item_faults told) ≡ Some fault → first_some (all_faults told) ≡ Some fault
 faults-items told fault order h = first_later (order_faults told) (cell_faults told) order ∙ first_before (item_faults told) (later_faults told) fault h
 
-later : (told : List Token) → first_some (order_faults told) ≡ None → first_some (item_faults told) ≡ None → first_some (all_faults told) ≡ first_some (later_faults told)
+later : (told : List Token) → first_some (order_faults told) ≡ None → first_some (item_faults told) ≡ None
+    → first_some (all_faults told) ≡ first_some (later_faults told)
 later told order items = first_later (order_faults told) (cell_faults told) order ∙ first_later (item_faults told) (later_faults told) items
 
 pub faults-twice : (told : List Token) (fault : SeqFault) → first_some (order_faults told) ≡ None → first_some (item_faults told) ≡ None
@@ -62,15 +71,19 @@ pub faults-total : (told : List Token) → first_some (order_faults told) ≡ No
     → duplicate_item (itemsets (body told)) ≡ None → negative told ≡ None → sum_too_large (cells told) ≡ None
     → first_some (all_faults told) ≡ total_disagrees (filter_map sum_in told) (cells told)
 faults-total told order items once above fits =
-    later told order items ∙ first_skip _ _ once ∙ first_skip _ _ above ∙ first_skip _ _ fits ∙ first_alone (total_disagrees (filter_map sum_in told) (cells told))
+    later told order items ∙ first_skip _ _ once ∙ first_skip _ _ above ∙ first_skip _ _ fits
+    ∙ first_alone (total_disagrees (filter_map sum_in told) (cells told))
 
 -- ---- the reading of a line
 
 pub reading-bad : (line : List ℕ) (fault : SeqFault) → bad_token (tokens line) ≡ Some fault → reading line ≡ Err fault
 unfolding reading
-reading-bad line fault h = ap (λ first. option_map_or Err first (Ok (map by_item (itemsets (body (known line)))))) (first_here (bad_token (tokens line)) (all_faults (known line)) fault h)
+reading-bad line fault h =
+    ap (λ first. option_map_or Err first (Ok (map by_item (itemsets (body (known line))))))
+    (first_here (bad_token (tokens line)) (all_faults (known line)) fault h)
 
-reading-from : (line : List ℕ) (told : List Token) → told ≡ known line → bad_token (tokens line) ≡ None → reading line ≡ option_map_or Err (first_some (all_faults told)) (Ok (map by_item (itemsets (body told))))
+reading-from : (line : List ℕ) (told : List Token) → told ≡ known line → bad_token (tokens line) ≡ None → reading line
+    ≡ option_map_or Err (first_some (all_faults told)) (Ok (map by_item (itemsets (body told))))
 unfolding reading
 reading-from line told is h =
     ap (λ first. option_map_or Err first (Ok (map by_item (itemsets (body (known line)))))) (first_skip (bad_token (tokens line)) (all_faults (known line)) h)
@@ -99,14 +112,19 @@ at_most n h = grind (arith, nat_tests)
 pub sound-parts : (told : List Token) → IsShaped told → first_some (item_faults told) ≡ None → All IsSound (slice_split is_itemset_end (body told))
 sound-parts told shape items =
     let places = two_none (too_many_items told) (item_out_of_range told) items in
-    let none : list_any is_out_of_range told ≡ false = none_passes is_out_of_range told (map_none (λ k. ItemOutOfRange (k + 1)) (position is_out_of_range told) places.1) in
+    let none : list_any is_out_of_range told ≡ false =
+    none_passes is_out_of_range told (map_none (λ k. ItemOutOfRange (k + 1))
+    (position is_out_of_range told) places.1) in
     let front : list_any is_out_of_range (body told) ≡ false =
     (neither (list_any is_out_of_range (body told)) (list_any is_out_of_range (ItemsetEnd ∷ SequenceEnd ∷ shape.rest))
     (sym (list_any-append is_out_of_range (body told) (ItemsetEnd ∷ SequenceEnd ∷ shape.rest)) ∙ sym (ap (list_any is_out_of_range) shape.is) ∙ none)).0 in
-    let parts : list_any (list_any is_out_of_range) (slice_split is_itemset_end (body told)) ≡ false = any-parts is_out_of_range end_in_range (body told) ∙ front in
+    let parts : list_any (list_any is_out_of_range) (slice_split is_itemset_end (body told)) ≡ false =
+    any-parts is_out_of_range end_in_range (body told) ∙ front in
     λ k d within. record {
       some = IsShaped-full told shape k d within;
-      in_range = λ j e inside. not_any is_out_of_range (get_or (slice_split is_itemset_end (body told)) k d) j e inside (not_any (list_any is_out_of_range) (slice_split is_itemset_end (body told)) k d within parts);
+      in_range =
+          λ j e inside. not_any is_out_of_range (get_or (slice_split is_itemset_end (body told)) k d) j e inside
+          (not_any (list_any is_out_of_range) (slice_split is_itemset_end (body told)) k d within parts);
     }
 
 -- the cells of a line are those of its body
@@ -132,12 +150,16 @@ pub record AreTold (told : List Token) (elements : List (List (ℕ × ℤ))) : T
   pub none_below : list_any any_negative elements ≡ false
   pub sum : total (cells told) ≡ pos (sum_by absolute_of elements)
 
-pub AreTold-from : (told : List Token) (elements : List (List (ℕ × ℤ))) → IsShaped told → first_some (item_faults told) ≡ None → AllZip IsOrdered (itemsets (body told)) elements → negative told ≡ None → AreTold told elements
+pub AreTold-from : (told : List Token) (elements : List (List (ℕ × ℤ))) → IsShaped told → first_some (item_faults told)
+    ≡ None → AllZip IsOrdered (itemsets (body told)) elements → negative told ≡ None → AreTold told elements
 AreTold-from told elements shape items ordered above =
     let places = two_none (too_many_items told) (item_out_of_range told) items in
-    let count : count_by is_cell told ≤ 4096 = at_most (count_by is_cell told) (then_none (nat_lt 4096 (count_by is_cell told)) (TooManyItems (count_by is_cell told)) places.0) in
+    let count : count_by is_cell told ≤ 4096 =
+    at_most (count_by is_cell told) (then_none (nat_lt 4096 (count_by is_cell told))
+    (TooManyItems (count_by is_cell told)) places.0) in
     let same = cells-body told shape in
-    let below : any_negative (cells told) ≡ false = any_negative-cells told ∙ none_passes is_negative told (map_none (λ k. Negative (k + 1)) (position is_negative told) above) in
+    let below : any_negative (cells told) ≡ false = any_negative-cells told
+    ∙ none_passes is_negative told (map_none (λ k. Negative (k + 1)) (position is_negative told) above) in
     record {
       itemsets = ordered-rules (itemsets (body told)) elements ordered;
       some = omega (
@@ -160,16 +182,19 @@ large sum h = grind (arith, nat_tests)
 small : (sum : ℕ) → sum < 2 ^ 127 → int_lt (pos (2 ^ 127 - 1)) (pos sum) ≡ false
 small sum h = grind (arith, nat_tests)
 
-sum_too_large-yes : (told : List Token) (elements : List (List (ℕ × ℤ))) → AreTold told elements → 2 ^ 127 ≤ sum_by absolute_of elements → sum_too_large (cells told) ≡ Some SumTooLarge
+sum_too_large-yes : (told : List Token) (elements : List (List (ℕ × ℤ))) → AreTold told elements
+    → 2 ^ 127 ≤ sum_by absolute_of elements → sum_too_large (cells told) ≡ Some SumTooLarge
 sum_too_large-yes told elements kept h =
     ap (λ test. then_some test SumTooLarge) (ap (int_lt (pos (2 ^ 127 - 1))) kept.sum ∙ large (sum_by absolute_of elements) h)
 
-pub sum_too_large-no : (told : List Token) (elements : List (List (ℕ × ℤ))) → AreTold told elements → sum_by absolute_of elements < 2 ^ 127 → sum_too_large (cells told) ≡ None
+pub sum_too_large-no : (told : List Token) (elements : List (List (ℕ × ℤ))) → AreTold told elements
+    → sum_by absolute_of elements < 2 ^ 127 → sum_too_large (cells told) ≡ None
 sum_too_large-no told elements kept h =
     ap (λ test. then_some test SumTooLarge) (ap (int_lt (pos (2 ^ 127 - 1))) kept.sum ∙ small (sum_by absolute_of elements) h)
 
 -- elements that make no sequence have too large a sum
-pub sum_too_large-from : (told : List Token) (elements : List (List (ℕ × ℤ))) → AreTold told elements → (IsSequence elements → ⊥) → sum_too_large (cells told) ≡ Some SumTooLarge
+pub sum_too_large-from : (told : List Token) (elements : List (List (ℕ × ℤ))) → AreTold told elements
+    → (IsSequence elements → ⊥) → sum_too_large (cells told) ≡ Some SumTooLarge
 sum_too_large-from told elements kept never =
     elim (cases_lt (sum_by absolute_of elements) (2 ^ 127)) [
       | inl fits ↦ absurd (never (IsSequence-from told elements kept fits))
@@ -185,7 +210,8 @@ reading-ok line told is good (Ok one) value none =
 reading-ok line told is good (Err fault) value none = tt
 
 pub reading-err : (line : List ℕ) (told : List Token) → told ≡ known line → bad_token (tokens line) ≡ None → (read : Result (List (List (ℕ × ℤ))) SeqFault)
-    → IfErr read (λ fault. (fault ≡ NoMemory) ⊎ (first_some (all_faults told) ≡ Some fault)) → IfErr read (λ fault. (fault ≡ NoMemory) ⊎ (reading line ≡ Err fault))
+    → IfErr read (λ fault. (fault ≡ NoMemory) ⊎ (first_some (all_faults told) ≡ Some fault))
+    → IfErr read (λ fault. (fault ≡ NoMemory) ⊎ (reading line ≡ Err fault))
 reading-err line told is good (Ok one) fault = tt
 reading-err line told is good (Err e) (inl memory) = inl memory
 reading-err line told is good (Err e) (inr first) =

@@ -18,7 +18,8 @@ use Rattle.hu_seq.specs.Token.{is_itemset_end, pair_in}
 use Rattle.hu_seq.specs.Reading.{cells, duplicate_item, itemsets}
 use Rattle.hu_seq.specs.Itemset.{IsOrdered}
 
-cells-more : (told : List Token) (i : ℕ) (d : Token) → i < length told → cells (take (i + 1) told) ≡ cells (take i told) ++ cons_option (pair_in (get_or told i d)) []
+cells-more : (told : List Token) (i : ℕ) (d : Token) → i < length told → cells (take (i + 1) told)
+    ≡ cells (take i told) ++ cons_option (pair_in (get_or told i d)) []
 cells-more told i d within = ap cells (take_more told i d within) ∙ filter_map-append pair_in (take i told) (get_or told i d ∷ [])
 
 -- one more token, which is a cell
@@ -61,16 +62,19 @@ pub IsOrdered-push : (told : List Token) (n : ℕ) (part : List Token) (elements
     → AllZip IsOrdered (take n (itemsets told)) elements → IsOrdered (cells part) element
     → AllZip IsOrdered (take (n + 1) (itemsets told)) (elements ++ element ∷ [])
 IsOrdered-push told n part elements element within is so_far this =
-    let more : take (n + 1) (itemsets told) ≡ take n (itemsets told) ++ get_or (itemsets told) n (cells part) ∷ [] = take_more (itemsets told) n (cells part) (omega (arith, length-itemsets told)) in
+    let more : take (n + 1) (itemsets told) ≡ take n (itemsets told) ++ get_or (itemsets told) n (cells part) ∷ [] =
+    take_more (itemsets told) n (cells part) (omega (arith, length-itemsets told)) in
     rw (more, set_at told n part within is) (AllZip-push IsOrdered (take n (itemsets told)) elements (cells part) element so_far this)
 
-first_alone : (f : ℕ → SeqFault) (o : Option ℕ) (os : List (Option ℕ)) (fault : SeqFault) → option_map f (first_some (o ∷ [])) ≡ Some fault → option_map f (first_some (o ∷ os)) ≡ Some fault
+first_alone : (f : ℕ → SeqFault) (o : Option ℕ) (os : List (Option ℕ)) (fault : SeqFault)
+    → option_map f (first_some (o ∷ [])) ≡ Some fault → option_map f (first_some (o ∷ os)) ≡ Some fault
 first_alone f None os fault h = cc
 first_alone f (Some x) os fault h = h
 
 -- an item stands twice in an itemset, and none in those before it
 duplicate_at : (sets : List (List (ℕ × ℤ))) (n : ℕ) (elements : List (List (ℕ × ℤ))) (set : List (ℕ × ℤ)) (fault : SeqFault)
-    → n < length sets → get_or sets n set ≡ set → AllZip IsOrdered (take n sets) elements → duplicate_item (set ∷ []) ≡ Some fault → duplicate_item sets ≡ Some fault
+    → n < length sets → get_or sets n set ≡ set → AllZip IsOrdered (take n sets) elements → duplicate_item (set ∷ [])
+    ≡ Some fault → duplicate_item sets ≡ Some fault
 duplicate_at [] n elements set fault within here so_far this = absurd (omega arith)
 duplicate_at (s ∷ ss) zero elements set fault within here so_far this =
     let same : duplicate_item (s ∷ []) ≡ Some fault = rw here this in

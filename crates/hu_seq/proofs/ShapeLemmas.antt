@@ -1,5 +1,7 @@
 -- Tokens in whose order there is no fault.
-use Rattle.std.proofs.Common.{◌≡◌, ℕ, ◌+◌, ◌-◌, ◌<◌, ◌≤◌, Bool, true, false, not, ◌&&◌, ◌||◌, Option, None, Some, List, [], ◌∷◌, ◌++◌, refl, sym, ap, ◌∙◌, length, take, drop, drop-cons, get_or, arith, suc, zero, subst}
+use Rattle.std.proofs.Common.{◌≡◌, ℕ, ◌+◌, ◌-◌, ◌<◌, ◌≤◌, Bool, true, false, not, ◌&&◌, ◌||◌, Option, None, Some, List}
+use Rattle.std.proofs.Common.{[], ◌∷◌, ◌++◌, refl, sym, ap, ◌∙◌, length, take, drop, drop-cons, get_or, arith, suc}
+use Rattle.std.proofs.Common.{zero, subst}
 use Rattle.std.specs.Bool.{then_some}
 use Rattle.std.specs.List.{All, AllByRecursion, before_first, after_first, onto_first, slice_split, list_all, list_any, position, position_or_len}
 use Rattle.std.specs.Option.{is_none, option_map_or}
@@ -17,7 +19,8 @@ use Rattle.hu_seq.specs.declared.fault.SeqFault.TheVariants.{NoEnd, AfterEnd, Op
 use Rattle.hu_seq.specs.declared.token.Token.{Token}
 use Rattle.hu_seq.specs.declared.token.Token.TheVariants.{Cell, ItemsetEnd, SequenceEnd, Total}
 use Rattle.hu_seq.specs.Token.{is_cell, is_itemset_end, is_sequence_end, is_total}
-use Rattle.hu_seq.specs.Reading.{cells, no_end, after_end, open_itemset, empty_itemset, no_items, body, first_is, last_is, has_two_ends, is_total_or_nothing, order_faults}
+use Rattle.hu_seq.specs.Reading.{cells, no_end, after_end, open_itemset, empty_itemset, no_items, body, first_is}
+use Rattle.hu_seq.specs.Reading.{last_is, has_two_ends, is_total_or_nothing, order_faults}
 
 -- a cell, or the end of an itemset
 abbrev pub is_inner : Token → Bool
@@ -88,16 +91,20 @@ last_at test told n k d next within =
     rw place (ap (λ o. option_map_or test o false) (slice_get-get_or (take n told) k d (omega arith)) ∙ ap test (get_or-take n told k d (omega arith)))
 
 -- the faults in the order of tokens that end at n, of which the last before the end stands at k
-shaped_at : (told : List Token) (n k : ℕ) → position_or_len is_sequence_end told ≡ n → n ≡ k + 1 → n < length told → is_sequence_end (get_or told n ItemsetEnd) ≡ true
+shaped_at : (told : List Token) (n k : ℕ) → position_or_len is_sequence_end told ≡ n → n ≡ k + 1 → n < length told
+    → is_sequence_end (get_or told n ItemsetEnd) ≡ true
     → list_any is_total (take n told) ≡ false → is_total_or_nothing (drop (n + 1) told) ≡ true → last_is is_cell (take n told) ≡ false
     → first_is is_itemset_end told ≡ false → has_two_ends told ≡ false → IsShaped told
 shaped_at told n k place next within ends totals after closed first apart =
-    let before : (j : ℕ) (d : Token) → j < n → is_sequence_end (get_or told j d) ≡ false = λ j d below. fails_before_first is_sequence_end told j d (omega arith) in
+    let before : (j : ℕ) (d : Token) → j < n → is_sequence_end (get_or told j d) ≡ false =
+    λ j d below. fails_before_first is_sequence_end told j d (omega arith) in
     let size : length (take n told) ≡ n = length-take-le n told (omega arith) in
     let total_free : (j : ℕ) (d : Token) → j < n → is_total (get_or told j d) ≡ false =
     λ j d below. sym (ap is_total (get_or-take n told j d below)) ∙ not_any is_total (take n told) j d (omega arith) totals in
     let cell_free : is_cell (get_or told k ItemsetEnd) ≡ false = sym (last_at is_cell told n k ItemsetEnd next (omega arith)) ∙ closed in
-    let last : get_or told k ItemsetEnd ≡ ItemsetEnd = itemset_end_is (get_or told k ItemsetEnd) cell_free (total_free k ItemsetEnd (omega arith)) (before k ItemsetEnd (omega arith)) in
+    let last : get_or told k ItemsetEnd ≡ ItemsetEnd =
+    itemset_end_is (get_or told k ItemsetEnd) cell_free (total_free k ItemsetEnd (omega arith))
+    (before k ItemsetEnd (omega arith)) in
     let end : get_or told n ItemsetEnd ≡ SequenceEnd = sequence_end_is (get_or told n ItemsetEnd) ends in
     let here : position_or_len is_sequence_end told - 1 ≡ k = omega arith in
     let front : body told ≡ take k told = ap (λ m. take m told) here in
@@ -112,7 +119,8 @@ shaped_at told n k place next within ends totals after closed first apart =
     ∙ ap (λ m. ItemsetEnd ∷ SequenceEnd ∷ drop m told) beyond in
     record {
       rest = drop (n + 1) told;
-      is = sym (take-append-drop k told) ∙ ap (λ more. take k told ++ more) back ∙ ap (λ part. part ++ ItemsetEnd ∷ SequenceEnd ∷ drop (n + 1) told) (sym front);
+      is = sym (take-append-drop k told) ∙ ap (λ more. take k told ++ more) back
+          ∙ ap (λ part. part ++ ItemsetEnd ∷ SequenceEnd ∷ drop (n + 1) told) (sym front);
       inner = rw front (list_all-from_AllPass is_inner (take k told) (λ j d short.
           let below : j < k = omega (arith, length-take-le k told (omega arith)) in
           ap is_inner (get_or-take k told j d below) ∙ inner_is (get_or told j d) (total_free j d (omega arith)) (before j d (omega arith))));
@@ -123,7 +131,8 @@ shaped_at told n k place next within ends totals after closed first apart =
 
 shaped_where : (told : List Token) (found : Option ℕ) → position is_sequence_end told ≡ found → is_none (position is_sequence_end told) ≡ false
     → (list_any is_total (before_first is_sequence_end told) || not (is_total_or_nothing (after_first is_sequence_end told))) ≡ false
-    → last_is is_cell (before_first is_sequence_end told) ≡ false → (first_is is_itemset_end told || has_two_ends told) ≡ false → first_is is_sequence_end told ≡ false → IsShaped told
+    → last_is is_cell (before_first is_sequence_end told) ≡ false → (first_is is_itemset_end told || has_two_ends told)
+    ≡ false → first_is is_sequence_end told ≡ false → IsShaped told
 shaped_where told None is ended after closed empty some = let never : true ≡ false = sym (ap is_none is) ∙ ended in cc
 shaped_where told (Some zero) is ended after closed empty some =
     let place = position-Some is_sequence_end told 0 ItemsetEnd is in
@@ -206,7 +215,8 @@ full_parts (token ∷ front) back inner apart last =
 
 pub IsShaped-full : (told : List Token) → IsShaped told → All (λ part. 0 < length (cells part)) (slice_split is_itemset_end (body told))
 IsShaped-full told shape =
-    let first : first_is is_itemset_end (body told ++ ItemsetEnd ∷ SequenceEnd ∷ shape.rest) ≡ false = sym (ap (first_is is_itemset_end) shape.is) ∙ shape.first in
+    let first : first_is is_itemset_end (body told ++ ItemsetEnd ∷ SequenceEnd ∷ shape.rest) ≡ false =
+    sym (ap (first_is is_itemset_end) shape.is) ∙ shape.first in
     let apart : has_two_ends (body told ++ ItemsetEnd ∷ SequenceEnd ∷ shape.rest) ≡ false = sym (ap has_two_ends shape.is) ∙ shape.apart in
     let parts = full_parts (body told) (ItemsetEnd ∷ SequenceEnd ∷ shape.rest) shape.inner apart refl in
     All-from_recursion (λ part. 0 < length (cells part)) (slice_split is_itemset_end (body told)) (parts.1 first)

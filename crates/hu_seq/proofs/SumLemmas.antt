@@ -1,5 +1,6 @@
 -- What holds of the cells of a body holds of its parts, of its itemsets and of the elements made of them.
-use Rattle.std.proofs.Common.{◌≡◌, ℕ, ◌+◌, ℤ, pos, negsuc, ◌+ℤ◌, unsigned_abs, int_lt, Bool, true, false, cond, ◌||◌, Option, None, Some, List, [], ◌∷◌, ◌++◌, map, refl, sym, ap, ◌∙◌, length, arith, sum_by}
+use Rattle.std.proofs.Common.{◌≡◌, ℕ, ◌+◌, ℤ, pos, negsuc, ◌+ℤ◌, unsigned_abs, int_lt, Bool, true, false, cond, ◌||◌}
+use Rattle.std.proofs.Common.{Option, None, Some, List, [], ◌∷◌, ◌++◌, map, refl, sym, ap, ◌∙◌, length, arith, sum_by}
 use Rattle.std.specs.List.{AllZip, cons_option, count_by, flat_map, list_any, onto_first, slice_split}
 use Rattle.std.specs.List.Sorted.{IsPermutation}
 use Rattle.std.proofs.lemmas.List.Folds.{list_any-append}
@@ -27,16 +28,20 @@ or_false : (a : Bool) → (a || false) ≡ a
 or_false true = refl
 or_false false = refl
 
-any-onto_first : (test : Token → Bool) (token : Token) (parts : List (List Token)) → list_any (list_any test) (onto_first token parts) ≡ (test token || list_any (list_any test) parts)
+any-onto_first : (test : Token → Bool) (token : Token) (parts : List (List Token))
+    → list_any (list_any test) (onto_first token parts) ≡ (test token || list_any (list_any test) parts)
 any-onto_first test token [] = or_false (test token || false)
 any-onto_first test token (part ∷ parts) = or_assoc (test token) (list_any test part) (list_any (list_any test) parts)
 
 -- a test that no end of an itemset passes is passed in the parts where it is passed in the body
-pub any-parts : (test : Token → Bool) → ((token : Token) → is_itemset_end token ≡ true → test token ≡ false) → (told : List Token) → list_any (list_any test) (slice_split is_itemset_end told) ≡ list_any test told
+pub any-parts : (test : Token → Bool) → ((token : Token) → is_itemset_end token ≡ true → test token ≡ false)
+    → (told : List Token) → list_any (list_any test) (slice_split is_itemset_end told) ≡ list_any test told
 any-parts test ends [] = refl
 any-parts test ends (token ∷ told) = step (is_itemset_end token) refl (any-parts test ends told)
   where
-    step : (b : Bool) → is_itemset_end token ≡ b → list_any (list_any test) (slice_split is_itemset_end told) ≡ list_any test told → list_any (list_any test) (slice_split is_itemset_end (token ∷ told)) ≡ (test token || list_any test told)
+    step : (b : Bool) → is_itemset_end token ≡ b → list_any (list_any test) (slice_split is_itemset_end told)
+        ≡ list_any test told → list_any (list_any test) (slice_split is_itemset_end (token ∷ told))
+        ≡ (test token || list_any test told)
     step true is more =
         ap (list_any (list_any test)) (slice_split-cons_yes is_itemset_end token told is) ∙ more ∙ sym (ap (λ b. b || list_any test told) (ends token is))
     step false is more =
@@ -64,7 +69,8 @@ onto_option (Some x) xs ys = refl
 abbrev joined : List (List (ℕ × ℤ)) → List (ℕ × ℤ)
 joined sets = flat_map (λ set. set) sets
 
-cells-onto_first : (token : Token) (parts : List (List Token)) → joined (map cells (onto_first token parts)) ≡ cons_option (pair_in token) (joined (map cells parts))
+cells-onto_first : (token : Token) (parts : List (List Token)) → joined (map cells (onto_first token parts))
+    ≡ cons_option (pair_in token) (joined (map cells parts))
 cells-onto_first token [] = onto_option (pair_in token) [] []
 cells-onto_first token (part ∷ parts) = onto_option (pair_in token) (cells part) (joined (map cells parts))
 
@@ -73,7 +79,8 @@ joined-itemsets : (told : List Token) → joined (itemsets told) ≡ cells told
 joined-itemsets [] = refl
 joined-itemsets (token ∷ told) = step (is_itemset_end token) refl (joined-itemsets told)
   where
-    step : (b : Bool) → is_itemset_end token ≡ b → joined (itemsets told) ≡ cells told → joined (itemsets (token ∷ told)) ≡ cons_option (pair_in token) (cells told)
+    step : (b : Bool) → is_itemset_end token ≡ b → joined (itemsets told) ≡ cells told
+        → joined (itemsets (token ∷ told)) ≡ cons_option (pair_in token) (cells told)
     step true is more =
         ap (λ parts. joined (map cells parts)) (slice_split-cons_yes is_itemset_end token told is)
         ∙ more
@@ -96,7 +103,8 @@ any-joined test (set ∷ sets) = ap (λ b. list_any test set || b) (any-joined t
 -- ---- the elements that are made of itemsets
 
 -- what doesn't mind the order of cells is the same of elements as of itemsets
-sum_by-ordered : (f : List (ℕ × ℤ) → ℕ) → ((xs ys : List (ℕ × ℤ)) → IsPermutation xs ys → f ys ≡ f xs) → (sets elements : List (List (ℕ × ℤ))) → AllZip IsOrdered sets elements → sum_by f elements ≡ sum_by f sets
+sum_by-ordered : (f : List (ℕ × ℤ) → ℕ) → ((xs ys : List (ℕ × ℤ)) → IsPermutation xs ys → f ys ≡ f xs)
+    → (sets elements : List (List (ℕ × ℤ))) → AllZip IsOrdered sets elements → sum_by f elements ≡ sum_by f sets
 sum_by-ordered f same [] [] h = refl
 sum_by-ordered f same [] (e ∷ es) h = absurd h
 sum_by-ordered f same (s ∷ ss) [] h = absurd h
@@ -104,12 +112,14 @@ sum_by-ordered f same (s ∷ ss) (e ∷ es) h =
     let first : f e ≡ f s = same s e h.0.permutation in
     omega (arith, sum_by-cons f e es, sum_by-cons f s ss, sum_by-ordered f same ss es h.1)
 
-any-ordered : (test : ℕ × ℤ → Bool) (sets elements : List (List (ℕ × ℤ))) → AllZip IsOrdered sets elements → list_any (list_any test) elements ≡ list_any (list_any test) sets
+any-ordered : (test : ℕ × ℤ → Bool) (sets elements : List (List (ℕ × ℤ))) → AllZip IsOrdered sets elements
+    → list_any (list_any test) elements ≡ list_any (list_any test) sets
 any-ordered test [] [] h = refl
 any-ordered test [] (e ∷ es) h = absurd h
 any-ordered test (s ∷ ss) [] h = absurd h
 any-ordered test (s ∷ ss) (e ∷ es) h =
-    ap (λ b. b || list_any (list_any test) es) (sym (list_any-IsPermutation test s e h.0.permutation)) ∙ ap (λ b. list_any test s || b) (any-ordered test ss es h.1)
+    ap (λ b. b || list_any (list_any test) es) (sym (list_any-IsPermutation test s e h.0.permutation))
+    ∙ ap (λ b. list_any test s || b) (any-ordered test ss es h.1)
 
 -- the elements are the itemsets by item
 pub ordered-value : (sets elements : List (List (ℕ × ℤ))) → AllZip IsOrdered sets elements → elements ≡ map by_item sets
@@ -131,19 +141,22 @@ ordered-once sets elements h = rw (none_twice sets elements h) refl
 length-joined : (sets : List (List (ℕ × ℤ))) → sum_by length sets ≡ length (joined sets)
 length-joined sets = sym (length-flat_map (λ set. set) sets)
 
-pub ordered-length : (told : List Token) (elements : List (List (ℕ × ℤ))) → AllZip IsOrdered (itemsets told) elements → sum_by length elements ≡ length (cells told)
+pub ordered-length : (told : List Token) (elements : List (List (ℕ × ℤ))) → AllZip IsOrdered (itemsets told) elements
+    → sum_by length elements ≡ length (cells told)
 ordered-length told elements h =
     sum_by-ordered length (λ xs ys same. length_permutation xs ys same) (itemsets told) elements h
     ∙ length-joined (itemsets told)
     ∙ ap length (joined-itemsets told)
 
-pub ordered-absolute : (told : List Token) (elements : List (List (ℕ × ℤ))) → AllZip IsOrdered (itemsets told) elements → sum_by absolute_of elements ≡ absolute_of (cells told)
+pub ordered-absolute : (told : List Token) (elements : List (List (ℕ × ℤ))) → AllZip IsOrdered (itemsets told) elements
+    → sum_by absolute_of elements ≡ absolute_of (cells told)
 ordered-absolute told elements h =
     sum_by-ordered absolute_of (λ xs ys same. sum_by-IsPermutation (λ cell. unsigned_abs cell.1) xs ys same) (itemsets told) elements h
     ∙ sum_by-joined (λ cell. unsigned_abs cell.1) (itemsets told)
     ∙ ap absolute_of (joined-itemsets told)
 
-pub ordered-negative : (told : List Token) (elements : List (List (ℕ × ℤ))) → AllZip IsOrdered (itemsets told) elements → list_any any_negative elements ≡ any_negative (cells told)
+pub ordered-negative : (told : List Token) (elements : List (List (ℕ × ℤ))) → AllZip IsOrdered (itemsets told) elements
+    → list_any any_negative elements ≡ any_negative (cells told)
 ordered-negative told elements h =
     any-ordered (λ cell. int_lt cell.1 (pos 0)) (itemsets told) elements h
     ∙ any-joined (λ cell. int_lt cell.1 (pos 0)) (itemsets told)
@@ -175,7 +188,8 @@ any_negative-cells (Total sum ∷ told) = any_negative-cells told
 pub total-absolute : (pairs : List (ℕ × ℤ)) → any_negative pairs ≡ false → total pairs ≡ pos (absolute_of pairs)
 total-absolute [] h = refl
 total-absolute ((item, pos n) ∷ pairs) h =
-    ap (λ sum. pos n +ℤ sum) (total-absolute pairs (neither (int_lt (pos n) (pos 0)) (any_negative pairs) h).1) ∙ ap pos (sym (sum_by-cons (λ cell. unsigned_abs cell.1) (item, pos n) pairs))
+    ap (λ sum. pos n +ℤ sum) (total-absolute pairs (neither (int_lt (pos n) (pos 0)) (any_negative pairs) h).1)
+    ∙ ap pos (sym (sum_by-cons (λ cell. unsigned_abs cell.1) (item, pos n) pairs))
 total-absolute ((item, negsuc n) ∷ pairs) h = cc
 
 -- no cell stands after the end

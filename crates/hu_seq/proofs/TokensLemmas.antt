@@ -9,11 +9,13 @@ use Rattle.hu_seq.specs.Token.{token_of, is_unknown}
 use Rattle.hu_seq.specs.Reading.{bad_token}
 
 -- one more token
-pub known-next : (told : List Token) (text : List ℕ) (left : List (List ℕ)) (token : Token) → token_of text ≡ Some token → told ++ filter_map token_of (text ∷ left) ≡ (told ++ token ∷ []) ++ filter_map token_of left
+pub known-next : (told : List Token) (text : List ℕ) (left : List (List ℕ)) (token : Token) → token_of text ≡ Some token
+    → told ++ filter_map token_of (text ∷ left) ≡ (told ++ token ∷ []) ++ filter_map token_of left
 known-next told text left token is = rw is (sym (append_assoc told (token ∷ []) (filter_map token_of left)))
 
 -- a bad token stands later
-pub unknown-next : (n : ℕ) (text : List ℕ) (left : List (List ℕ)) (token : Token) → token_of text ≡ Some token → position_from is_unknown n (text ∷ left) ≡ position_from is_unknown (n + 1) left
+pub unknown-next : (n : ℕ) (text : List ℕ) (left : List (List ℕ)) (token : Token) → token_of text ≡ Some token
+    → position_from is_unknown n (text ∷ left) ≡ position_from is_unknown (n + 1) left
 unknown-next n text left token is = rw is refl
 
 -- a bad token stands here

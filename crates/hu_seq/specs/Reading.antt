@@ -1,6 +1,37 @@
 -- What a sequence line says: a sequence, or its first fault. The line is one or more itemsets, then `-2`, then one total
 -- or nothing; an itemset is one or more cells, then `-1`.
-use Rattle.std.specs.Prelude.{ℕ, ◌+◌, ◌-◌, ◌^◌, nat_lt, ℤ, pos, int_lt, Bool, true, false, not, ◌&&◌, ◌||◌, Option, None, is_none, Result, Ok, Err, List, [], ◌∷◌, ◌++◌, map, take, length, position, filter_map, slice_get}
+use Rattle.std.specs.Prelude.{
+  ℕ,
+  ◌+◌,
+  ◌-◌,
+  ◌^◌,
+  nat_lt,
+  ℤ,
+  pos,
+  int_lt,
+  Bool,
+  true,
+  false,
+  not,
+  ◌&&◌,
+  ◌||◌,
+  Option,
+  None,
+  is_none,
+  Result,
+  Ok,
+  Err,
+  List,
+  [],
+  ◌∷◌,
+  ◌++◌,
+  map,
+  take,
+  length,
+  position,
+  filter_map,
+  slice_get,
+}
 use Rattle.std.specs.Bool.{then_some}
 use Rattle.std.specs.Ordering.{int_eq}
 use Rattle.std.specs.List.{before_first, after_first, position_or_len, count_by, list_any, slice_split}
@@ -10,9 +41,33 @@ use Rattle.hu_kind.specs.First.{first_some}
 use Rattle.hu_kind.specs.Record.{items_in, total}
 use Rattle.hu_kind.specs.Token.{tokens}
 use Rattle.hu_seq.specs.declared.fault.SeqFault.{SeqFault}
-use Rattle.hu_seq.specs.declared.fault.SeqFault.TheVariants.{BadToken, NoEnd, AfterEnd, OpenItemset, EmptyItemset, NoItems, TooManyItems, ItemOutOfRange, DuplicateItem, Negative, SumTooLarge, TotalDisagrees}
+use Rattle.hu_seq.specs.declared.fault.SeqFault.TheVariants.{
+  BadToken,
+  NoEnd,
+  AfterEnd,
+  OpenItemset,
+  EmptyItemset,
+  NoItems,
+  TooManyItems,
+  ItemOutOfRange,
+  DuplicateItem,
+  Negative,
+  SumTooLarge,
+  TotalDisagrees,
+}
 use Rattle.hu_seq.specs.declared.token.Token.{Token}
-use Rattle.hu_seq.specs.Token.{token_of, is_unknown, is_cell, is_itemset_end, is_sequence_end, is_total, is_out_of_range, is_negative, pair_in, sum_in}
+use Rattle.hu_seq.specs.Token.{
+  token_of,
+  is_unknown,
+  is_cell,
+  is_itemset_end,
+  is_sequence_end,
+  is_total,
+  is_out_of_range,
+  is_negative,
+  pair_in,
+  sum_in,
+}
 
 -- the tokens of a line that are of one of the four kinds
 abbrev pub known : List ℕ → List Token
@@ -46,7 +101,9 @@ is_total_or_nothing (token ∷ next ∷ told) = false
 
 -- a total stands before the first `-2`, or a token follows it and what follows isn't one total alone
 abbrev pub after_end : List Token → Option SeqFault
-after_end told = then_some (list_any is_total (before_first is_sequence_end told) || not (is_total_or_nothing (after_first is_sequence_end told))) AfterEnd
+after_end told =
+    then_some (list_any is_total (before_first is_sequence_end told)
+    || not (is_total_or_nothing (after_first is_sequence_end told))) AfterEnd
 
 -- whether the first of tokens passes a test, and whether the last does
 abbrev pub first_is : (Token → Bool) → List Token → Bool
@@ -82,7 +139,9 @@ item_out_of_range told = option_map (λ k. ItemOutOfRange (k + 1)) (position is_
 
 -- in the first itemset that holds an item more than once, the smallest such item
 abbrev pub duplicate_item : List (List (ℕ × ℤ)) → Option SeqFault
-duplicate_item sets = option_map (λ item. DuplicateItem (record { 0 = item })) (first_some (map (λ set. twice (items_in set)) sets))
+duplicate_item sets =
+    option_map (λ item. DuplicateItem (record { 0 = item }))
+    (first_some (map (λ set. twice (items_in set)) sets))
 
 -- the first cell whose value is below 0
 abbrev pub negative : List Token → Option SeqFault
@@ -95,7 +154,8 @@ sum_too_large pairs = then_some (int_lt (pos (2 ^ 127 - 1)) (total pairs)) SumTo
 -- a total stands and isn't the sum
 abbrev pub total_disagrees : List ℤ → List (ℕ × ℤ) → Option SeqFault
 total_disagrees [] pairs = None
-total_disagrees (sum ∷ sums) pairs = then_some (not (int_eq sum (total pairs))) (TotalDisagrees sum (total pairs))
+total_disagrees (sum ∷ sums) pairs =
+    then_some (not (int_eq sum (total pairs))) (TotalDisagrees sum (total pairs))
 
 -- the faults in the order of the tokens
 abbrev pub order_faults : List Token → List (Option SeqFault)

@@ -1,5 +1,28 @@
 -- The tokens of a sequence line. After SPMF's format of sequence databases with utilities.
-use Rattle.std.specs.Prelude.{ℕ, ◌+◌, ◌-◌, ◌==◌, nat_eq, nat_lt, ℤ, pos, int_lt, unsigned_abs, Bool, true, false, Option, None, Some, List, length, take, drop, codes, if◌then◌else◌}
+use Rattle.std.specs.Prelude.{
+  ℕ,
+  ◌+◌,
+  ◌-◌,
+  ◌==◌,
+  nat_eq,
+  nat_lt,
+  ℤ,
+  pos,
+  int_lt,
+  unsigned_abs,
+  Bool,
+  true,
+  false,
+  Option,
+  None,
+  Some,
+  List,
+  length,
+  take,
+  drop,
+  codes,
+  if◌then◌else◌,
+}
 use Rattle.std.specs.List.{position, starts_with, ends_with}
 use Rattle.std.specs.Option.{option_map, option_and_then, option_or, is_none}
 use Rattle.std.specs.Result.{result_ok}
@@ -10,11 +33,15 @@ use Rattle.hu_seq.specs.declared.token.Token.TheVariants.{Cell, ItemsetEnd, Sequ
 
 -- the cell of a text of its item and a text of its value
 abbrev pub cell_from : List ℕ → List ℕ → Option Token
-cell_from item value = option_and_then (λ i. option_map (λ v. Cell (unsigned_abs i) v) (result_ok (signed_number value))) (result_ok (number item))
+cell_from item value =
+    option_and_then (λ i. option_map (λ v. Cell (unsigned_abs i) v)
+    (result_ok (signed_number value))) (result_ok (number item))
 
 -- the cell of two such texts with the first `[` (byte 91) between them
 abbrev pub cell_inside : List ℕ → Option Token
-cell_inside text = option_and_then (λ k. cell_from (take k text) (drop (k + 1) text)) (position (λ byte. byte == 91) text)
+cell_inside text =
+    option_and_then (λ k. cell_from (take k text) (drop (k + 1) text))
+    (position (λ byte. byte == 91) text)
 
 -- a cell: a number, `[`, a signed number and `]`
 abbrev pub cell_of : List ℕ → Option Token

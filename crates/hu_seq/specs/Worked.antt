@@ -1,6 +1,19 @@
 -- Worked lines, by computation.
 use Rattle.std.specs.Prelude.{◌≡◌, ℕ, ℤ, List, pos, None, Some, Ok, Err, [], ◌∷◌, codes, refl, replicate}
-use Rattle.hu_seq.specs.declared.fault.SeqFault.TheVariants.{BadToken, NoEnd, AfterEnd, OpenItemset, EmptyItemset, NoItems, TooManyItems, ItemOutOfRange, DuplicateItem, Negative, SumTooLarge, TotalDisagrees}
+use Rattle.hu_seq.specs.declared.fault.SeqFault.TheVariants.{
+  BadToken,
+  NoEnd,
+  AfterEnd,
+  OpenItemset,
+  EmptyItemset,
+  NoItems,
+  TooManyItems,
+  ItemOutOfRange,
+  DuplicateItem,
+  Negative,
+  SumTooLarge,
+  TotalDisagrees,
+}
 use Rattle.hu_seq.specs.declared.token.Token.TheVariants.{Cell}
 use Rattle.std.specs.Fmt.{digits}
 use Rattle.hu_seq.specs.Canonical.{canonical_line}

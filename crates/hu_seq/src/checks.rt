@@ -15,7 +15,8 @@ use hu_kind::Record;
 /// Whether there are at most 4,096 cells, and the item of each is in its range.
 pub(crate) fn check_items(tokens: &[Token]) -> Result<(), SeqFault>
     requires { length tokens.now ≤ 1048576 }
-    ensures { result_err result ≡ first_some (too_many_items tokens.now ∷ item_out_of_range tokens.now ∷ []) }
+    ensures { result_err result
+        ≡ first_some (too_many_items tokens.now ∷ item_out_of_range tokens.now ∷ []) }
 {
     let count = cell_count(tokens);
     if count > Record::MOST_CELLS {

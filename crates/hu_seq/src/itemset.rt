@@ -17,7 +17,8 @@ use std::alloc::{AllocError, Global};
 pub(crate) fn elements(alloc: Global, body: &[Token]) -> Result<Vec<Element>, SeqFault>
     requires { All IsSound (slice_split is_itemset_end body.now) }
     ensures ok { IfOk result (λ elements. AllZip IsOrdered (itemsets body.now) elements.items) }
-    ensures err { IfErr result (λ fault. (fault ≡ SeqFault.NoMemory) ⊎ (duplicate_item (itemsets body.now) ≡ Some fault)) }
+    ensures err { IfErr result (λ fault. (fault ≡ SeqFault.NoMemory) ⊎
+        (duplicate_item (itemsets body.now) ≡ Some fault)) }
 {
     let mut elements = Vec::new(alloc);
     for itemset in body.split(|token| token.is_itemset_end()) {
@@ -30,7 +31,8 @@ pub(crate) fn elements(alloc: Global, body: &[Token]) -> Result<Vec<Element>, Se
 fn element(alloc: Global, itemset: &[Token]) -> Result<Element, SeqFault>
     requires { IsSound itemset.now }
     ensures ok { IfOk result (λ element. IsOrdered (cells itemset.now) element) }
-    ensures err { IfErr result (λ fault. (fault ≡ SeqFault.NoMemory) ⊎ (duplicate_item (cells itemset.now ∷ []) ≡ Some fault)) }
+    ensures err { IfErr result (λ fault. (fault ≡ SeqFault.NoMemory) ⊎
+        (duplicate_item (cells itemset.now ∷ []) ≡ Some fault)) }
 {
     let cells = read_cells(alloc, itemset)?;
     match ordered_cells(cells) {

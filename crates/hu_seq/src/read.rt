@@ -32,7 +32,8 @@ fn read_tokens(alloc: Global, line: &[u8]) -> Result<Vec<Token>, SeqFault>
     ensures told { IfOk result (λ told. told.items ≡ known line.now) }
     ensures few { IfOk result (λ told. vec_len told ≤ length line.now) }
     ensures ok { OnOk result (bad_token (tokens line.now) ≡ None) }
-    ensures err { IfErr result (λ fault. (fault ≡ SeqFault.NoMemory) ⊎ (bad_token (tokens line.now) ≡ Some fault)) }
+    ensures err { IfErr result (λ fault. (fault ≡ SeqFault.NoMemory) ⊎
+        (bad_token (tokens line.now) ≡ Some fault)) }
 {
     let mut told = Vec::new(alloc);
     for text in Tokens::of(line) {

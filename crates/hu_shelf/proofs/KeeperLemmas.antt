@@ -1,5 +1,7 @@
 -- What calls of keepers come to.
-use Rattle.std.proofs.Common.{◌≡◌, ℕ, ◌≤◌, List, [], ◌∷◌, map, Bool, true, false, Result, Ok, Err, Option, Some, String, unwrap_or, refl, ap, sym, ◌∙◌, arith, min, cond, length, ◌==◌, if◌then◌else◌, ◌+◌, ◌-◌, ◌^◌}
+use Rattle.std.proofs.Common.{◌≡◌, ℕ, ◌≤◌, List, [], ◌∷◌, map, Bool, true, false, Result, Ok, Err, Option, Some, String}
+use Rattle.std.proofs.Common.{unwrap_or, refl, ap, sym, ◌∙◌, arith, min, cond, length, ◌==◌, if◌then◌else◌, ◌+◌, ◌-◌}
+use Rattle.std.proofs.Common.{◌^◌}
 use mathlib.Core.Path.{fun_ext}
 use Rattle.std.specs.BTreeMap.{BTreeMap, UpdatesBy, get_by_text}
 use Rattle.std.specs.Cmp.Lexicographic.{slice_cmp}

@@ -1,5 +1,6 @@
 -- Texts that are cut at a byte.
-use Rattle.std.proofs.Common.{◌≡◌, ℕ, suc, add-one, ◌+◌, ◌≤◌, ◌==◌, Bool, true, false, not, None, Some, List, [], ◌∷◌, ◌++◌, position, ◌-◌, length, take, drop, refl, ap, sym, ◌∙◌, arith}
+use Rattle.std.proofs.Common.{◌≡◌, ℕ, suc, add-one, ◌+◌, ◌≤◌, ◌==◌, Bool, true, false, not, None, Some, List, [], ◌∷◌}
+use Rattle.std.proofs.Common.{◌++◌, position, ◌-◌, length, take, drop, refl, ap, sym, ◌∙◌, arith}
 use Rattle.std.specs.Bool.{then_some}
 use Rattle.std.specs.List.{list_all, position_or_len}
 use Rattle.std.proofs.lemmas.Bool.Decides.{nat_tests}

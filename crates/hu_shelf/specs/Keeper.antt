@@ -1,5 +1,18 @@
 -- What a keeper is seen as, and what its calls make of it.
-use Rattle.std.specs.Prelude.{◌≡◌, ℕ, ◌≤◌, ⊤, List, Option, MatchOption, Result, Ok, Err, MatchResult, if◌then◌else◌}
+use Rattle.std.specs.Prelude.{
+  ◌≡◌,
+  ℕ,
+  ◌≤◌,
+  ⊤,
+  List,
+  Option,
+  MatchOption,
+  Result,
+  Ok,
+  Err,
+  MatchResult,
+  if◌then◌else◌,
+}
 use Rattle.std.specs.Option.{option_map}
 use Rattle.std.specs.Str.{bytes_eq}
 use Rattle.hu_io.specs.Count.{Rose}
@@ -44,7 +57,8 @@ pub record Loaded (old new : KeeperState) (name : List ℕ) (at : ℕ) (into : L
 
 -- one call of `load`
 abbrev pub Loads : {E : Type 0} → KeeperState → KeeperState → List ℕ → ℕ → List ℕ → Result ℕ E → Type 0
-Loads old new name at into result = MatchResult result (λ n. Loaded old new name at into n) (λ _. Fails old new name)
+Loads old new name at into result =
+    MatchResult result (λ n. Loaded old new name at into n) (λ _. Fails old new name)
 
 -- one call of `replace`
 abbrev pub Replaces : KeeperState → KeeperState → List ℕ → List ℕ → Result (Unit {0}) KeepFault → Type 0

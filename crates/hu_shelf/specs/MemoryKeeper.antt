@@ -61,5 +61,6 @@ second_fails = refl
 -- while no call is to fail, no count rises where the plan stays
 abbrev pub UnplannedKeepersNeverFail : Type 0
 UnplannedKeepersNeverFail =
-    (before now : KeeperView) (name : List ℕ) → before.plan.failing ≡ [] → (keeper_state now).plan ≡ (keeper_state before).plan
+    (before now : KeeperView) (name : List ℕ) → before.plan.failing ≡ [] → (keeper_state now).plan
+    ≡ (keeper_state before).plan
     → ¬ Rose ((keeper_state before).faults name) ((keeper_state now).faults name)

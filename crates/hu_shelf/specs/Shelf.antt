@@ -1,12 +1,44 @@
 -- Why calls on a store are refused, and what a shelf's fields keep.
-use Rattle.std.specs.Prelude.{◌≡◌, ℕ, ◌+◌, ◌^◌, ⊤, nat_lt, nat_le, ℤ, pos, ◌≤◌, Bool, true, false, Option, None, Some, is_some, List, [], ◌∷◌, ◌++◌, length, if◌then◌else◌}
+use Rattle.std.specs.Prelude.{
+  ◌≡◌,
+  ℕ,
+  ◌+◌,
+  ◌^◌,
+  ⊤,
+  nat_lt,
+  nat_le,
+  ℤ,
+  pos,
+  ◌≤◌,
+  Bool,
+  true,
+  false,
+  Option,
+  None,
+  Some,
+  is_some,
+  List,
+  [],
+  ◌∷◌,
+  ◌++◌,
+  length,
+  if◌then◌else◌,
+}
 use Rattle.std.specs.List.{sum_by}
 use Rattle.hu_io.specs.Count.{Rose}
 use Rattle.hu_kind.specs.Record.{absolute_of}
 use Rattle.hu_base.specs.Base.{carried_of, records_of, sum_of}
 use Rattle.hu_kept.specs.Kept.{Keeping, with_batch}
 use Rattle.hu_shelf.specs.declared.fault.ShelfFault.{ShelfFault}
-use Rattle.hu_shelf.specs.declared.fault.ShelfFault.TheVariants.{Absent, Present, Damaged, SumTooLarge, TooLarge, KeeperFailed, NoMemory}
+use Rattle.hu_shelf.specs.declared.fault.ShelfFault.TheVariants.{
+  Absent,
+  Present,
+  Damaged,
+  SumTooLarge,
+  TooLarge,
+  KeeperFailed,
+  NoMemory,
+}
 use Rattle.hu_shelf.specs.declared.keeper.KeepFault.{KeepFault}
 use Rattle.hu_shelf.specs.declared.keeper.KeepFault.TheVariants.{Failed, NoMemory as OutOfMemory}
 use Rattle.hu_shelf.specs.Keeper.{KeeperState, Stays, Told}
@@ -29,7 +61,8 @@ find_fault (byte ∷ bytes) = if is_some (store_of (byte ∷ bytes)) then None e
 -- why records are not added to a store
 abbrev pub add_fault : Keeping → List (List (ℕ × ℤ)) → Option ShelfFault
 add_fault s batch =
-    if nat_le (2 ^ 127) (absolute_sum s.records + absolute_sum batch) then Some (SumTooLarge (pos (absolute_sum s.records)) (pos (absolute_sum batch)))
+    if nat_le (2 ^ 127) (absolute_sum s.records + absolute_sum batch) then Some
+    (SumTooLarge (pos (absolute_sum s.records)) (pos (absolute_sum batch)))
     else if nat_lt 268435456 (length (store_text (with_batch s batch))) then Some TooLarge
     else None
 
@@ -49,7 +82,8 @@ IsCause old new name IsSuch (SumTooLarge before added) = IsSuch (SumTooLarge bef
 IsCause old new name IsSuch TooLarge = IsSuch TooLarge
 
 -- it is refused, and no text changed
-pub record Refuses (old new : KeeperState) (name : List ℕ) (IsSuch : ShelfFault → Type 0) (fault : ShelfFault) : Type 0 where
+pub record Refuses (old new : KeeperState) (name : List ℕ) (IsSuch : ShelfFault → Type 0)
+    (fault : ShelfFault) : Type 0 where
   pub cause : IsCause old new name IsSuch fault
   pub stays : Stays old new
 

@@ -1,7 +1,35 @@
 -- A store is the task of a kept answer with all its records, as one text: the line `hupm shelf 1`, the line `TASK MIN TOP`,
 -- and the canonical line of each record. TASK is `items` or `closed`, MIN the least utility, and TOP `all` or how many entries
 -- there may be. Every line has its line feed, numbers are written without leading zeros, and one space parts them.
-use Rattle.std.specs.Prelude.{◌≡◌, ℕ, ◌^◌, nat_lt, nat_le, nat_eq, ℤ, pos, negsuc, unsigned_abs, Bool, true, false, ◌&&◌, Option, None, Some, Ok, List, ◌++◌, length, flat_map, filter_map, codes, decimal, unwrap_or, if◌then◌else◌}
+use Rattle.std.specs.Prelude.{
+  ◌≡◌,
+  ℕ,
+  ◌^◌,
+  nat_lt,
+  nat_le,
+  nat_eq,
+  ℤ,
+  pos,
+  negsuc,
+  unsigned_abs,
+  Bool,
+  true,
+  false,
+  ◌&&◌,
+  Option,
+  None,
+  Some,
+  Ok,
+  List,
+  ◌++◌,
+  length,
+  flat_map,
+  filter_map,
+  codes,
+  decimal,
+  unwrap_or,
+  if◌then◌else◌,
+}
 use Rattle.std.specs.Bool.{then_some}
 use Rattle.std.specs.Fmt.{signed_decimal}
 use Rattle.std.specs.List.{All, after_first, before_first, slice_split, sum_by}
@@ -59,7 +87,9 @@ top_said word = option_map unsigned_abs (result_ok (number word))
 
 -- what a line tells of the settings: its words are parted by spaces (byte 32)
 abbrev pub settings_in : List ℕ → Keeping
-settings_in line = fresh (least_said (before_byte 32 (after_byte 32 line))) (top_said (after_byte 32 (after_byte 32 line))) (closed_said (before_byte 32 line))
+settings_in line =
+    fresh (least_said (before_byte 32 (after_byte 32 line)))
+    (top_said (after_byte 32 (after_byte 32 line))) (closed_said (before_byte 32 line))
 
 -- the record that a line tells, where it has at most 1,048,576 bytes and tells one
 abbrev pub record_in : List ℕ → Option (List (ℕ × ℤ))
@@ -71,7 +101,9 @@ records_in text = filter_map record_in (slice_split (λ b. nat_eq b 10) text)
 
 -- what a text tells in its lines after the first, however they are written
 abbrev pub told_by : List ℕ → Keeping
-told_by text = with_batch (settings_in (before_byte 10 (after_byte 10 text))) (records_in (after_byte 10 (after_byte 10 text)))
+told_by text =
+    with_batch (settings_in (before_byte 10 (after_byte 10 text)))
+    (records_in (after_byte 10 (after_byte 10 text)))
 
 -- the limits of the settings: a least utility from 1 to 2^127 - 1, and 1 to 1,000,000 entries where there is a limit
 abbrev pub is_least : ℤ → Bool
@@ -84,11 +116,15 @@ is_top (Some k) = nat_le 1 k && nat_le k 1000000
 
 -- the limits of a store: those of its settings, an absolute sum of at most 2^127 - 1, and a text of at most 268,435,456 bytes
 abbrev pub is_lawful : Keeping → List ℕ → Bool
-is_lawful s text = is_least s.least && is_top s.top && nat_lt (sum_by absolute_of s.records) (2 ^ 127) && nat_le (length text) 268435456
+is_lawful s text =
+    is_least s.least && is_top s.top && nat_lt (sum_by absolute_of s.records) (2 ^ 127)
+    && nat_le (length text) 268435456
 
 -- the store of a text: what it tells, where that is within the limits and this is its text
 abbrev pub store_of : List ℕ → Option Keeping
-store_of text = then_some (is_lawful (told_by text) text && bytes_eq (store_text (told_by text)) text) (told_by text)
+store_of text =
+    then_some (is_lawful (told_by text) text && bytes_eq (store_text (told_by text)) text)
+    (told_by text)
 
 -- ---- the stores that may be
 

@@ -1,5 +1,21 @@
 -- Worked rows: texts of stores, and texts that are none, by computation.
-use Rattle.std.specs.Prelude.{◌≡◌, pos, None, Some, true, false, [], ◌++◌, codes, refl, take, length, ◌-◌, List, ℕ}
+use Rattle.std.specs.Prelude.{
+  ◌≡◌,
+  pos,
+  None,
+  Some,
+  true,
+  false,
+  [],
+  ◌++◌,
+  codes,
+  refl,
+  take,
+  length,
+  ◌-◌,
+  List,
+  ℕ,
+}
 use Rattle.std.specs.Fmt.{digits}
 use Rattle.hu_kind.specs.Worked.{base_a}
 use Rattle.hu_kept.specs.Kept.{Keeping, fresh, with_batch}

@@ -1,6 +1,26 @@
 -- What the records earn at most in which a pattern is grown by an item: no pattern with the item earns more. After the
 -- reduced sequence utility of HUS-Span (Wang, Huang and Chen, 2016).
-use Rattle.std.specs.Prelude.{◌≡◌, ◌==◌, ◌≤ℤ◌, ◌<ℤ◌, ◌+ℤ◌, ◌⊎◌, true, ℕ, ℤ, pos, Bool, false, Option, None, Some, List, [], ◌∷◌, if◌then◌else◌}
+use Rattle.std.specs.Prelude.{
+  ◌≡◌,
+  ◌==◌,
+  ◌≤ℤ◌,
+  ◌<ℤ◌,
+  ◌+ℤ◌,
+  ◌⊎◌,
+  true,
+  ℕ,
+  ℤ,
+  pos,
+  Bool,
+  false,
+  Option,
+  None,
+  Some,
+  List,
+  [],
+  ◌∷◌,
+  if◌then◌else◌,
+}
 use Rattle.std.specs.Prelude.{slice_index_or, map}
 use Rattle.std.specs.List.{AllByRecursion, Contains}
 use Rattle.hu_kind.specs.declared.item.Item.{Item}
@@ -23,7 +43,8 @@ is_last (Some last) row = last == row
 abbrev pub spread_after : List ℤ → Option ℕ → List Mark → ℤ
 spread_after reaches last [] = pos 0
 spread_after reaches last (mark ∷ marks) =
-    (if is_last last mark.row then pos 0 else at_row reaches mark.row) +ℤ spread_after reaches (Some mark.row) marks
+    (if is_last last mark.row then pos 0 else at_row reaches mark.row)
+    +ℤ spread_after reaches (Some mark.row) marks
 
 abbrev pub spread : List ℤ → List Mark → ℤ
 spread reaches marks = spread_after reaches None marks
@@ -33,7 +54,11 @@ abbrev pub AreBelow : List ℤ → List Mark → Type 0
 AreBelow reaches marks = AllByRecursion (λ mark. reach mark.place ≤ℤ at_row reaches mark.row) marks
 
 -- the items that are kept at a node: those of its steps, and those of its children whose rows reach the floor
-pub record AreOpen (steps : List Step) (children : List Child) (reaches : List ℤ) (floor : ℤ) (kept : Bool × List Item) : Type 0 where
-  pub known : (item : ℕ) → keeps kept item ≡ true → Contains (map (λ step. step.item.0) steps) item ⊎ Contains (map (λ child. child.step.item.0) children) item
+pub record AreOpen (steps : List Step) (children : List Child) (reaches : List ℤ) (floor : ℤ)
+    (kept : Bool × List Item) : Type 0 where
+  pub known : (item : ℕ) → keeps kept item ≡ true
+      → Contains (map (λ step. step.item.0) steps) item ⊎ Contains
+      (map (λ child. child.step.item.0) children) item
   pub own : AllByRecursion (λ step. keeps kept step.item.0 ≡ true) steps
-  pub reaching : AllByRecursion (λ child. (keeps kept child.step.item.0 ≡ true) ⊎ (spread reaches child.marks.now <ℤ floor)) children
+  pub reaching : AllByRecursion (λ child. (keeps kept child.step.item.0 ≡ true) ⊎
+      (spread reaches child.marks.now <ℤ floor)) children

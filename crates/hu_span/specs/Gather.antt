@@ -1,5 +1,27 @@
 -- The marks of all items by which a pattern can grow, by its places in a record.
-use Rattle.std.specs.Prelude.{◌≡◌, ◌==◌, Bool, true, if◌then◌else◌, ◌+◌, ◌<◌, ◌≤◌, ◌^◌, ⊤, ℕ, suc, ℤ, pos, ◌+ℤ◌, ◌-ℤ◌, ◌≤ℤ◌, ◌<ℤ◌, List, [], ◌∷◌}
+use Rattle.std.specs.Prelude.{
+  ◌≡◌,
+  ◌==◌,
+  Bool,
+  true,
+  if◌then◌else◌,
+  ◌+◌,
+  ◌<◌,
+  ◌≤◌,
+  ◌^◌,
+  ⊤,
+  ℕ,
+  suc,
+  ℤ,
+  pos,
+  ◌+ℤ◌,
+  ◌-ℤ◌,
+  ◌≤ℤ◌,
+  ◌<ℤ◌,
+  List,
+  [],
+  ◌∷◌,
+}
 use Rattle.std.specs.Prelude.{◌++◌, drop, length}
 use Rattle.std.specs.List.{flat_map, AllByRecursion}
 use Rattle.std.specs.List.Sorted.{IsNonDecreasingBy}
@@ -23,14 +45,17 @@ use Rattle.hu_span.specs.Mark.{mark_at, marks_of, marks_with, places_of}
 abbrev pub tail_marks : ℕ → ℕ → ℕ → ℤ → ℤ → List (ℕ × ℤ) → List Mark
 tail_marks row e c best ahead [] = []
 tail_marks row e c best ahead (cell ∷ cells) =
-    mark_at row cell.0 (record { element = e; cell = c; best = best +ℤ cell.1; rest = ahead -ℤ cell.1 }) ∷ tail_marks row e (suc c) best
+    mark_at row cell.0
+    (record { element = e; cell = c; best = best +ℤ cell.1; rest = ahead -ℤ cell.1 })
+    ∷ tail_marks row e (suc c) best
     (ahead -ℤ cell.1) cells
 
 -- those of elements, of which the first has a number, each after the best occurrence before it
 abbrev pub walk_marks : ℕ → ℕ → ℤ → ℤ → List Place → List (List (ℕ × ℤ)) → List Mark
 walk_marks row e best ahead places [] = []
 walk_marks row e best ahead places (cells ∷ later) =
-    tail_marks row e 0 best ahead cells ++ walk_marks row (suc e) (best_past e best places) (ahead -ℤ total cells) (left_past e places) later
+    tail_marks row e 0 best ahead cells ++ walk_marks row (suc e) (best_past e best places)
+    (ahead -ℤ total cells) (left_past e places) later
 
 -- the cells after a place in its element
 abbrev pub cells_after : List (List (ℕ × ℤ)) → Place → List (ℕ × ℤ)
@@ -43,13 +68,16 @@ pub record IsInside (elements : List (List (ℕ × ℤ))) (place : Place) : Type
 
 -- the marks beside a place
 abbrev pub beside_marks : List (List (ℕ × ℤ)) → ℕ → Place → List Mark
-beside_marks elements row place = tail_marks row place.element (suc place.cell) place.best place.rest (cells_after elements place)
+beside_marks elements row place =
+    tail_marks row place.element (suc place.cell) place.best place.rest (cells_after elements place)
 
 -- the marks in the elements after the first of places
 abbrev pub later_marks : List (List (ℕ × ℤ)) → ℕ → List Place → List Mark
 later_marks elements row [] = []
 later_marks elements row (place ∷ places) =
-    walk_marks row (suc place.element) place.best (place.rest -ℤ total (cells_after elements place)) places (drop (suc place.element) elements)
+    walk_marks row (suc place.element) place.best
+    (place.rest -ℤ total (cells_after elements place)) places
+    (drop (suc place.element) elements)
 
 -- the marks by a kind of growth
 abbrev pub row_marks : Growth → List (List (ℕ × ℤ)) → ℕ → List Place → List Mark
@@ -58,10 +86,13 @@ row_marks AfterLast elements row places = later_marks elements row places
 
 -- those of a record's tail and of a walk
 abbrev pub marks_in : (ℕ → Bool) → Tail → List Mark
-marks_in keep tail = tail_marks tail.row tail.element tail.first tail.best tail.ahead (weighed keep (pairs_of tail.cells.now))
+marks_in keep tail =
+    tail_marks tail.row tail.element tail.first tail.best tail.ahead
+    (weighed keep (pairs_of tail.cells.now))
 
 abbrev pub marks_past : List (List (ℕ × ℤ)) → ℕ → Walk → List Mark
-marks_past elements first walk = walk_marks walk.row first walk.best walk.ahead (places_of walk.left.now) (drop first elements)
+marks_past elements first walk =
+    walk_marks walk.row first walk.best walk.ahead (places_of walk.left.now) (drop first elements)
 
 -- a pattern may take a growth by an item; the empty one begins an itemset
 abbrev pub Begins : Growth → Type 0
@@ -79,10 +110,12 @@ pub record IsGrowth (keep : ℕ → Bool) (growth : Growth) (pattern : List (Lis
   pub fit : IsFit mark.place
 
 -- marks of all kept items by which a pattern can grow, in the order of the items: those of each are the places of the grown pattern
-pub record AreGrown (records : List (List (List (ℕ × ℤ)))) (keep : ℕ → Bool) (pattern : List (List ℕ)) (growth : Growth) (marks : List Mark) : Type 0 where
+pub record AreGrown (records : List (List (List (ℕ × ℤ)))) (keep : ℕ → Bool)
+    (pattern : List (List ℕ)) (growth : Growth) (marks : List Mark) : Type 0 where
   pub sorted : IsNonDecreasingBy (λ mark. mark.item.0) marks
   pub each : AllByRecursion (IsGrowth keep growth pattern) marks
-  pub places : (item : ℕ) → keep item ≡ true → MayTake growth pattern item → marks_with item marks ≡ marks_of records (grown growth pattern item) item
+  pub places : (item : ℕ) → keep item ≡ true → MayTake growth pattern item → marks_with item marks
+      ≡ marks_of records (grown growth pattern item) item
 
 -- marks of which no sum is too large stay so
 abbrev pub StaysFit : List Mark → List Mark → Type 0

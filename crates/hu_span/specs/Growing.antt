@@ -31,7 +31,8 @@ abbrev pub IsBegun : List (List ℕ) → Type 0
 IsBegun pattern = (pattern ≡ []) ⊎ IsReached pattern
 
 -- an entry is that of a pattern of kept items that grows from one, in any number of steps, and occurs
-pub record Grows (records : List (List (List (ℕ × ℤ)))) (keep : ℕ → Bool) (pattern : List (List ℕ)) (entry : Entry) : Type 0 where
+pub record Grows (records : List (List (List (ℕ × ℤ)))) (keep : ℕ → Bool) (pattern : List (List ℕ))
+    (entry : Entry) : Type 0 where
   pub other : List (List ℕ)
   pub from : IsGrownFrom pattern other
   pub kept : AreKept keep other
@@ -39,14 +40,16 @@ pub record Grows (records : List (List (List (ℕ × ℤ)))) (keep : ℕ → Boo
   pub is : entry ≡ sequence_entry records other
 
 -- the same, in at least one step
-pub record GrowsOn (records : List (List (List (ℕ × ℤ)))) (keep : ℕ → Bool) (pattern : List (List ℕ)) (entry : Entry) : Type 0 where
+pub record GrowsOn (records : List (List (List (ℕ × ℤ)))) (keep : ℕ → Bool)
+    (pattern : List (List ℕ)) (entry : Entry) : Type 0 where
   pub growth : Growth
   pub item : ℕ
   pub may : MayTake growth pattern item
   pub grows : Grows records keep (grown growth pattern item) entry
 
 -- the same, in at least two steps
-pub record GrowsOver (records : List (List (List (ℕ × ℤ)))) (keep : ℕ → Bool) (pattern : List (List ℕ)) (entry : Entry) : Type 0 where
+pub record GrowsOver (records : List (List (List (ℕ × ℤ)))) (keep : ℕ → Bool)
+    (pattern : List (List ℕ)) (entry : Entry) : Type 0 where
   pub growth : Growth
   pub item : ℕ
   pub may : MayTake growth pattern item

@@ -1,5 +1,21 @@
 -- The items that a search still takes, and the records in which they alone count.
-use Rattle.std.specs.Prelude.{◌≡◌, ◌==◌, ◌||◌, ◌<◌, ℕ, ℤ, pos, Bool, true, false, List, length, map, slice_index_or, if◌then◌else◌}
+use Rattle.std.specs.Prelude.{
+  ◌≡◌,
+  ◌==◌,
+  ◌||◌,
+  ◌<◌,
+  ℕ,
+  ℤ,
+  pos,
+  Bool,
+  true,
+  false,
+  List,
+  length,
+  map,
+  slice_index_or,
+  if◌then◌else◌,
+}
 use Rattle.std.specs.List.{list_any, AllByRecursion}
 use Rattle.hu_kind.specs.declared.item.Item.{Item}
 use Rattle.hu_span.specs.declared.mark.Mark.{Mark}
@@ -10,7 +26,8 @@ keeps kept item = kept.0 || list_any (λ one. item == one.0) kept.1
 
 -- a table tells of each number that has a place in it whether it is that of one of the items
 abbrev pub IsTable : List Item → List Bool → Type 0
-IsTable items table = (number : ℕ) → number < length table → slice_index_or table number false ≡ list_any (λ one. number == one.0) items
+IsTable items table = (number : ℕ) → number < length table → slice_index_or table number false
+    ≡ list_any (λ one. number == one.0) items
 
 -- a value where it counts, else 0
 abbrev pub counted : Bool → ℤ → ℤ

@@ -26,7 +26,8 @@ places_of marks = map (λ mark. mark.place) marks
 -- the places of a pattern that ends with an item, as marks, in records of which the first has a number
 abbrev pub marks_from : List (List ℕ) → ℕ → ℕ → List (List (List (ℕ × ℤ))) → List Mark
 marks_from pattern item row [] = []
-marks_from pattern item row (r ∷ rs) = map (mark_at row item) (chain_of pattern r) ++ marks_from pattern item (suc row) rs
+marks_from pattern item row (r ∷ rs) =
+    map (mark_at row item) (chain_of pattern r) ++ marks_from pattern item (suc row) rs
 
 -- and in all records
 abbrev pub marks_of : List (List (List (ℕ × ℤ))) → List (List ℕ) → ℕ → List Mark

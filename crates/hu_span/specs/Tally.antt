@@ -1,5 +1,22 @@
 -- What marks of one pattern tell, summed row by row.
-use Rattle.std.specs.Prelude.{◌==◌, ◌+◌, ◌&&◌, ℕ, nat_lt, ℤ, pos, Option, None, Some, ◌+ℤ◌, ◌≤ℤ◌, List, [], ◌∷◌, if◌then◌else◌}
+use Rattle.std.specs.Prelude.{
+  ◌==◌,
+  ◌+◌,
+  ◌&&◌,
+  ℕ,
+  nat_lt,
+  ℤ,
+  pos,
+  Option,
+  None,
+  Some,
+  ◌+ℤ◌,
+  ◌≤ℤ◌,
+  List,
+  [],
+  ◌∷◌,
+  if◌then◌else◌,
+}
 use Rattle.std.specs.Int.{int_max}
 use Rattle.hu_chain.specs.Bound.{reach}
 use Rattle.hu_span.specs.declared.mark.Mark.{Mark}

@@ -31,17 +31,20 @@ pub same_key : closed (open_key [] three_steps) ≡ sequence_key (pattern_of thr
 same_key = refl
 
 -- in `1[1] 4[12] -1 3[20] -1 2[4] -1 5[1] 7[2] -1` the pattern `1 -1` grows into its last itemset by 4
-pub into_one : row_marks IntoLast whole_record 0 (chain_of one whole_record) ≡ mark_at 0 4 (place_of 0 1 13 27) ∷ []
+pub into_one : row_marks IntoLast whole_record 0 (chain_of one whole_record)
+    ≡ mark_at 0 4 (place_of 0 1 13 27) ∷ []
 into_one = refl
 
 -- and after it by 3, 2, 5 and 7
 pub after_one : row_marks AfterLast whole_record 0 (chain_of one whole_record)
-    ≡ mark_at 0 3 (place_of 1 0 21 7) ∷ mark_at 0 2 (place_of 2 0 5 3) ∷ mark_at 0 5 (place_of 3 0 2 2) ∷ mark_at 0 7 (place_of 3 1 3 0) ∷ []
+    ≡ mark_at 0 3 (place_of 1 0 21 7) ∷ mark_at 0 2 (place_of 2 0 5 3) ∷ mark_at 0 5
+    (place_of 3 0 2 2) ∷ mark_at 0 7 (place_of 3 1 3 0) ∷ []
 after_one = refl
 
 -- in `1[9] -1 2[1] -1 1[2] -1 3[8] -1` it grows after its first place, by itself too, each after the best place before
 pub after_first_place : row_marks AfterLast several_places 0 (chain_of one several_places)
-    ≡ mark_at 0 2 (place_of 1 0 10 10) ∷ mark_at 0 1 (place_of 2 0 11 8) ∷ mark_at 0 3 (place_of 3 0 17 0) ∷ []
+    ≡ mark_at 0 2 (place_of 1 0 10 10) ∷ mark_at 0 1 (place_of 2 0 11 8) ∷ mark_at 0 3
+    (place_of 3 0 17 0) ∷ []
 after_first_place = refl
 
 -- in the two together it earns 9 and 1, and what grows from it at most 20 and 40
@@ -57,5 +60,6 @@ pub weighed_places : weighed_in (keeps (false, record { 0 = 1 } ∷ record { 0 =
 weighed_places = refl
 
 -- rows that reach 20 and 40: two marks of the second row count once
-pub spread_of_rows : spread (pos 20 ∷ pos 40 ∷ []) (mark_at 1 4 (place_of 0 1 13 27) ∷ mark_at 1 4 (place_of 2 0 5 3) ∷ []) ≡ pos 40
+pub spread_of_rows : spread (pos 20 ∷ pos 40 ∷ [])
+    (mark_at 1 4 (place_of 0 1 13 27) ∷ mark_at 1 4 (place_of 2 0 5 3) ∷ []) ≡ pos 40
 spread_of_rows = refl

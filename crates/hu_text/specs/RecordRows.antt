@@ -1,5 +1,23 @@
 -- Worked rows: texts of records, and what is read of them, by computation.
-use Rattle.std.specs.Prelude.{◌≡◌, ℕ, ◌^◌, ◌-◌, ℤ, pos, negsuc, Option, Ok, Err, List, [], ◌∷◌, ◌++◌, codes, sum_by, refl}
+use Rattle.std.specs.Prelude.{
+  ◌≡◌,
+  ℕ,
+  ◌^◌,
+  ◌-◌,
+  ℤ,
+  pos,
+  negsuc,
+  Option,
+  Ok,
+  Err,
+  List,
+  [],
+  ◌∷◌,
+  ◌++◌,
+  codes,
+  sum_by,
+  refl,
+}
 use Rattle.std.specs.Fmt.{digits}
 use Rattle.std.specs.Map.{lookup}
 use Rattle.std.specs.Str.{bytes_eq}

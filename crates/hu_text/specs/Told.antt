@@ -1,6 +1,24 @@
 -- The text of an answer, read: each line tells the numbers of a key, then `#SUP:` and a support
 -- where the task prints one, then `#UTIL:` and a utility.
-use Rattle.std.specs.Prelude.{ℕ, ◌^◌, ◌<◌, ◌==◌, ℤ, pos, unsigned_abs, Bool, Option, None, Some, List, map, filter_map, slice_get, slice_index, codes}
+use Rattle.std.specs.Prelude.{
+  ℕ,
+  ◌^◌,
+  ◌<◌,
+  ◌==◌,
+  ℤ,
+  pos,
+  unsigned_abs,
+  Bool,
+  Option,
+  None,
+  Some,
+  List,
+  map,
+  filter_map,
+  slice_get,
+  slice_index,
+  codes,
+}
 use Rattle.std.specs.List.{AllByRecursion, before_first, after_first}
 use Rattle.std.specs.Option.{option_and_then}
 use Rattle.std.specs.Result.{result_ok}

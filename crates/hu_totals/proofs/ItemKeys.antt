@@ -16,11 +16,13 @@ lookup-pairs_with item (e ∷ es) = ap (cond (nat_eq item.0 e.0.0) (Some e.1)) (
 
 insert-pairs_with-cons : (b : Bool) (item : Item) (total : ItemTotal) (e : Item × ItemTotal) (es : List (Item × ItemTotal))
     → pairs_with (insert_entry same_item es item total) ≡ insert_entry nat_eq (pairs_with es) item.0 total
-    → pairs_with (cond b ((e.0, total) ∷ es) (e ∷ insert_entry same_item es item total)) ≡ cond b ((e.0.0, total) ∷ pairs_with es) (numbered e ∷ insert_entry nat_eq (pairs_with es) item.0 total)
+    → pairs_with (cond b ((e.0, total) ∷ es) (e ∷ insert_entry same_item es item total))
+    ≡ cond b ((e.0.0, total) ∷ pairs_with es) (numbered e ∷ insert_entry nat_eq (pairs_with es) item.0 total)
 insert-pairs_with-cons true item total e es ih = refl
 insert-pairs_with-cons false item total e es ih = ap (λ rest. numbered e ∷ rest) ih
 
-pub insert-pairs_with : (item : Item) (total : ItemTotal) (entries : List (Item × ItemTotal)) → pairs_with (insert_entry same_item entries item total) ≡ insert_entry nat_eq (pairs_with entries) item.0 total
+pub insert-pairs_with : (item : Item) (total : ItemTotal) (entries : List (Item × ItemTotal))
+    → pairs_with (insert_entry same_item entries item total) ≡ insert_entry nat_eq (pairs_with entries) item.0 total
 insert-pairs_with item total [] = refl
 insert-pairs_with item total (e ∷ es) = insert-pairs_with-cons (nat_eq item.0 e.0.0) item total e es (insert-pairs_with item total es)
 

@@ -1,5 +1,7 @@
 -- What the records over ranks keep of a database.
-use Rattle.std.proofs.Common.{◌≡◌, ℕ, suc, ◌<◌, ◌+◌, Bool, true, false, not, cond, eqb, nat_lt, ◌&&◌, ℤ, pos, negsuc, ◌+ℤ◌, ◌≤ℤ◌, int_le, List, [], ◌∷◌, ◌++◌, map, filter, length, refl, sym, ap, ◌∙◌, subst, inl, inr, ◌⊎◌, arith, flat_map, All, Contains, append_assoc}
+use Rattle.std.proofs.Common.{◌≡◌, ℕ, suc, ◌<◌, ◌+◌, Bool, true, false, not, cond, eqb, nat_lt, ◌&&◌, ℤ, pos, negsuc}
+use Rattle.std.proofs.Common.{◌+ℤ◌, ◌≤ℤ◌, int_le, List, [], ◌∷◌, ◌++◌, map, filter, length, refl, sym, ap, ◌∙◌, subst}
+use Rattle.std.proofs.Common.{inl, inr, ◌⊎◌, arith, flat_map, All, Contains, append_assoc}
 use Rattle.std.specs.List.{AllByRecursion}
 use Rattle.std.proofs.lemmas.Bool.{eq-eqb, ne_eqb, cases_eq, cases_lt, and_parts, and_from, lt-ltb}
 use Rattle.std.proofs.lemmas.Int.{ints}
@@ -11,7 +13,8 @@ use Rattle.hu_kind.specs.Record.{has, holds, value_of, values_of, utility_in, po
 use Rattle.hu_kind.specs.Database.{utility, support, twu, items_of}
 use Rattle.hu_kind.specs.Itemsets.{sublists, occurring_sets, item_entry, item_patterns}
 use Rattle.hu_kind.specs.Answer.{found}
-use Rattle.hu_kind.proofs.lemmas.Members.{Member, Member-from_contains, Contains-from_member, Member-append_cases, Member-map, Member-from_map, Member-filter, Member-from_filter}
+use Rattle.hu_kind.proofs.lemmas.Members.{Member, Member-from_contains, Contains-from_member, Member-append_cases}
+use Rattle.hu_kind.proofs.lemmas.Members.{Member-map, Member-from_map, Member-filter, Member-from_filter}
 use Rattle.hu_kind.proofs.lemmas.Occurring.{at_member, by_members, Member-ranking, Occurs, held-members, Occurs-from_member, Member-from_occurs}
 use Rattle.hu_totals.specs.declared.weights.RankOrder.{RankOrder}
 use Rattle.hu_totals.specs.Ranked.{ranked_by, ordered_items, by_order, cells_from, over_ranks, item_at, unranked}
@@ -46,7 +49,8 @@ with_items-from before (x ∷ xs) cells =
     by (has x cells) rest
   where
     by : (b : Bool) → with_items (before ++ x ∷ xs) (cells_from (length before + 1) xs cells) ≡ kept xs cells
-        → with_items (before ++ x ∷ xs) (cond b ((length before, value_of x cells) ∷ []) [] ++ cells_from (length before + 1) xs cells) ≡ cond b ((x, value_of x cells) ∷ []) [] ++ kept xs cells
+        → with_items (before ++ x ∷ xs) (cond b ((length before, value_of x cells) ∷ []) []
+        ++ cells_from (length before + 1) xs cells) ≡ cond b ((x, value_of x cells) ∷ []) [] ++ kept xs cells
     by true rest = λ j. (item_at-middle before x xs j, value_of x cells) ∷ rest j
     by false rest = rest
 
@@ -66,13 +70,15 @@ has-kept_none item (x ∷ xs) cells out = by (has x cells) refl (has-kept_none i
       | inr ne ↦ let other : eqb item x ≡ false = ne_eqb item x ne in rw other rest
     ]
 
-has-kept : (item : ℕ) (items : List ℕ) (cells : List (ℕ × ℤ)) → Member item items → (has item (kept items cells) ≡ has item cells) × (value_of item (kept items cells) ≡ value_of item cells)
+has-kept : (item : ℕ) (items : List ℕ) (cells : List (ℕ × ℤ)) → Member item items
+    → (has item (kept items cells) ≡ has item cells) × (value_of item (kept items cells) ≡ value_of item cells)
 has-kept item [] cells m = absurd m
 has-kept item (x ∷ xs) cells m = by (has x cells) refl (has-kept item xs cells) (cases_eq item x) m
   where
     by : (b : Bool) → has x cells ≡ b → (Member item xs → (has item (kept xs cells) ≡ has item cells) × (value_of item (kept xs cells) ≡ value_of item cells))
         → (item ≡ x) ⊎ (item ≡ x → ⊥) → Member item (x ∷ xs)
-        → (has item (cond b ((x, value_of x cells) ∷ []) [] ++ kept xs cells) ≡ has item cells) × (value_of item (cond b ((x, value_of x cells) ∷ []) [] ++ kept xs cells) ≡ value_of item cells)
+        → (has item (cond b ((x, value_of x cells) ∷ []) [] ++ kept xs cells) ≡ has item cells)
+        × (value_of item (cond b ((x, value_of x cells) ∷ []) [] ++ kept xs cells) ≡ value_of item cells)
     by true h ih (inl e) m' =
         let here : eqb item x ≡ true = eq-eqb item x e in
         let there : has item cells ≡ true = ap (λ i. has i cells) e ∙ h in
@@ -86,7 +92,8 @@ has-kept item (x ∷ xs) cells m = by (has x cells) refl (has-kept item xs cells
     by true h ih (inr ne) (inr n) = let other : eqb item x ≡ false = ne_eqb item x ne in simp other (ih n)
     by false h ih (inr ne) (inr n) = ih n
 
-holds-kept : (set items : List ℕ) (cells : List (ℕ × ℤ)) → AllByRecursion (λ i. Member i items) set → (holds set (kept items cells) ≡ holds set cells) × (values_of set (kept items cells) ≡ values_of set cells)
+holds-kept : (set items : List ℕ) (cells : List (ℕ × ℤ)) → AllByRecursion (λ i. Member i items) set
+    → (holds set (kept items cells) ≡ holds set cells) × (values_of set (kept items cells) ≡ values_of set cells)
 holds-kept [] items cells all = (refl, refl)
 holds-kept (x ∷ xs) items cells all =
     let one = has-kept x items cells all.0 in
@@ -99,7 +106,8 @@ holds-none (x ∷ xs) some = refl
 
 nothing : (cells : List (ℕ × ℤ)) → nat_lt 0 (length cells) ≡ false → cells ≡ []
 nothing [] h = refl
-nothing (c ∷ cs) h = let more : nat_lt 0 (length (c ∷ cs)) ≡ true = lt-ltb 0 (length (c ∷ cs)) (omega arith) in let never : true ≡ false = sym more ∙ h in absurd (cc)
+nothing (c ∷ cs) h = let more : nat_lt 0 (length (c ∷ cs)) ≡ true =
+    lt-ltb 0 (length (c ∷ cs)) (omega arith) in let never : true ≡ false = sym more ∙ h in absurd (cc)
 
 module _ (items set : List ℕ) (some : 0 < length set) (all : AllByRecursion (λ i. Member i items) set) where
   -- a record that holds the set holds it over the ranks
@@ -120,7 +128,8 @@ module _ (items set : List ℕ) (some : 0 < length set) (all : AllByRecursion (�
   utility-over (r ∷ rs) = by (nat_lt 0 (length (cells_from 0 items r))) refl (utility-over rs)
     where
       by : (b : Bool) → nat_lt 0 (length (cells_from 0 items r)) ≡ b → utility (map (with_items items) (over_ranks items rs)) set ≡ utility rs set
-          → utility (map (with_items items) (cond b (cells_from 0 items r ∷ over_ranks items rs) (over_ranks items rs))) set ≡ utility_in set r +ℤ utility rs set
+          → utility (map (with_items items) (cond b (cells_from 0 items r ∷ over_ranks items rs) (over_ranks items rs)))
+          set ≡ utility_in set r +ℤ utility rs set
       by true h ih = λ j. over-utility r j +ℤ ih j
       by false h ih =
           let none : utility_in set r ≡ pos 0 = ap (λ b. cond b (values_of set r) (pos 0)) (left_out r h) in
@@ -186,7 +195,8 @@ Ascend-others x (y ∷ ys) up = by (eqb y x) (each-others (λ z. y < z) x ys up.
     by true above rest = rest
     by false above rest = (above, rest)
 
-values_of-past : (cell : ℕ × ℤ) (cells : List (ℕ × ℤ)) (set : List ℕ) → AllByRecursion (λ i. cell.0 < i) set → values_of set (cell ∷ cells) ≡ values_of (others cell.0 set) cells
+values_of-past : (cell : ℕ × ℤ) (cells : List (ℕ × ℤ)) (set : List ℕ) → AllByRecursion (λ i. cell.0 < i) set
+    → values_of set (cell ∷ cells) ≡ values_of (others cell.0 set) cells
 unfolding others
 values_of-past cell cells [] above = refl
 values_of-past cell cells (i ∷ is) above =
@@ -194,7 +204,8 @@ values_of-past cell cells (i ∷ is) above =
     let ih = values_of-past cell cells is above.1 in
     simp other (ap (λ v. value_of i cells +ℤ v) ih)
 
-values_of-cell : (cell : ℕ × ℤ) (cells : List (ℕ × ℤ)) (set : List ℕ) → Ascend set → values_of set (cell ∷ cells) ≤ℤ (positive_part cell.1 +ℤ values_of (others cell.0 set) cells)
+values_of-cell : (cell : ℕ × ℤ) (cells : List (ℕ × ℤ)) (set : List ℕ) → Ascend set
+    → values_of set (cell ∷ cells) ≤ℤ (positive_part cell.1 +ℤ values_of (others cell.0 set) cells)
 unfolding others
 values_of-cell cell cells [] up = let part = (positive_part-upper cell.1).1 in omega (arith, ints)
 values_of-cell cell cells (i ∷ is) up = elim (cases_eq i cell.0) [
@@ -226,7 +237,8 @@ has-held x [] cells h m = absurd m
 has-held x (y ∷ ys) cells h (inl e) = ap (λ i. has i cells) (sym e) ∙ (and_parts (has y cells) (holds ys cells) h).0
 has-held x (y ∷ ys) cells h (inr m) = has-held x ys cells (and_parts (has y cells) (holds ys cells) h).1 m
 
-utility_in-gained : (x : ℕ) (set : List ℕ) (cells : List (ℕ × ℤ)) → Ascend set → Member x set → utility_in set cells ≤ℤ cond (holds (x ∷ []) cells) (gain cells) (pos 0)
+utility_in-gained : (x : ℕ) (set : List ℕ) (cells : List (ℕ × ℤ)) → Ascend set → Member x set
+    → utility_in set cells ≤ℤ cond (holds (x ∷ []) cells) (gain cells) (pos 0)
 utility_in-gained x set cells up m = by (holds set cells) refl
   where
     least : (b : Bool) → pos 0 ≤ℤ cond b (gain cells) (pos 0)
@@ -247,7 +259,8 @@ utility-unheld : (records : List (List (ℕ × ℤ))) (set : List ℕ) → suppo
 utility-unheld [] set none = refl
 utility-unheld (r ∷ rs) set none = by (holds set r) (sym (sum_by-cons (λ c. cond (holds set c) 1 0) r rs) ∙ none) (utility-unheld rs set)
   where
-    by : (b : Bool) → cond b 1 0 + support rs set ≡ 0 → (support rs set ≡ 0 → utility rs set ≡ pos 0) → cond b (values_of set r) (pos 0) +ℤ utility rs set ≡ pos 0
+    by : (b : Bool) → cond b 1 0 + support rs set ≡ 0 → (support rs set ≡ 0 → utility rs set ≡ pos 0)
+        → cond b (values_of set r) (pos 0) +ℤ utility rs set ≡ pos 0
     by true h ih = absurd (omega arith)
     by false h ih = let rest = ih (omega arith) in omega (arith, ints)
 
@@ -258,10 +271,13 @@ held records set earns = elim (cases_lt 0 (support records set)) [
 ]
 
 module _ (order : RankOrder) (floor : ℤ) (records : List (List (ℕ × ℤ))) (least : pos 1 ≤ℤ floor) where
-  ranked-member : (x : ℕ) (set : List ℕ) → Ascend set → AllByRecursion (λ i. Member i (flat_map items_in records)) set → floor ≤ℤ utility records set → Member x set → Member x (ordered_items order floor records)
+  ranked-member : (x : ℕ) (set : List ℕ) → Ascend set → AllByRecursion (λ i. Member i (flat_map items_in records)) set
+      → floor ≤ℤ utility records set → Member x set → Member x (ordered_items order floor records)
   ranked-member x set up occurs high m =
       let weight = utility-twu records x set up m in
-      let here : Member x (items_of records) = Member-ranking x (flat_map items_in records) (at_member (λ i. Member i (flat_map items_in records)) x set occurs m) in
+      let here : Member x (items_of records) =
+      Member-ranking x (flat_map items_in records) (at_member
+      (λ i. Member i (flat_map items_in records)) x set occurs m) in
       let reaches : int_le floor (twu records (x ∷ [])) ≡ true = grind (arith, ints) in
       Member-to_ranking (by_order order records) (by_order_exact order records) x (filter (λ i. int_le floor (twu records (i ∷ []))) (items_of records))
       (Member-filter (λ i. int_le floor (twu records (i ∷ []))) x (items_of records) here reaches)
@@ -272,7 +288,9 @@ module _ (order : RankOrder) (floor : ℤ) (records : List (List (ℕ × ℤ))) 
   RanksHigh-ranked (x ∷ xs) inside high =
       let set = x ∷ xs in
       let some = held records set (omega (arith, ints)) in
-      let occurring = Member-filter (λ s. nat_lt 0 (length s) && nat_lt 0 (support records s)) set (sublists (items_of records)) (Member-from_contains set (sublists (items_of records)) inside)
+      let occurring =
+      Member-filter (λ s. nat_lt 0 (length s) && nat_lt 0 (support records s)) set (sublists (items_of records))
+      (Member-from_contains set (sublists (items_of records)) inside)
       (and_from (nat_lt 0 (length set)) (nat_lt 0 (support records set)) (lt-ltb 0 (length set) (omega arith)) (lt-ltb 0 (support records set) some)) in
       let o = Occurs-from_member records set occurring in
       let items = ordered_items order floor records in
@@ -285,24 +303,29 @@ module _ (order : RankOrder) (floor : ℤ) (records : List (List (ℕ × ℤ))) 
   member-kept i [] cells m = m
   member-kept i (x ∷ xs) cells m = by (has x cells) (member-kept i xs cells) m
     where
-      by : (b : Bool) → (Member i (items_in (kept xs cells)) → Member i xs) → Member i (items_in (cond b ((x, value_of x cells) ∷ []) [] ++ kept xs cells)) → Member i (x ∷ xs)
+      by : (b : Bool) → (Member i (items_in (kept xs cells)) → Member i xs)
+          → Member i (items_in (cond b ((x, value_of x cells) ∷ []) [] ++ kept xs cells)) → Member i (x ∷ xs)
       by true ih (inl e) = inl e
       by true ih (inr n) = inr (ih n)
       by false ih n = inr (ih n)
 
-  member-over : (i : ℕ) (items : List ℕ) (rs : List (List (ℕ × ℤ))) → Member i (flat_map items_in (map (with_items items) (over_ranks items rs))) → Member i items
+  member-over : (i : ℕ) (items : List ℕ) (rs : List (List (ℕ × ℤ)))
+      → Member i (flat_map items_in (map (with_items items) (over_ranks items rs))) → Member i items
   member-over i items [] m = absurd m
   member-over i items (r ∷ rs) m = by (nat_lt 0 (length (cells_from 0 items r))) (member-over i items rs) m
     where
       by : (b : Bool) → (Member i (flat_map items_in (map (with_items items) (over_ranks items rs))) → Member i items)
           → Member i (flat_map items_in (map (with_items items) (cond b (cells_from 0 items r ∷ over_ranks items rs) (over_ranks items rs)))) → Member i items
-      by true ih m' = elim (Member-append_cases i (items_in (with_items items (cells_from 0 items r))) (flat_map items_in (map (with_items items) (over_ranks items rs))) m') [
-        | inl here ↦ member-kept i items r (subst (λ cells. Member i (items_in cells)) (with_items-kept items r) here)
-        | inr there ↦ ih there
-      ]
+      by true ih m' =
+          elim (Member-append_cases i (items_in (with_items items (cells_from 0 items r)))
+          (flat_map items_in (map (with_items items) (over_ranks items rs))) m') [
+            | inl here ↦ member-kept i items r (subst (λ cells. Member i (items_in cells)) (with_items-kept items r) here)
+            | inr there ↦ ih there
+          ]
       by false ih m' = ih m'
 
-  same_entry : (set : List ℕ) → 0 < length set → All (Contains (ordered_items order floor records)) set → item_entry (unranked (ranked_by order floor records)) set ≡ item_entry records set
+  same_entry : (set : List ℕ) → 0 < length set → All (Contains (ordered_items order floor records)) set
+      → item_entry (unranked (ranked_by order floor records)) set ≡ item_entry records set
   same_entry set some all =
       let same = KeepsSets-ranked order floor records set some all in
       λ j. record { key = map pos set; utility = same.0 j; support = same.1 j }
@@ -314,13 +337,16 @@ module _ (order : RankOrder) (floor : ℤ) (records : List (List (ℕ × ℤ))) 
       to c =
           let over = unranked (ranked_by order floor records) in
           let items = ordered_items order floor records in
-          let kept' = Member-from_filter (λ (e : Entry). int_le low e.utility) entry (item_patterns over) (Member-from_contains entry (found low (item_patterns over)) c) in
+          let kept' =
+          Member-from_filter (λ (e : Entry). int_le low e.utility) entry (item_patterns over)
+          (Member-from_contains entry (found low (item_patterns over)) c) in
           let of_set = Member-from_map (item_entry over) entry (occurring_sets over) kept'.0 in
           let set = of_set.0 in
           let o = Occurs-from_member over set of_set.1 in
           let inside = held-members over set o.held in
           let all = All-from_each (Contains items) set
-          (by_members (Contains items) set (λ i m. Contains-from_member i items (member-over i items records (at_member (λ j. Member j (flat_map items_in over)) i set inside m)))) in
+          (by_members (Contains items) set (λ i m. Contains-from_member i items
+          (member-over i items records (at_member (λ j. Member j (flat_map items_in over)) i set inside m)))) in
           let same = KeepsSets-ranked order floor records set o.some all in
           let o' : Occurs records set = record { some = o.some; ascending = o.ascending; held = subst (λ n. 0 < n) same.1 o.held } in
           let entry' = sym (same_entry set o.some all) ∙ of_set.2 in
@@ -331,7 +357,9 @@ module _ (order : RankOrder) (floor : ℤ) (records : List (List (ℕ × ℤ))) 
       from : Contains (found low (item_patterns records)) entry → Contains (found low (item_patterns (unranked (ranked_by order floor records)))) entry
       from c =
           let over = unranked (ranked_by order floor records) in
-          let kept' = Member-from_filter (λ (e : Entry). int_le low e.utility) entry (item_patterns records) (Member-from_contains entry (found low (item_patterns records)) c) in
+          let kept' =
+          Member-from_filter (λ (e : Entry). int_le low e.utility) entry (item_patterns records)
+          (Member-from_contains entry (found low (item_patterns records)) c) in
           let of_set = Member-from_map (item_entry records) entry (occurring_sets records) kept'.0 in
           let set = of_set.0 in
           let o = Occurs-from_member records set of_set.1 in

@@ -1,5 +1,21 @@
 -- What totals become with a record more.
-use Rattle.std.specs.Prelude.{◌≡◌, ℕ, ◌+◌, ◌^◌, ◌<◌, ℤ, pos, ◌+ℤ◌, unsigned_abs, List, [], map, fold, nat_eq, refl}
+use Rattle.std.specs.Prelude.{
+  ◌≡◌,
+  ℕ,
+  ◌+◌,
+  ◌^◌,
+  ◌<◌,
+  ℤ,
+  pos,
+  ◌+ℤ◌,
+  unsigned_abs,
+  List,
+  [],
+  map,
+  fold,
+  nat_eq,
+  refl,
+}
 use Rattle.std.specs.Option.{unwrap_or}
 use Rattle.std.specs.Map.{lookup}
 use Rattle.indexmap.specs.IndexMap.{insert_entry}
@@ -28,7 +44,8 @@ grown total value gained = record {
 
 -- totals with a cell more of a record that gains a sum
 abbrev pub with_cell : ℤ → List (ℕ × ItemTotal) → ℕ × ℤ → List (ℕ × ItemTotal)
-with_cell gained totals cell = insert_entry nat_eq totals cell.0 (grown (total_in totals cell.0) cell.1 gained)
+with_cell gained totals cell =
+    insert_entry nat_eq totals cell.0 (grown (total_in totals cell.0) cell.1 gained)
 
 -- totals with a record more
 abbrev pub with_record : List (ℕ × ItemTotal) → List (ℕ × ℤ) → List (ℕ × ItemTotal)

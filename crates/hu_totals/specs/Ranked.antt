@@ -2,7 +2,30 @@
 -- holds it earns the floor. The other items are numbered from 0 in an order, by this utility ascending, then by item, or first
 -- by the size of their mean value; records keep their cells, by rank ascending, and a record without any is left out. After
 -- Two-Phase (Liu, Liao and Choudhary, 2005) and HUI-Miner (Liu and Qu, 2012).
-use Rattle.std.specs.Prelude.{ℕ, ◌+◌, ◌^◌, ◌<◌, ◌≤◌, nat_lt, ℤ, pos, ◌≤ℤ◌, int_le, unsigned_abs, max, ◌/◌, ◌≢◌, List, [], ◌∷◌, ◌++◌, map, length, slice_index_or, if◌then◌else◌}
+use Rattle.std.specs.Prelude.{
+  ℕ,
+  ◌+◌,
+  ◌^◌,
+  ◌<◌,
+  ◌≤◌,
+  nat_lt,
+  ℤ,
+  pos,
+  ◌≤ℤ◌,
+  int_le,
+  unsigned_abs,
+  max,
+  ◌/◌,
+  ◌≢◌,
+  List,
+  [],
+  ◌∷◌,
+  ◌++◌,
+  map,
+  length,
+  slice_index_or,
+  if◌then◌else◌,
+}
 use Rattle.std.specs.List.{All, AllAdjacentBelow, filter, sum_by}
 use Rattle.std.specs.declared.cmp.Ordering.{Ordering}
 use Rattle.std.specs.Ordering.{nat_cmp, int_cmp, on, then_cmp}
@@ -36,21 +59,27 @@ smallness_of Value total = leading_zeros w128 (mean_of total)
 
 -- items in an order of ranks: by how small their mean values are, then by their transaction-weighted utility, then by number
 abbrev pub by_order : RankOrder → List (List (ℕ × ℤ)) → ℕ → ℕ → Ordering
-by_order order records = then_cmp (on (λ item. smallness_of order (total_of records item)) nat_cmp) (by_twu records)
+by_order order records =
+    then_cmp (on (λ item. smallness_of order (total_of records item)) nat_cmp) (by_twu records)
 
 -- the items whose transaction-weighted utility reaches a floor, in an order of ranks
 abbrev pub ordered_items : RankOrder → ℤ → List (List (ℕ × ℤ)) → List ℕ
 ordered_items order floor records =
-    ranking (by_order order records) (filter (λ item. int_le floor (twu records (item ∷ []))) (items_of records))
+    ranking (by_order order records) (filter (λ item. int_le floor (twu records (item ∷ [])))
+    (items_of records))
 
 -- the items that have a rank, in the order of their ranks
 abbrev pub ranked_items : ℤ → List (List (ℕ × ℤ)) → List ℕ
-ranked_items floor records = ranking (by_twu records) (filter (λ item. int_le floor (twu records (item ∷ []))) (items_of records))
+ranked_items floor records =
+    ranking (by_twu records) (filter (λ item. int_le floor (twu records (item ∷ [])))
+    (items_of records))
 
 -- a record's cells over these items, which have the ranks from a number on
 abbrev pub cells_from : ℕ → List ℕ → List (ℕ × ℤ) → List (ℕ × ℤ)
 cells_from rank [] cells = []
-cells_from rank (item ∷ items) cells = (if has item cells then (rank, value_of item cells) ∷ [] else []) ++ cells_from (rank + 1) items cells
+cells_from rank (item ∷ items) cells =
+    (if has item cells then (rank, value_of item cells) ∷ [] else [])
+    ++ cells_from (rank + 1) items cells
 
 -- the records over the ranks of these items
 abbrev pub over_ranks : List ℕ → List (List (ℕ × ℤ)) → List (List (ℕ × ℤ))
@@ -58,7 +87,13 @@ over_ranks items records = filter (λ cells. nat_lt 0 (length cells)) (map (cell
 
 -- the records of a database over ranks
 abbrev pub ranked : ℤ → List (List (ℕ × ℤ)) → Ranking
-ranked floor records = record { floor = floor; items = ranked_items floor records; records = over_ranks (ranked_items floor records) records }
+ranked floor records =
+    record {
+      floor = floor;
+      items = ranked_items floor records;
+      records =
+          over_ranks (ranked_items floor records) records;
+    }
 
 -- the records of a database over ranks in an order
 abbrev pub ranked_by : RankOrder → ℤ → List (List (ℕ × ℤ)) → Ranking

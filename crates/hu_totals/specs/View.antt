@@ -16,4 +16,5 @@ pairs_in cells = map dense_pair cells.items
 
 -- the parts of ranked records together
 abbrev pub ranking_of : ℤ → List Item → List (Vec Dense Global) → Ranking
-ranking_of floor items records = record { floor = floor; items = map (λ item. item.0) items; records = map pairs_in records }
+ranking_of floor items records =
+    record { floor = floor; items = map (λ item. item.0) items; records = map pairs_in records }

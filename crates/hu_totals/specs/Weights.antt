@@ -1,5 +1,21 @@
 -- How ranks are found: items are weighed by what they are ordered by, and cells take the ranks of their items.
-use Rattle.std.specs.Prelude.{◌≡◌, ℕ, nat_eq, Bool, ℤ, pos, int_le, position, List, [], ◌∷◌, map, option_map, option_to_list, refl}
+use Rattle.std.specs.Prelude.{
+  ◌≡◌,
+  ℕ,
+  nat_eq,
+  Bool,
+  ℤ,
+  pos,
+  int_le,
+  position,
+  List,
+  [],
+  ◌∷◌,
+  map,
+  option_map,
+  option_to_list,
+  refl,
+}
 use Rattle.std.specs.List.{filter, flat_map}
 use Rattle.std.specs.declared.cmp.Ordering.{Ordering}
 use Rattle.std.specs.Ordering.{nat_cmp, int_cmp, on, then_cmp}
@@ -21,7 +37,9 @@ pub record Weight : Type 0 where
 
 -- weights by smallness, then by transaction-weighted utility, then by item
 abbrev pub weight_cmp : Weight → Weight → Ordering
-weight_cmp = then_cmp (on (λ w. w.small) nat_cmp) (then_cmp (on (λ w. w.twu) int_cmp) (on (λ w. w.item) nat_cmp))
+weight_cmp =
+    then_cmp (on (λ w. w.small) nat_cmp) (then_cmp (on (λ w. w.twu) int_cmp)
+    (on (λ w. w.item) nat_cmp))
 
 -- an item of totals with what an order asks of it
 abbrev pub weigh : RankOrder → ℕ × ItemTotal → Weight

@@ -8,7 +8,16 @@ use Rattle.hu_totals.specs.Ranked.{ordered_items, ranked_items}
 
 -- an item with its utility, its positive values, its support and its transaction-weighted utility
 abbrev pub total_row : ℕ → ℕ → ℕ → ℕ → ℕ → ℕ × ItemTotal
-total_row item earned above records gained = (item, record { utility = pos earned; positive = pos above; support = records; twu = pos gained })
+total_row item earned above records gained = (
+  item,
+  record {
+    utility = pos earned;
+    positive = pos above;
+    support = records;
+    twu =
+        pos gained;
+  },
+)
 
 -- the totals of base A, in first-seen order
 pub totals_of_base_a : item_totals base_a ≡

@@ -146,7 +146,8 @@ fn ranked_records(
 ) -> Result<Vec<Vec<Dense>>, NoMemory>
     requires apart { IsDistinct nat_eq (numbers_of items.now.keys) }
     requires few { length items.now.keys ≤ 2 ^ 32 }
-    ensures value { IfOk result (λ ranked. map pairs_in ranked.items ≡ over_ranks (numbers_of items.now.keys) records.now) }
+    ensures value { IfOk result (λ ranked. map pairs_in ranked.items
+        ≡ over_ranks (numbers_of items.now.keys) records.now) }
     ensures rules { OnOk result (AllByRecursion IsRecord records.now) }
 {
     let mut ranked = Vec::new(alloc);
@@ -166,7 +167,8 @@ fn ranked_cells(
     requires apart { IsDistinct nat_eq (numbers_of items.now.keys) }
     requires few { length items.now.keys ≤ 2 ^ 32 }
     requires ascending { Ascend (items_in (pairs_of cells.now)) }
-    ensures { IfOk result (λ ranked. pairs_in ranked ≡ cells_from 0 (numbers_of items.now.keys) (pairs_of cells.now)) }
+    ensures { IfOk result (λ ranked. pairs_in ranked ≡ cells_from 0 (numbers_of items.now.keys)
+        (pairs_of cells.now)) }
 {
     let mut ranked = dense_cells(alloc, items, cells)?;
     ranked.sort_unstable_by_key(|cell| cell.rank);
@@ -180,7 +182,8 @@ fn dense_cells(
     cells: &[Cell],
 ) -> Result<Vec<Dense>, NoMemory>
     requires { length items.now.keys ≤ 2 ^ 32 }
-    ensures { IfOk result (λ dense. pairs_in dense ≡ dense_cells (numbers_of items.now.keys) (pairs_of cells.now)) }
+    ensures { IfOk result (λ dense. pairs_in dense ≡ dense_cells (numbers_of items.now.keys)
+        (pairs_of cells.now)) }
 {
     let mut dense = Vec::new(alloc);
     for cell in cells {
@@ -194,7 +197,8 @@ fn dense_cells(
 /// A cell with the rank of its item, where that has one.
 fn dense_of(items: &IndexSet<Item>, cell: &Cell) -> Option<Dense>
     requires { length items.now.keys ≤ 2 ^ 32 }
-    ensures { option_to_list (option_map dense_pair result) ≡ dense_of (numbers_of items.now.keys) (pair_of cell.now) }
+    ensures { option_to_list (option_map dense_pair result)
+        ≡ dense_of (numbers_of items.now.keys) (pair_of cell.now) }
 {
     let rank = items.get_index_of(&cell.item)?;
     Some(Dense {
@@ -205,7 +209,9 @@ fn dense_of(items: &IndexSet<Item>, cell: &Cell) -> Option<Dense>
 
 /// Appends a record that has a cell.
 fn push_some(records: &mut Vec<Vec<Dense>>, cells: Vec<Dense>) -> Result<(), NoMemory>
-    ensures { OnOk result (map pairs_in records.new.items ≡ map pairs_in records.old.items ++ filter (λ cells. nat_lt 0 (length cells)) (pairs_in cells ∷ [])) }
+    ensures { OnOk result (map pairs_in records.new.items
+        ≡ map pairs_in records.old.items ++ filter (λ cells. nat_lt 0 (length cells))
+        (pairs_in cells ∷ [])) }
 {
     if !cells.is_empty() {
         records.push(cells)?;

@@ -110,8 +110,10 @@ impl Totals {
 fn add_record(totals: &mut IndexMap<Item, ItemTotal>, cells: &[Cell]) -> Result<(), NoMemory>
     requires ascending { Ascend (items_in (pairs_of cells.now)) }
     requires sum_fits { absolute_of (pairs_of cells.now) < 2 ^ 127 }
-    requires room { (item : ℕ) → HasRoom (total_in (pairs_with totals.old.entries) item) (absolute_of (pairs_of cells.now)) }
-    ensures { OnOk result (pairs_with totals.new.entries ≡ with_record (pairs_with totals.old.entries) (pairs_of cells.now)) }
+    requires room { (item : ℕ) → HasRoom (total_in (pairs_with totals.old.entries) item)
+        (absolute_of (pairs_of cells.now)) }
+    ensures { OnOk result (pairs_with totals.new.entries
+        ≡ with_record (pairs_with totals.old.entries) (pairs_of cells.now)) }
 {
     let gain = gain_of(cells);
     for cell in cells {
@@ -122,8 +124,10 @@ fn add_record(totals: &mut IndexMap<Item, ItemTotal>, cells: &[Cell]) -> Result<
 
 /// Adds a cell of a record with a gain to the totals.
 fn add_cell(totals: &mut IndexMap<Item, ItemTotal>, cell: &Cell, gain: i128) -> Result<(), NoMemory>
-    requires room { HasRoom (total_in (pairs_with totals.old.entries) cell.now.item.0) (max (unsigned_abs cell.now.value) (unsigned_abs gain)) }
-    ensures { OnOk result (pairs_with totals.new.entries ≡ with_cell gain (pairs_with totals.old.entries) (pair_of cell.now)) }
+    requires room { HasRoom (total_in (pairs_with totals.old.entries) cell.now.item.0)
+        (max (unsigned_abs cell.now.value) (unsigned_abs gain)) }
+    ensures { OnOk result (pairs_with totals.new.entries
+        ≡ with_cell gain (pairs_with totals.old.entries) (pair_of cell.now)) }
 {
     let total = total_of(totals, cell.item);
     totals.insert(cell.item, total.with(cell.value, gain))?;

@@ -100,7 +100,8 @@ fn weigh(
 
 /// The item at a place, where it reaches a floor.
 fn weighed_at(totals: &Totals, index: usize, floor: i128, order: RankOrder) -> Option<Weighed>
-    ensures { option_to_list (option_map weight_of result) ≡ weights order floor (option_to_list (slice_get totals.now index)) }
+    ensures { option_to_list (option_map weight_of result)
+        ≡ weights order floor (option_to_list (slice_get totals.now index)) }
 {
     let (item, total) = totals.at(index)?;
     if total.twu < floor {

@@ -1,5 +1,7 @@
 -- The canonical line of a record says that record.
-use Rattle.std.proofs.Common.{◌≡◌, ℕ, ◌+◌, ◌<◌, ◌≤◌, ◌^◌, ◌==◌, ℤ, pos, unsigned_abs, true, false, Option, None, unwrap_or, slice_get, Ok, Err, Result, List, [], ◌∷◌, length, map, zip, filter, get_or, refl, ap, ◌∙◌, arith, decimal}
+use Rattle.std.proofs.Common.{◌≡◌, ℕ, ◌+◌, ◌<◌, ◌≤◌, ◌^◌, ◌==◌, ℤ, pos, unsigned_abs, true, false, Option, None}
+use Rattle.std.proofs.Common.{unwrap_or, slice_get, Ok, Err, Result, List, [], ◌∷◌, length, map, zip, filter, get_or}
+use Rattle.std.proofs.Common.{refl, ap, ◌∙◌, arith, decimal}
 use Rattle.std.specs.Fmt.{signed_decimal}
 use Rattle.std.specs.List.{All, AllAdjacentBelow, join_with_byte, slice_split}
 use Rattle.std.specs.List.Sorted.{IsStrictlyIncreasing}
@@ -104,7 +106,9 @@ said-good : (a b c : List (List ℕ)) (items : List ℕ) (sum : ℤ) (others : L
     → map unsigned_abs (numbers number a) ≡ items → numbers signed_number b ≡ sum ∷ [] → numbers signed_number c ≡ others
     → said None a b c ≡ judged items sum others
 said-good a b c items sum others good one two three =
-    ap (λ bad. option_map_or Err (first_some (None ∷ bad ∷ [])) (judged (map unsigned_abs (numbers number a)) (unwrap_or (slice_get (numbers signed_number b) 0) (pos 0)) (numbers signed_number c))) good
+    ap (λ bad. option_map_or Err (first_some (None ∷ bad ∷ []))
+    (judged (map unsigned_abs (numbers number a)) (unwrap_or (slice_get (numbers signed_number b) 0) (pos 0))
+    (numbers signed_number c))) good
     ∙ ap (λ x. judged x (unwrap_or (slice_get (numbers signed_number b) 0) (pos 0)) (numbers signed_number c)) one
     ∙ ap (λ x. judged items (unwrap_or (slice_get x 0) (pos 0)) (numbers signed_number c)) two
     ∙ ap (judged items sum) three
@@ -165,8 +169,12 @@ reading-canonical cells rules =
     let sum_small : unsigned_abs (total cells) < 2 ^ 127 = omega (arith, total_within cells, rules.sum_fits) in
     let some : 0 < length cells = rules.itemset.some in
     let low : All (λ cell. cell.0 < 2 ^ 127) cells = λ k d within. omega (arith, rules.itemset.in_range k d within) in
-    let items_are : All IsToken item_texts = All-map IsToken (λ cell. decimal cell.0) cells (λ k d within. IsToken-decimal (get_or cells k d).0 (low k d within)) in
-    let values_are : All IsToken value_texts = All-map IsToken (λ cell. signed_decimal cell.1) cells (λ k d within. IsToken-signed_decimal (get_or cells k d).1 (small k d within)) in
+    let items_are : All IsToken item_texts =
+    All-map IsToken (λ cell. decimal cell.0) cells (λ k d within. IsToken-decimal (get_or cells k d).0
+    (low k d within)) in
+    let values_are : All IsToken value_texts =
+    All-map IsToken (λ cell. signed_decimal cell.1) cells
+    (λ k d within. IsToken-signed_decimal (get_or cells k d).1 (small k d within)) in
     let total_is : All IsToken (total_text ∷ []) = All-cons IsToken total_text [] (IsToken-signed_decimal (total cells) sum_small) (All-nil IsToken) in
     let pieces = join_with_byte 32 item_texts ∷ total_text ∷ join_with_byte 32 value_texts ∷ [] in
     let three : All (Lacks 58) pieces =
@@ -174,7 +182,8 @@ reading-canonical cells rules =
     (All-cons (Lacks 58) total_text (join_with_byte 32 value_texts ∷ []) (IsToken-signed_decimal (total cells) sum_small).no_colon
     (All-cons (Lacks 58) (join_with_byte 32 value_texts) [] (colon-join value_texts values_are) (All-nil (Lacks 58)))) in
     let items_said : All (λ cell. number (decimal cell.0) ≡ Ok (pos cell.0)) cells = λ k d within. number-decimal (get_or cells k d).0 (low k d within) in
-    let values_said : All (λ cell. signed_number (signed_decimal cell.1) ≡ Ok cell.1) cells = λ k d within. signed_number-signed_decimal (get_or cells k d).1 (small k d within) in
+    let values_said : All (λ cell. signed_number (signed_decimal cell.1) ≡ Ok cell.1) cells =
+    λ k d within. signed_number-signed_decimal (get_or cells k d).1 (small k d within) in
     let total_said = signed_number-signed_decimal (total cells) sum_small in
     let total_good : bad_total (total_text ∷ []) ≡ None = rw total_said refl in
     let total_read : numbers signed_number (total_text ∷ []) ≡ total cells ∷ [] = rw total_said refl in

@@ -17,7 +17,8 @@ pub pairs_of-push : (cells : List Cell) (cell : Cell) (rest : List (ℕ × ℤ))
 pairs_of-push [] cell rest = refl
 pairs_of-push (c ∷ cs) cell rest = ap (λ pairs. pair_of c ∷ pairs) (pairs_of-push cs cell rest)
 
-items-zip : (cells : List Cell) (items : List ℕ) (values : List ℤ) → pairs_of cells ≡ zip items values → length items ≡ length values → items_in (pairs_of cells) ≡ items
+items-zip : (cells : List Cell) (items : List ℕ) (values : List ℤ) → pairs_of cells ≡ zip items values → length items
+    ≡ length values → items_in (pairs_of cells) ≡ items
 items-zip cells items values are same = ap items_in are ∙ firsts-zip items values (sym same)
 
 pub twice-zip : (cells : List Cell) (items : List ℕ) (values : List ℤ) → pairs_of cells ≡ zip items values → length items ≡ length values

@@ -1,5 +1,6 @@
 -- What the numbers of a line say, fault by fault.
-use Rattle.std.proofs.Common.{◌≡◌, ℕ, ◌+◌, ◌<◌, ◌≤◌, ◌^◌, ◌==◌, ℤ, Bool, true, false, not, nat_lt, Option, None, Some, Ok, Err, List, [], ◌∷◌, ◌++◌, length, zip, position, refl, ap, ◌∙◌, arith}
+use Rattle.std.proofs.Common.{◌≡◌, ℕ, ◌+◌, ◌<◌, ◌≤◌, ◌^◌, ◌==◌, ℤ, Bool, true, false, not, nat_lt, Option, None, Some}
+use Rattle.std.proofs.Common.{Ok, Err, List, [], ◌∷◌, ◌++◌, length, zip, position, refl, ap, ◌∙◌, arith}
 use Rattle.std.specs.Bool.{then_some}
 use Rattle.std.specs.List.{position_from, All, position_or_len}
 use Rattle.std.specs.Option.{option_map, option_map_or, option_or}
@@ -15,7 +16,8 @@ use Rattle.hu_kind.specs.Record.{absolute_of, total}
 use Rattle.hu_kind.specs.First.{first_some}
 use Rattle.hu_trans.specs.declared.fault.Fault.{Fault}
 use Rattle.hu_trans.specs.declared.fault.Fault.TheVariants.{NoItems, TooManyItems, CountsDiffer, ItemOutOfRange, DuplicateItem, SumTooLarge}
-use Rattle.hu_trans.specs.Reading.{no_items, too_many_items, counts_differ, item_out_of_range, duplicate_item, sum_too_large, total_disagrees, number_faults, judged}
+use Rattle.hu_trans.specs.Reading.{no_items, too_many_items, counts_differ, item_out_of_range, duplicate_item}
+use Rattle.hu_trans.specs.Reading.{sum_too_large, total_disagrees, number_faults, judged}
 
 -- the faults of the items, but for one that stands twice, and those of the sums
 abbrev pub item_faults : List ℕ → List ℤ → List (Option Fault)
@@ -39,11 +41,13 @@ split_faults items sum values first h =
     first-append (item_faults items values) (duplicate_item items ∷ sum_faults sum (zip items values))
     ∙ ap (λ fault. option_or fault (first_some (duplicate_item items ∷ sum_faults sum (zip items values)))) h
 
-pub judged-items : (items : List ℕ) (sum : ℤ) (values : List ℤ) (fault : Fault) → first_some (item_faults items values) ≡ Some fault → judged items sum values ≡ Err fault
+pub judged-items : (items : List ℕ) (sum : ℤ) (values : List ℤ) (fault : Fault) → first_some (item_faults items values)
+    ≡ Some fault → judged items sum values ≡ Err fault
 judged-items items sum values fault h = judged-first items sum values (Some fault) (split_faults items sum values (Some fault) h)
 
 after_items : (items : List ℕ) (sum : ℤ) (values : List ℤ) (double : Option ℕ) → first_some (item_faults items values) ≡ None → twice items ≡ double
-    → first_some (number_faults items sum values) ≡ first_some (option_map (λ item. DuplicateItem (record { 0 = item })) double ∷ sum_faults sum (zip items values))
+    → first_some (number_faults items sum values) ≡ first_some
+    (option_map (λ item. DuplicateItem (record { 0 = item })) double ∷ sum_faults sum (zip items values))
 after_items items sum values double h d =
     split_faults items sum values None h
     ∙ ap (λ found. first_some (option_map (λ item. DuplicateItem (record { 0 = item })) found ∷ sum_faults sum (zip items values))) d

@@ -15,7 +15,8 @@ pub parts-first : (text : List ℕ) (place : ℕ) → position (λ byte. byte ==
 parts-first text place found =
     let is : place ≡ position_or_len (λ byte. byte == 58) text = grind (arith, nat_tests) in
     let within : position_or_len (λ byte. byte == 58) text < length text = grind (arith, nat_tests) in
-    let whole : take (length text - (place + 1)) (drop (place + 1) text) ≡ drop (place + 1) text = take_all (length text - (place + 1)) (drop (place + 1) text) (omega (arith, length-drop (place + 1) text)) in
+    let whole : take (length text - (place + 1)) (drop (place + 1) text) ≡ drop (place + 1) text =
+    take_all (length text - (place + 1)) (drop (place + 1) text) (omega (arith, length-drop (place + 1) text)) in
     rw (whole, is) (slice_split_first (λ byte. byte == 58) text 0 within)
 
 -- where no `:` stands, the text is one part

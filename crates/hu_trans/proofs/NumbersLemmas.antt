@@ -28,7 +28,8 @@ bad_token-some read texts left at text more fault place next bad =
 
 -- one more token, which is a number
 pub numbers-more : (read : List ℕ → Result ℤ NumberFault) (before pushed : List ℤ) (texts left : List (List ℕ)) (text : List ℕ) (value told : ℤ) (all : List ℤ)
-    → texts ≡ text ∷ left → read text ≡ Ok value → told ≡ value → pushed ≡ before ++ told ∷ [] → before ++ numbers read texts ≡ all → pushed ++ numbers read left ≡ all
+    → texts ≡ text ∷ left → read text ≡ Ok value → told ≡ value → pushed ≡ before ++ told ∷ []
+    → before ++ numbers read texts ≡ all → pushed ++ numbers read left ≡ all
 numbers-more read before pushed texts left text value told all next said same push so_far =
     let here : numbers read (text ∷ left) ≡ value ∷ numbers read left = rw said refl in
     ap (λ values. values ++ numbers read left) push
@@ -38,7 +39,8 @@ numbers-more read before pushed texts left text value told all next said same pu
     ∙ ap (λ more. before ++ numbers read more) (sym next)
     ∙ so_far
 
-pub bad_from-more : (read : List ℕ → Result ℤ NumberFault) (at : ℕ) (texts left : List (List ℕ)) (text : List ℕ) (value : ℤ) → texts ≡ text ∷ left → read text ≡ Ok value
+pub bad_from-more : (read : List ℕ → Result ℤ NumberFault) (at : ℕ) (texts left : List (List ℕ)) (text : List ℕ)
+    (value : ℤ) → texts ≡ text ∷ left → read text ≡ Ok value
     → bad_from read at texts ≡ bad_from read (at + 1) left
 bad_from-more read at texts left text value next said =
     let here : bad_from read at (text ∷ left) ≡ bad_from read (at + 1) left = rw said refl in

@@ -1,5 +1,6 @@
 -- A number that is written is read again.
-use Rattle.std.proofs.Common.{◌≡◌, ℕ, suc, ◌<◌, ◌≤◌, ◌^◌, ◌==◌, ℤ, pos, negsuc, neg_ℤ, unsigned_abs, false, Ok, List, [], ◌∷◌, length, slice_index, refl, ap, arith, decimal}
+use Rattle.std.proofs.Common.{◌≡◌, ℕ, suc, ◌<◌, ◌≤◌, ◌^◌, ◌==◌, ℤ, pos, negsuc, neg_ℤ, unsigned_abs, false, Ok, List}
+use Rattle.std.proofs.Common.{[], ◌∷◌, length, slice_index, refl, ap, arith, decimal}
 use Rattle.std.specs.Fmt.{signed_decimal}
 use Rattle.std.specs.Int.{IsInRange}
 use Rattle.std.specs.List.{All}

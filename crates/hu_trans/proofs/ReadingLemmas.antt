@@ -14,7 +14,8 @@ abbrev is_memory : Fault → Bool
 is_memory NoMemory = true
 is_memory _ = false
 
-not_memory : (first : Option Fault) (rest : Result (List (ℕ × ℤ)) Fault) → passes is_memory first ≡ false → rest ≢ Err NoMemory → option_map_or Err first rest ≢ Err NoMemory
+not_memory : (first : Option Fault) (rest : Result (List (ℕ × ℤ)) Fault) → passes is_memory first ≡ false
+    → rest ≢ Err NoMemory → option_map_or Err first rest ≢ Err NoMemory
 not_memory None rest told kept = kept
 not_memory (Some fault) rest told kept = λ h. let same : fault ≡ NoMemory = cc in let never : true ≡ false = rw same at told in cc
 
@@ -24,4 +25,6 @@ reading-memory line =
     let form : NonePasses is_memory (form_faults line) = search (rules, passes-first, passes-then, passes-map) depth 30 in
     let numbers : NonePasses is_memory (number_faults (items line) (stated line) (values line)) = search (rules, passes-then, passes-map) depth 30 in
     not_memory (first_some (form_faults line)) (judged (items line) (stated line) (values line)) (passes-first is_memory (form_faults line) form)
-    (not_memory (first_some (number_faults (items line) (stated line) (values line))) (Ok (by_item (zip (items line) (values line)))) (passes-first is_memory (number_faults (items line) (stated line) (values line)) numbers) (λ h. cc))
+    (not_memory (first_some (number_faults (items line) (stated line) (values line)))
+    (Ok (by_item (zip (items line) (values line)))) (passes-first is_memory
+    (number_faults (items line) (stated line) (values line)) numbers) (λ h. cc))

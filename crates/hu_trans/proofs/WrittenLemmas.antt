@@ -1,5 +1,6 @@
 -- The canonical line of a record is short, has no line feed, and begins with a digit.
-use Rattle.std.proofs.Common.{◌≡◌, ℕ, ◌+◌, ◌*◌, ◌<◌, ◌≤◌, ◌^◌, ◌==◌, ℤ, unsigned_abs, false, List, [], ◌∷◌, ◌++◌, length, map, slice_index, refl, arith, decimal}
+use Rattle.std.proofs.Common.{◌≡◌, ℕ, ◌+◌, ◌*◌, ◌<◌, ◌≤◌, ◌^◌, ◌==◌, ℤ, unsigned_abs, false, List, [], ◌∷◌, ◌++◌}
+use Rattle.std.proofs.Common.{length, map, slice_index, refl, arith, decimal}
 use Rattle.std.specs.Fmt.{signed_decimal}
 use Rattle.std.specs.Int.{IsInRange}
 use Rattle.std.specs.List.{All, join_with_byte}
@@ -36,10 +37,12 @@ begins-join : (c : ℕ) (x : List ℕ) (xs : List (List ℕ)) → IsInRange 48 5
 begins-join c x [] h = h
 begins-join c x (y ∷ ys) h = begins-append x (c ∷ join_with_byte c (y ∷ ys)) h
 
-begins-items : (cells : List (ℕ × ℤ)) → 0 < length cells → All (λ cell. cell.0 < 2 ^ 127) cells → IsInRange 48 57 (slice_index (join_with_byte 32 (map (λ cell. decimal cell.0) cells)) 0)
+begins-items : (cells : List (ℕ × ℤ)) → 0 < length cells → All (λ cell. cell.0 < 2 ^ 127) cells
+    → IsInRange 48 57 (slice_index (join_with_byte 32 (map (λ cell. decimal cell.0) cells)) 0)
 begins-items [] some low = absurd (omega (arith, some))
 begins-items (cell ∷ cells) some low =
-    begins-join 32 (decimal cell.0) (map (λ (cell : ℕ × ℤ). decimal cell.0) cells) (decimal-begins cell.0 (All-head (λ (cell : ℕ × ℤ). cell.0 < 2 ^ 127) cell cells low))
+    begins-join 32 (decimal cell.0) (map (λ (cell : ℕ × ℤ). decimal cell.0) cells)
+    (decimal-begins cell.0 (All-head (λ (cell : ℕ × ℤ). cell.0 < 2 ^ 127) cell cells low))
 
 pub IsPlainLine-canonical : (cells : List (ℕ × ℤ)) → IsRecord cells → IsPlainLine (canonical_line cells)
 IsPlainLine-canonical cells rules =
@@ -49,10 +52,18 @@ IsPlainLine-canonical cells rules =
     let small = values_small cells rules.sum_fits in
     let sum_small : unsigned_abs (total cells) < 2 ^ 127 = omega (arith, total_within cells, rules.sum_fits) in
     let low : All (λ cell. cell.0 < 2 ^ 127) cells = λ k d within. omega (arith, rules.itemset.in_range k d within) in
-    let items_feed : All (Lacks 10) item_texts = All-map (Lacks 10) (λ cell. decimal cell.0) cells (λ k d within. (IsToken-decimal _ (low k d within)).no_feed) in
-    let values_feed : All (Lacks 10) value_texts = All-map (Lacks 10) (λ cell. signed_decimal cell.1) cells (λ k d within. (IsToken-signed_decimal _ (small k d within)).no_feed) in
-    let items_short = length-join 32 39 item_texts (All-map (λ text. length text ≤ 39) (λ cell. decimal cell.0) cells (λ k d within. length-item _ (low k d within))) in
-    let values_short = length-join 32 40 value_texts (All-map (λ text. length text ≤ 40) (λ cell. signed_decimal cell.1) cells (λ k d within. length-value _ (small k d within))) in
+    let items_feed : All (Lacks 10) item_texts =
+    All-map (Lacks 10) (λ cell. decimal cell.0) cells (λ k d within.
+    (IsToken-decimal _ (low k d within)).no_feed) in
+    let values_feed : All (Lacks 10) value_texts =
+    All-map (Lacks 10) (λ cell. signed_decimal cell.1) cells
+    (λ k d within. (IsToken-signed_decimal _ (small k d within)).no_feed) in
+    let items_short =
+    length-join 32 39 item_texts (All-map (λ text. length text ≤ 39) (λ cell. decimal cell.0) cells
+    (λ k d within. length-item _ (low k d within))) in
+    let values_short =
+    length-join 32 40 value_texts (All-map (λ text. length text ≤ 40) (λ cell. signed_decimal cell.1) cells
+    (λ k d within. length-value _ (small k d within))) in
     let first = join_with_byte 32 item_texts in
     let third = join_with_byte 32 value_texts in
     record {

@@ -1,5 +1,21 @@
 -- The one line in which a record is written.
-use Rattle.std.specs.Prelude.{◌≡◌, ◌≤◌, ◌==◌, false, length, slice_index, ℕ, zero, suc, ℤ, List, [], ◌∷◌, map, decimal}
+use Rattle.std.specs.Prelude.{
+  ◌≡◌,
+  ◌≤◌,
+  ◌==◌,
+  false,
+  length,
+  slice_index,
+  ℕ,
+  zero,
+  suc,
+  ℤ,
+  List,
+  [],
+  ◌∷◌,
+  map,
+  decimal,
+}
 use Rattle.std.specs.Fmt.{signed_decimal}
 use Rattle.std.specs.Int.{IsInRange}
 use Rattle.std.specs.List.{All, join_with_byte}

@@ -1,6 +1,28 @@
 -- A transaction line tells the items of a record, its total, and the value of each item: `items:total:values`.
 -- After SPMF's format of databases with utilities.
-use Rattle.std.specs.Prelude.{ℕ, ◌+◌, ◌==◌, ℤ, pos, unsigned_abs, Option, None, Some, unwrap_or, Result, is_ok, is_err, List, [], ◌∷◌, map, position, filter_map, slice_get, if◌then◌else◌}
+use Rattle.std.specs.Prelude.{
+  ℕ,
+  ◌+◌,
+  ◌==◌,
+  ℤ,
+  pos,
+  unsigned_abs,
+  Option,
+  None,
+  Some,
+  unwrap_or,
+  Result,
+  is_ok,
+  is_err,
+  List,
+  [],
+  ◌∷◌,
+  map,
+  position,
+  filter_map,
+  slice_get,
+  if◌then◌else◌,
+}
 use Rattle.std.specs.List.{slice_split}
 use Rattle.std.specs.Option.{option_map}
 use Rattle.std.specs.Result.{result_ok}

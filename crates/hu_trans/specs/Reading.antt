@@ -1,5 +1,24 @@
 -- What a transaction line says: a record, or its first fault.
-use Rattle.std.specs.Prelude.{ℕ, ◌+◌, ◌^◌, ◌==◌, nat_lt, ℤ, not, ◌||◌, Option, Result, Ok, Err, List, [], ◌∷◌, length, position, zip}
+use Rattle.std.specs.Prelude.{
+  ℕ,
+  ◌+◌,
+  ◌^◌,
+  ◌==◌,
+  nat_lt,
+  ℤ,
+  not,
+  ◌||◌,
+  Option,
+  Result,
+  Ok,
+  Err,
+  List,
+  [],
+  ◌∷◌,
+  length,
+  position,
+  zip,
+}
 use Rattle.std.specs.Bool.{then_some}
 use Rattle.std.specs.Ordering.{int_eq}
 use Rattle.std.specs.Option.{option_map, option_map_or}
@@ -8,8 +27,28 @@ use Rattle.hu_kind.specs.Cells.{by_item, twice}
 use Rattle.hu_kind.specs.Number.{number, signed_number}
 use Rattle.hu_kind.specs.Record.{absolute_of, total, gain}
 use Rattle.hu_trans.specs.declared.fault.Fault.{Fault}
-use Rattle.hu_trans.specs.declared.fault.Fault.TheVariants.{NotThreeParts, BadNumber, NoItems, TooManyItems, CountsDiffer, ItemOutOfRange, DuplicateItem, SumTooLarge, TotalDisagrees}
-use Rattle.hu_trans.specs.Line.{parts, item_tokens, total_tokens, value_tokens, bad_token, bad_total, items, stated, values}
+use Rattle.hu_trans.specs.declared.fault.Fault.TheVariants.{
+  NotThreeParts,
+  BadNumber,
+  NoItems,
+  TooManyItems,
+  CountsDiffer,
+  ItemOutOfRange,
+  DuplicateItem,
+  SumTooLarge,
+  TotalDisagrees,
+}
+use Rattle.hu_trans.specs.Line.{
+  parts,
+  item_tokens,
+  total_tokens,
+  value_tokens,
+  bad_token,
+  bad_total,
+  items,
+  stated,
+  values,
+}
 
 -- the line hasn't exactly two `:`
 abbrev pub not_three_parts : List (List ℕ) → Option Fault
@@ -33,11 +72,14 @@ too_many_items numbers = then_some (nat_lt 4096 (length numbers)) (TooManyItems 
 
 -- there are not as many values as items
 abbrev pub counts_differ : List ℕ → List ℤ → Option Fault
-counts_differ numbers utilities = then_some (not (length numbers == length utilities)) (CountsDiffer (length numbers) (length utilities))
+counts_differ numbers utilities =
+    then_some (not (length numbers == length utilities))
+    (CountsDiffer (length numbers) (length utilities))
 
 -- the first item above 2,147,483,647
 abbrev pub item_out_of_range : List ℕ → Option Fault
-item_out_of_range numbers = option_map (λ k. ItemOutOfRange (k + 1)) (position (λ item. nat_lt 2147483647 item) numbers)
+item_out_of_range numbers =
+    option_map (λ k. ItemOutOfRange (k + 1)) (position (λ item. nat_lt 2147483647 item) numbers)
 
 -- the smallest item that stands more than once
 abbrev pub duplicate_item : List ℕ → Option Fault
@@ -49,7 +91,9 @@ sum_too_large cells = then_some (not (nat_lt (absolute_of cells) (2 ^ 127))) Sum
 
 -- the total is neither the plain sum nor the sum of the values above 0
 abbrev pub total_disagrees : ℤ → List (ℕ × ℤ) → Option Fault
-total_disagrees sum cells = then_some (not (int_eq sum (total cells) || int_eq sum (gain cells))) (TotalDisagrees sum (total cells))
+total_disagrees sum cells =
+    then_some (not (int_eq sum (total cells) || int_eq sum (gain cells)))
+    (TotalDisagrees sum (total cells))
 
 -- what may be wrong with the form of a line, in order
 abbrev pub form_faults : List ℕ → List (Option Fault)
@@ -72,8 +116,12 @@ number_faults numbers sum utilities =
 
 -- the first fault of a line's numbers, and where they have none the record of its pairs, their items ascending
 abbrev pub judged : List ℕ → ℤ → List ℤ → Result (List (ℕ × ℤ)) Fault
-judged numbers sum utilities = option_map_or Err (first_some (number_faults numbers sum utilities)) (Ok (by_item (zip numbers utilities)))
+judged numbers sum utilities =
+    option_map_or Err (first_some (number_faults numbers sum utilities))
+    (Ok (by_item (zip numbers utilities)))
 
 -- the first fault of a line's form, and where it has none what its numbers say
 abbrev pub reading : List ℕ → Result (List (ℕ × ℤ)) Fault
-reading line = option_map_or Err (first_some (form_faults line)) (judged (items line) (stated line) (values line))
+reading line =
+    option_map_or Err (first_some (form_faults line))
+    (judged (items line) (stated line) (values line))

@@ -1,6 +1,15 @@
 -- Worked lines, by computation.
 use Rattle.std.specs.Prelude.{◌≡◌, pos, negsuc, Ok, Err, [], ◌∷◌, codes, refl}
-use Rattle.hu_trans.specs.declared.fault.Fault.TheVariants.{NotThreeParts, BadNumber, NoItems, CountsDiffer, ItemOutOfRange, DuplicateItem, SumTooLarge, TotalDisagrees}
+use Rattle.hu_trans.specs.declared.fault.Fault.TheVariants.{
+  NotThreeParts,
+  BadNumber,
+  NoItems,
+  CountsDiffer,
+  ItemOutOfRange,
+  DuplicateItem,
+  SumTooLarge,
+  TotalDisagrees,
+}
 use Rattle.hu_trans.specs.Reading.{reading}
 
 pub four_items : reading (codes "3 5 2 4:20:3 3 8 6") ≡ Ok ((2, pos 8) ∷ (3, pos 3) ∷ (4, pos 6) ∷ (5, pos 3) ∷ [])

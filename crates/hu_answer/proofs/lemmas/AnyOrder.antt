@@ -8,7 +8,8 @@ use Rattle.hu_kind.specs.Answer.{answer, item_answer, closed_answer, sequence_an
 use Rattle.hu_kind.specs.Itemsets.{item_patterns, closed_patterns}
 use Rattle.hu_kind.specs.Order.{entry_cmp, cut}
 use Rattle.hu_kind.specs.Sequence.{sequence_patterns, sequence_entry}
-use Rattle.hu_kind.proofs.lemmas.Members.{Member, Contains-from_member, Member-from_contains, Member-map, Member-from_map, Member-flat_map, Member-from_flat_map}
+use Rattle.hu_kind.proofs.lemmas.Members.{Member, Contains-from_member, Member-from_contains, Member-map}
+use Rattle.hu_kind.proofs.lemmas.Members.{Member-from_map, Member-flat_map, Member-from_flat_map}
 use Rattle.hu_answer.specs.Supersets.{IsClosedSet}
 use Rattle.hu_answer.specs.Entries.{IsEntryOf, IsFoundSet}
 use Rattle.hu_answer.specs.Laws.{ItemsInAnyOrder, ClosedInAnyOrder, SequencesInAnyOrder}

@@ -7,7 +7,8 @@ use Rattle.hu_kind.specs.Answer.{closed_answer}
 use Rattle.hu_kind.specs.Record.{has, holds, items_in}
 use Rattle.hu_kind.specs.Database.{support, items_of}
 use Rattle.hu_kind.specs.Itemsets.{is_closed, goes_with, occurring_sets, item_entry, closed_patterns}
-use Rattle.hu_kind.proofs.lemmas.Members.{Member, Contains-from_member, Member-from_contains, Member-map, Member-from_map, Member-flat_map, Member-filter, Member-from_filter}
+use Rattle.hu_kind.proofs.lemmas.Members.{Member, Contains-from_member, Member-from_contains, Member-map}
+use Rattle.hu_kind.proofs.lemmas.Members.{Member-from_map, Member-flat_map, Member-filter, Member-from_filter}
 use Rattle.hu_kind.proofs.lemmas.Occurring.{Occurs, Occurs-from_member, Member-from_occurs, Member-ranking, counted, has-member}
 use Rattle.hu_answer.specs.Supersets.{is_item_of, is_proper_superset, IsClosedSet}
 use Rattle.hu_answer.specs.Entries.{IsEntryOf, IsFoundSet}

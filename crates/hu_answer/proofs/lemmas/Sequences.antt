@@ -1,5 +1,7 @@
 -- The subsequences of a record are the sequences of ascending itemsets that occur in it.
-use Rattle.std.proofs.Common.{◌≡◌, ℕ, ◌<◌, nat_lt, Bool, true, false, cond, eqb, ℤ, ◌+ℤ◌, ◌≤ℤ◌, Option, None, Some, is_some, option_map, List, [], ◌∷◌, map, length, filter, refl, sym, subst, ◌⊎◌, inl, inr, arith}
+use Rattle.std.proofs.Common.{◌≡◌, ℕ, ◌<◌, nat_lt, Bool, true, false, cond, eqb, ℤ, ◌+ℤ◌, ◌≤ℤ◌, Option, None, Some}
+use Rattle.std.proofs.Common.{is_some, option_map, List, [], ◌∷◌, map, length, filter, refl, sym, subst, ◌⊎◌, inl, inr}
+use Rattle.std.proofs.Common.{arith}
 use Rattle.std.specs.List.{AllByRecursion, Contains}
 use Rattle.std.proofs.lemmas.Bool.{eq-eqb, lt-ltb, ltb-true}
 use Rattle.hu_kind.specs.declared.entry.Entry.{Entry}
@@ -11,7 +13,9 @@ use Rattle.hu_kind.specs.Sequence.{better, best_utility, led_by, sequence_entry,
 use Rattle.hu_kind.proofs.lemmas.Ascending.{Ascend-adjacent}
 use Rattle.hu_kind.proofs.lemmas.Each.{each-weaker}
 use Rattle.hu_kind.proofs.lemmas.Earned.{subsequence-ascends}
-use Rattle.hu_kind.proofs.lemmas.Members.{Member, Contains-from_member, Member-from_contains, Member-map, Member-from_map, Member-flat_map, Member-from_flat_map, Member-filter, Member-from_filter}
+use Rattle.hu_kind.proofs.lemmas.Members.{Member, Contains-from_member, Member-from_contains, Member-map}
+use Rattle.hu_kind.proofs.lemmas.Members.{Member-from_map, Member-flat_map, Member-from_flat_map, Member-filter}
+use Rattle.hu_kind.proofs.lemmas.Members.{Member-from_filter}
 use Rattle.hu_kind.proofs.lemmas.Occurring.{at_member, by_members, each-sublist, Member-sublists, counted, count-member, holds-members}
 use Rattle.hu_answer.specs.Entries.{IsSequenceEntryOf, IsFoundSequence}
 use Rattle.hu_answer.specs.Laws.{IsSequenceAnswer}

@@ -1,5 +1,7 @@
 -- What bounds hold of growths: no place of a grown pattern reaches further than the places that it comes of.
-use Rattle.std.proofs.Common.{◌≡◌, ℕ, suc, ◌<◌, ◌≤◌, Bool, true, false, cond, eqb, ℤ, pos, ◌+ℤ◌, ◌≤ℤ◌, ◌<ℤ◌, ◌^◌, Option, None, Some, is_some, unwrap_or, option_map, option_to_list, List, [], ◌∷◌, ◌++◌, length, drop, refl, sym, ap, ◌∙◌, subst, arith, sum_by}
+use Rattle.std.proofs.Common.{◌≡◌, ℕ, suc, ◌<◌, ◌≤◌, Bool, true, false, cond, eqb, ℤ, pos, ◌+ℤ◌, ◌≤ℤ◌, ◌<ℤ◌, ◌^◌}
+use Rattle.std.proofs.Common.{Option, None, Some, is_some, unwrap_or, option_map, option_to_list, List, [], ◌∷◌, ◌++◌}
+use Rattle.std.proofs.Common.{length, drop, refl, sym, ap, ◌∙◌, subst, arith, sum_by}
 use Rattle.std.specs.List.{AllByRecursion}
 use Rattle.std.specs.Option.{option_and_then}
 use Rattle.std.proofs.lemmas.Int.{ints, clamps}
@@ -71,11 +73,13 @@ step-below : (f g : Place → ℤ) (o p : Option Place) (os ps : List Place) →
 step-below f g o p os ps here later =
     let both = IsBelow-better (option_map f o) (greatest f os) (option_map g p) (greatest g ps) here later in
     let P : Option ℤ → Option ℤ → Type 0 = λ a b. IsBelow a b in
-    subst (λ a. P a (greatest g (option_to_list p ++ ps))) (sym (greatest-more f o os)) (subst (P (better (option_map f o) (greatest f os))) (sym (greatest-more g p ps)) both)
+    subst (λ a. P a (greatest g (option_to_list p ++ ps))) (sym (greatest-more f o os))
+    (subst (P (better (option_map f o) (greatest f os))) (sym (greatest-more g p ps)) both)
 
 -- ---- the rules of the elements
 
-plain-itemsets : (elements : List (List (ℕ × ℤ))) → AllByRecursion (AllByRecursion IsAbove) elements → AllByRecursion IsItemset elements → AllByRecursion IsPlain elements
+plain-itemsets : (elements : List (List (ℕ × ℤ))) → AllByRecursion (AllByRecursion IsAbove) elements
+    → AllByRecursion IsItemset elements → AllByRecursion IsPlain elements
 plain-itemsets [] above is = tt
 plain-itemsets (cells ∷ elements) above is = (record { ascending = Ascend-itemset cells is.0; none_below = above.0 }, plain-itemsets elements above.1 is.1)
 
@@ -96,7 +100,8 @@ elements-few elements rules = omega (arith, elements-below elements rules.itemse
 
 -- ---- what a place earns is below what it reaches
 
-rest-above : (cells : List (ℕ × ℤ)) (n : ℕ) (later : List (List (ℕ × ℤ))) → IsPlain cells → pos 0 ≤ℤ totals later → pos 0 ≤ℤ (total (drop n cells) +ℤ totals later)
+rest-above : (cells : List (ℕ × ℤ)) (n : ℕ) (later : List (List (ℕ × ℤ))) → IsPlain cells → pos 0 ≤ℤ totals later
+    → pos 0 ≤ℤ (total (drop n cells) +ℤ totals later)
 rest-above cells n later is more = let here = total-above (drop n cells) (each-drop IsAbove n cells is.none_below) in omega (arith, ints)
 
 totals-above : (later : List (List (ℕ × ℤ))) → AllByRecursion IsPlain later → pos 0 ≤ℤ totals later
@@ -104,11 +109,13 @@ totals-above [] is = omega (arith, ints)
 totals-above (cells ∷ later) is = let first = is.0 in let here = total-above cells first.none_below in let ih = totals-above later is.1 in omega (arith, ints)
 
 best-reach : (pattern : List (List ℕ)) (e : ℕ) (cells : List (ℕ × ℤ)) (later : List (List (ℕ × ℤ))) (o : Option ℤ) → IsPlain cells → pos 0 ≤ℤ totals later
-    → IsBelow (option_map (λ (p : Place). p.best) (option_map (place_by pattern e cells later) o)) (option_map reach (option_map (place_by pattern e cells later) o))
+    → IsBelow (option_map (λ (p : Place). p.best) (option_map (place_by pattern e cells later) o))
+    (option_map reach (option_map (place_by pattern e cells later) o))
 best-reach pattern e cells later None is more = tt
 best-reach pattern e cells later (Some u) is more = let rest = rest-above cells (suc (cell_of (last_item pattern) cells)) later is more in omega (arith, ints)
 
-best-places_in : (pattern : List (List ℕ)) (before later : List (List (ℕ × ℤ))) → AllByRecursion IsPlain later → IsBelow (best_of (places_in pattern before later)) (greatest reach (places_in pattern before later))
+best-places_in : (pattern : List (List ℕ)) (before later : List (List (ℕ × ℤ))) → AllByRecursion IsPlain later
+    → IsBelow (best_of (places_in pattern before later)) (greatest reach (places_in pattern before later))
 best-places_in pattern before [] is = tt
 best-places_in pattern before (cells ∷ later) is =
     let more : List (List (ℕ × ℤ)) = before ++ cells ∷ [] in
@@ -121,14 +128,18 @@ best-places_in pattern before (cells ∷ later) is =
 -- ---- an item into the last itemset
 
 -- a later cell with all after it is within what is after an earlier one
-total-skip : (last item : ℕ) (cells : List (ℕ × ℤ)) → Ascend (items_in cells) → AllByRecursion IsAbove cells → has last cells ≡ true → has item cells ≡ true → last < item
+total-skip : (last item : ℕ) (cells : List (ℕ × ℤ)) → Ascend (items_in cells) → AllByRecursion IsAbove cells
+    → has last cells ≡ true → has item cells ≡ true → last < item
     → (value_of item cells +ℤ total (drop (suc (cell_of item cells)) cells)) ≤ℤ total (drop (suc (cell_of last cells)) cells)
 total-skip last item [] up above h i below = cc
 total-skip last item (cell ∷ cells) up above h i below = by (λ a b. total-skip last item cells up.1 above.1 a b below) (eqb last cell.0) refl
   where
-    by : (has last cells ≡ true → has item cells ≡ true → (value_of item cells +ℤ total (drop (suc (cell_of item cells)) cells)) ≤ℤ total (drop (suc (cell_of last cells)) cells))
+    by : (has last cells ≡ true → has item cells ≡ true
+        → (value_of item cells +ℤ total (drop (suc (cell_of item cells)) cells))
+        ≤ℤ total (drop (suc (cell_of last cells)) cells))
         → (b : Bool) → eqb last cell.0 ≡ b
-        → (value_of item (cell ∷ cells) +ℤ total (drop (suc (cell_of item (cell ∷ cells))) (cell ∷ cells))) ≤ℤ total (drop (suc (cell_of last (cell ∷ cells))) (cell ∷ cells))
+        → (value_of item (cell ∷ cells) +ℤ total (drop (suc (cell_of item (cell ∷ cells))) (cell ∷ cells)))
+        ≤ℤ total (drop (suc (cell_of last (cell ∷ cells))) (cell ∷ cells))
     by ih true same =
         let here : last ≡ cell.0 = eqb-true last cell.0 same in
         let other : eqb item cell.0 ≡ false = ne_eqb item cell.0 (λ x. absurd (omega arith)) in
@@ -141,8 +152,11 @@ total-skip last item (cell ∷ cells) up above h i below = by (λ a b. total-ski
         let more : has item cells ≡ true = simp other at i in
         simp (same, other) (ih has' more)
 
-into-reach : (pattern : List (List ℕ)) (item : ℕ) (before : List (List (ℕ × ℤ))) (cells : List (ℕ × ℤ)) (later : List (List (ℕ × ℤ))) → EndsBelow pattern item → IsPlain cells
-    → IsBelow (option_map reach (option_and_then (λ place. found (length before) 0 item place.best (totals later) cells) (place_in pattern before cells later))) (option_map reach (place_in pattern before cells later))
+into-reach : (pattern : List (List ℕ)) (item : ℕ) (before : List (List (ℕ × ℤ))) (cells : List (ℕ × ℤ))
+    (later : List (List (ℕ × ℤ))) → EndsBelow pattern item → IsPlain cells
+    → IsBelow
+    (option_map reach (option_and_then (λ place. found (length before) 0 item place.best (totals later) cells)
+    (place_in pattern before cells later))) (option_map reach (place_in pattern before cells later))
 into-reach pattern item before cells later ends is = by (holds (last_itemset pattern) cells) refl (best_utility (earlier pattern) before)
   where
     e : ℕ
@@ -152,14 +166,18 @@ into-reach pattern item before cells later ends is = by (holds (last_itemset pat
     made b o = option_map (place_by pattern (length before) cells later) (cond b (option_map (λ u. u +ℤ values_of (last_itemset pattern) cells) o) None)
 
     at : (u : ℤ) → has (last_item pattern) cells ≡ true → (b : Bool) → has item cells ≡ b
-        → IsBelow (option_map reach (cond b (Some (place_of_item (length before) 0 item u (totals later) cells)) None)) (Some (reach (place_by pattern (length before) cells later u)))
+        → IsBelow (option_map reach (cond b (Some (place_of_item (length before) 0 item u (totals later) cells)) None))
+        (Some (reach (place_by pattern (length before) cells later u)))
     at u h false i = tt
     at u h true i = let within = total-skip (last_item pattern) item cells is.ascending is.none_below h i ends.below in omega (arith, ints)
 
     by : (b : Bool) → holds (last_itemset pattern) cells ≡ b → (o : Option ℤ)
         → IsBelow
-        (option_map reach (option_and_then (λ place. found (length before) 0 item place.best (totals later) cells) (option_map (place_by pattern (length before) cells later) (cond b (option_map (λ u. u +ℤ values_of (last_itemset pattern) cells) o) None))))
-        (option_map reach (option_map (place_by pattern (length before) cells later) (cond b (option_map (λ u. u +ℤ values_of (last_itemset pattern) cells) o) None)))
+        (option_map reach (option_and_then (λ place. found (length before) 0 item place.best (totals later) cells)
+        (option_map (place_by pattern (length before) cells later)
+        (cond b (option_map (λ u. u +ℤ values_of (last_itemset pattern) cells) o) None))))
+        (option_map reach (option_map (place_by pattern (length before) cells later)
+        (cond b (option_map (λ u. u +ℤ values_of (last_itemset pattern) cells) o) None)))
     by false h o = tt
     by true h None = tt
     by true h (Some u) =
@@ -174,8 +192,10 @@ into-places_in : (pattern : List (List ℕ)) (item : ℕ) (before later : List (
 into-places_in pattern item before [] ends is = tt
 into-places_in pattern item before (cells ∷ later) ends is =
     let more : List (List (ℕ × ℤ)) = before ++ cells ∷ [] in
-    step-below reach reach (place_in (into pattern item) before cells later) (place_in pattern before cells later) (places_in (into pattern item) more later) (places_in pattern more later)
-    (subst (λ f. IsBelow (option_map reach f) (option_map reach (place_in pattern before cells later))) (sym (place_in-into pattern item before cells later)) (into-reach pattern item before cells later ends is.0))
+    step-below reach reach (place_in (into pattern item) before cells later) (place_in pattern before cells later)
+    (places_in (into pattern item) more later) (places_in pattern more later)
+    (subst (λ f. IsBelow (option_map reach f) (option_map reach (place_in pattern before cells later)))
+    (sym (place_in-into pattern item before cells later)) (into-reach pattern item before cells later ends is.0))
     (into-places_in pattern item more later ends is.1)
 
 -- ---- an item in a new last itemset
@@ -184,13 +204,16 @@ into-places_in pattern item before (cells ∷ later) ends is =
 abbrev with_all : ℤ → Option ℤ → Option ℤ
 with_all sum o = option_map (λ u. sum +ℤ u) o
 
-after-found : (e item : ℕ) (u : ℤ) (cells : List (ℕ × ℤ)) (later : List (List (ℕ × ℤ))) → IsPlain cells → IsBelow (option_map reach (found e 0 item u (totals later) cells)) (Some ((total cells +ℤ totals later) +ℤ u))
+after-found : (e item : ℕ) (u : ℤ) (cells : List (ℕ × ℤ)) (later : List (List (ℕ × ℤ))) → IsPlain cells
+    → IsBelow (option_map reach (found e 0 item u (totals later) cells)) (Some ((total cells +ℤ totals later) +ℤ u))
 after-found e item u cells later is = subst P (sym (found-whole e 0 item u (totals later) cells)) (at (has item cells) refl)
   where
     P : Option Place → Type 0
     P f = IsBelow (option_map reach f) (Some ((total cells +ℤ totals later) +ℤ u))
 
-    at : (b : Bool) → has item cells ≡ b → IsBelow (option_map reach (cond b (Some (place_of_item e 0 item u (totals later) cells)) None)) (Some ((total cells +ℤ totals later) +ℤ u))
+    at : (b : Bool) → has item cells ≡ b
+        → IsBelow (option_map reach (cond b (Some (place_of_item e 0 item u (totals later) cells)) None))
+        (Some ((total cells +ℤ totals later) +ℤ u))
     at false i = tt
     at true i = let within = (total-item item cells is.none_below i).1 in omega (arith, ints)
 
@@ -207,11 +230,15 @@ with_all-reach : (pattern : List (List ℕ)) (e : ℕ) (cells : List (ℕ × ℤ
     → IsBelow (with_all (totals later) o) (option_map reach (option_map (place_by pattern e cells later) o))
 with_all-reach pattern e cells later None is = tt
 with_all-reach pattern e cells later (Some u) is =
-    let here = total-above (drop (suc (cell_of (last_item pattern) cells)) cells) (each-drop IsAbove (suc (cell_of (last_item pattern) cells)) cells is.none_below) in
+    let here =
+    total-above (drop (suc (cell_of (last_item pattern) cells)) cells)
+    (each-drop IsAbove (suc (cell_of (last_item pattern) cells)) cells is.none_below) in
     omega (arith, ints)
 
 after-places_in : (pattern : List (List ℕ)) (item : ℕ) (before later : List (List (ℕ × ℤ))) → Ends pattern → AllByRecursion IsPlain later
-    → IsBelow (greatest reach (places_in (after pattern item) before later)) (better (with_all (totals later) (best_utility pattern before)) (greatest reach (places_in pattern before later)))
+    → IsBelow (greatest reach (places_in (after pattern item) before later))
+    (better (with_all (totals later) (best_utility pattern before))
+    (greatest reach (places_in pattern before later)))
 after-places_in pattern item before [] ends is = tt
 after-places_in pattern item before (cells ∷ later) ends is =
     let more : List (List (ℕ × ℤ)) = before ++ cells ∷ [] in
@@ -229,18 +256,25 @@ after-places_in pattern item before (cells ∷ later) ends is =
     let split = ap (with_all sum) (best_utility-more pattern before cells ends) ∙ map-better sum so_far here in
     let ih = subst (λ o. IsBelow grown' (better o others)) split (after-places_in pattern item more later ends is.1) in
     let regrouped = subst (IsBelow grown') (better-assoc (with_all sum so_far) (with_all sum here) others) ih in
-    let raised = IsBelow-better (with_all sum so_far) (better (with_all sum here) others) (with_all all so_far) (better (option_map reach (option_map make here)) others)
+    let raised =
+    IsBelow-better (with_all sum so_far) (better (with_all sum here) others) (with_all all so_far)
+    (better (option_map reach (option_map make here)) others)
     (with_all-below sum all so_far wider)
-    (IsBelow-better (with_all sum here) others (option_map reach (option_map make here)) others (with_all-reach pattern (length before) cells later here first) (IsBelow-refl others)) in
+    (IsBelow-better (with_all sum here) others (option_map reach (option_map make here)) others
+    (with_all-reach pattern (length before) cells later here first) (IsBelow-refl others)) in
     let whole = better (with_all all so_far) (better (option_map reach (option_map make here)) others) in
     let rest = IsBelow-trans grown' (better (with_all sum so_far) (better (with_all sum here) others)) whole regrouped raised in
     let start = after-here (length before) item cells later so_far first in
-    let both = below-both found' grown' whole (IsBelow-left found' (with_all all so_far) (better (option_map reach (option_map make here)) others) start) rest in
+    let both =
+    below-both found' grown' whole (IsBelow-left found' (with_all all so_far)
+    (better (option_map reach (option_map make here)) others) start) rest in
     let P : Option Place → Type 0 = λ f. IsBelow (better (option_map reach f) grown') whole in
     let done = subst P (sym (place_in-after pattern item before cells later)) both in
     subst (λ a. IsBelow a (better (with_all all so_far) (greatest reach (option_to_list (option_map make here) ++ places_in pattern more later))))
     (sym (greatest-more reach (place_in (after pattern item) before cells later) (places_in (after pattern item) more later)))
-    (subst (λ b. IsBelow (better (option_map reach (place_in (after pattern item) before cells later)) grown') (better (with_all all so_far) b)) (sym (greatest-more reach (option_map make here) (places_in pattern more later))) done)
+    (subst (λ b. IsBelow (better (option_map reach (place_in (after pattern item) before cells later)) grown')
+    (better (with_all all so_far) b))
+    (sym (greatest-more reach (option_map make here) (places_in pattern more later))) done)
   where
     below-both : (a b c : Option ℤ) → IsBelow a c → IsBelow b c → IsBelow (better a b) c
     below-both None b c h i = i
@@ -262,17 +296,23 @@ pub grown-below : (growth : Growth) (pattern : List (List ℕ)) (item : ℕ) (el
 grown-below IntoLast pattern item elements rules can =
     let P : List Place → List Place → Type 0 = λ ps qs. IsBelow (greatest reach ps) (greatest reach qs) in
     let is = into-places_in pattern item [] elements can (plain-rules elements rules) in
-    subst (λ ps. P ps (chain_of pattern elements)) (sym (chain_of-places (into pattern item) elements)) (subst (P (places_in (into pattern item) [] elements)) (sym (chain_of-places pattern elements)) is)
+    subst (λ ps. P ps (chain_of pattern elements)) (sym (chain_of-places (into pattern item) elements))
+    (subst (P (places_in (into pattern item) [] elements)) (sym (chain_of-places pattern elements)) is)
 grown-below AfterLast pattern item elements rules can =
     let P : List Place → List Place → Type 0 = λ ps qs. IsBelow (greatest reach ps) (greatest reach qs) in
     let none = best_utility-nowhere pattern can in
-    let is = subst (λ o. IsBelow (greatest reach (places_in (after pattern item) [] elements)) (better (with_all (totals elements) o) (greatest reach (places_in pattern [] elements)))) none
+    let is =
+    subst (λ o. IsBelow (greatest reach (places_in (after pattern item) [] elements))
+    (better (with_all (totals elements) o) (greatest reach (places_in pattern [] elements)))) none
     (after-places_in pattern item [] elements can (plain-rules elements rules)) in
-    subst (λ ps. P ps (chain_of pattern elements)) (sym (chain_of-places (after pattern item) elements)) (subst (P (places_in (after pattern item) [] elements)) (sym (chain_of-places pattern elements)) is)
+    subst (λ ps. P ps (chain_of pattern elements)) (sym (chain_of-places (after pattern item) elements))
+    (subst (P (places_in (after pattern item) [] elements)) (sym (chain_of-places pattern elements)) is)
 
 leads-below : (steps : List (Growth × ℕ)) (pattern other : List (List ℕ)) (elements : List (List (ℕ × ℤ))) → IsSequence elements → Leads steps pattern other
     → IsBelow (greatest reach (chain_of other elements)) (greatest reach (chain_of pattern elements))
-leads-below [] pattern other elements rules leads = subst (λ p. IsBelow (greatest reach (chain_of p elements)) (greatest reach (chain_of pattern elements))) leads (IsBelow-refl (greatest reach (chain_of pattern elements)))
+leads-below [] pattern other elements rules leads =
+    subst (λ p. IsBelow (greatest reach (chain_of p elements)) (greatest reach (chain_of pattern elements))) leads
+    (IsBelow-refl (greatest reach (chain_of pattern elements)))
 leads-below (step ∷ steps) pattern other elements rules leads =
     let next = grown step.0 pattern step.1 in
     IsBelow-trans (greatest reach (chain_of other elements)) (greatest reach (chain_of next elements)) (greatest reach (chain_of pattern elements))
@@ -292,17 +332,24 @@ pub grown_from-below : (pattern other : List (List ℕ)) (elements : List (List 
     → IsBelow (best_utility other elements) (greatest reach (chain_of pattern elements))
 grown_from-below pattern other elements rules ends from =
     let far = Ends-grown_from pattern other ends from in
-    let best = subst (λ ps. IsBelow (best_of ps) (greatest reach ps)) (sym (chain_of-places other elements)) (best-places_in other [] elements (plain-rules elements rules)) in
+    let best =
+    subst (λ ps. IsBelow (best_of ps) (greatest reach ps)) (sym (chain_of-places other elements))
+    (best-places_in other [] elements (plain-rules elements rules)) in
     subst (λ o. IsBelow o (greatest reach (chain_of pattern elements))) (best_of-chain_of other elements far)
-    (IsBelow-trans (best_of (chain_of other elements)) (greatest reach (chain_of other elements)) (greatest reach (chain_of pattern elements)) best (leads-below from.steps pattern other elements rules from.leads))
+    (IsBelow-trans (best_of (chain_of other elements)) (greatest reach (chain_of other elements))
+    (greatest reach (chain_of pattern elements)) best
+    (leads-below from.steps pattern other elements rules from.leads))
 
 -- the extension bound holds of every grown pattern
 pub extension-holds : (pattern other : List (List ℕ)) (elements : List (List (ℕ × ℤ))) → IsSequence elements → Ends pattern → IsGrownFrom pattern other
     → IsAtMost (best_utility other elements) (extension_bound (chain_of pattern elements))
-extension-holds pattern other elements rules ends from = IsAtMost-below (best_utility other elements) (greatest reach (chain_of pattern elements)) (grown_from-below pattern other elements rules ends from)
+extension-holds pattern other elements rules ends from =
+    IsAtMost-below (best_utility other elements) (greatest reach (chain_of pattern elements))
+    (grown_from-below pattern other elements rules ends from)
 
 -- a growth more in front
-pub grown-first : (growth : Growth) (pattern other : List (List ℕ)) (item : ℕ) → CanGrow growth pattern item → IsGrownFrom (grown growth pattern item) other → IsGrownFrom pattern other
+pub grown-first : (growth : Growth) (pattern other : List (List ℕ)) (item : ℕ) → CanGrow growth pattern item
+    → IsGrownFrom (grown growth pattern item) other → IsGrownFrom pattern other
 grown-first growth pattern other item can from = record { steps = (growth, item) ∷ from.steps; leads = (can, from.leads) }
 
 none-reached : (places : List Place) → best_of places ≡ None → greatest reach places ≡ None
@@ -314,7 +361,9 @@ none-reached (place ∷ places) e = absurd (some (best_of places) e)
     some (Some u) h = cc
 
 -- where a pattern doesn't occur, no grown pattern does
-pub grown_from-none : (pattern other : List (List ℕ)) (elements : List (List (ℕ × ℤ))) → IsSequence elements → Ends pattern → IsGrownFrom pattern other → best_utility pattern elements ≡ None → best_utility other elements ≡ None
+pub grown_from-none : (pattern other : List (List ℕ)) (elements : List (List (ℕ × ℤ))) → IsSequence elements
+    → Ends pattern → IsGrownFrom pattern other → best_utility pattern elements ≡ None → best_utility other elements
+    ≡ None
 grown_from-none pattern other elements rules ends from none =
     let gone = none-reached (chain_of pattern elements) (best_of-chain_of pattern elements ends ∙ none) in
     nothing (best_utility other elements) (subst (IsBelow (best_utility other elements)) gone (grown_from-below pattern other elements rules ends from))
@@ -324,11 +373,14 @@ grown_from-none pattern other elements rules ends from none =
     nothing (Some u) h = absurd h
 
 -- the reduced bound holds of every pattern that grows from the grown one
-pub reduced-holds : (growth : Growth) (pattern other : List (List ℕ)) (item : ℕ) (elements : List (List (ℕ × ℤ))) → IsSequence elements → CanGrow growth pattern item → IsGrownFrom (grown growth pattern item) other
+pub reduced-holds : (growth : Growth) (pattern other : List (List ℕ)) (item : ℕ) (elements : List (List (ℕ × ℤ)))
+    → IsSequence elements → CanGrow growth pattern item → IsGrownFrom (grown growth pattern item) other
     → IsAtMost (best_utility other elements) (reduced_bound (chain_of pattern elements) (grown growth pattern item) elements)
 reduced-holds growth pattern other item elements rules can from = by (best_utility (grown growth pattern item) elements) refl
   where
-    by : (o : Option ℤ) → best_utility (grown growth pattern item) elements ≡ o → IsAtMost (best_utility other elements) (cond (is_some o) (extension_bound (chain_of pattern elements)) (pos 0))
+    by : (o : Option ℤ) → best_utility (grown growth pattern item) elements ≡ o
+        → IsAtMost (best_utility other elements) (cond (is_some o) (extension_bound (chain_of pattern elements))
+        (pos 0))
     by (Some u) e = extension-holds pattern other elements rules (Ends-can_grow growth pattern item can) (grown-first growth pattern other item can from)
     by None e =
         let gone = grown_from-none (grown growth pattern item) other elements rules (Ends-grown growth pattern item) from e in
@@ -336,18 +388,24 @@ reduced-holds growth pattern other item elements rules can from = by (best_utili
 
 -- ---- all bounds are within the sum of a sequence
 
-start-places_in : (item : ℕ) (before later : List (List (ℕ × ℤ))) → AllByRecursion IsPlain later → IsBelow (greatest reach (places_in ((item ∷ []) ∷ []) before later)) (Some (totals later))
+start-places_in : (item : ℕ) (before later : List (List (ℕ × ℤ))) → AllByRecursion IsPlain later
+    → IsBelow (greatest reach (places_in ((item ∷ []) ∷ []) before later)) (Some (totals later))
 start-places_in item before [] is = tt
 start-places_in item before (cells ∷ later) is =
     let more : List (List (ℕ × ℤ)) = before ++ cells ∷ [] in
     let one : List (List ℕ) = (item ∷ []) ∷ [] in
     let first = is.0 in
     let above = total-above cells first.none_below in
-    let here = subst (λ f. IsBelow (option_map reach f) (Some ((total cells +ℤ totals later) +ℤ pos 0))) (sym (place_in-after [] item before cells later)) (after-found (length before) item (pos 0) cells later first) in
+    let here =
+    subst (λ f. IsBelow (option_map reach f) (Some ((total cells +ℤ totals later) +ℤ pos 0)))
+    (sym (place_in-after [] item before cells later)) (after-found (length before) item
+    (pos 0) cells later first) in
     subst (λ a. IsBelow a (Some (total cells +ℤ totals later))) (sym (greatest-more reach (place_in one before cells later) (places_in one more later)))
-    (both (option_map reach (place_in one before cells later)) (greatest reach (places_in one more later)) (totals later) (total cells) above here (start-places_in item more later is.1))
+    (both (option_map reach (place_in one before cells later)) (greatest reach (places_in one more later))
+    (totals later) (total cells) above here (start-places_in item more later is.1))
   where
-    both : (a b : Option ℤ) (sum here : ℤ) → pos 0 ≤ℤ here → IsBelow a (Some ((here +ℤ sum) +ℤ pos 0)) → IsBelow b (Some sum) → IsBelow (better a b) (Some (here +ℤ sum))
+    both : (a b : Option ℤ) (sum here : ℤ) → pos 0 ≤ℤ here → IsBelow a (Some ((here +ℤ sum) +ℤ pos 0))
+        → IsBelow b (Some sum) → IsBelow (better a b) (Some (here +ℤ sum))
     both None None sum here up h i = tt
     both None (Some y) sum here up h i = omega (arith, ints)
     both (Some x) None sum here up h i = omega (arith, ints)
@@ -358,8 +416,12 @@ pub extension-within : (item : ℕ) (pattern : List (List ℕ)) (elements : List
 extension-within item pattern elements rules from =
     let one : List (List ℕ) = (item ∷ []) ∷ [] in
     let plain = plain-rules elements rules in
-    let start = subst (λ ps. IsBelow (greatest reach ps) (Some (totals elements))) (sym (chain_of-places one elements)) (start-places_in item [] elements plain) in
-    let all = IsBelow-trans (greatest reach (chain_of pattern elements)) (greatest reach (chain_of one elements)) (Some (totals elements)) (leads-below from.steps one pattern elements rules from.leads) start in
+    let start =
+    subst (λ ps. IsBelow (greatest reach ps) (Some (totals elements))) (sym (chain_of-places one elements))
+    (start-places_in item [] elements plain) in
+    let all =
+    IsBelow-trans (greatest reach (chain_of pattern elements)) (greatest reach (chain_of one elements))
+    (Some (totals elements)) (leads-below from.steps one pattern elements rules from.leads) start in
     let sum = totals-absolute elements rules in
     let low = totals-above elements plain in
     within (greatest reach (chain_of pattern elements)) (totals elements) (pos (sum_by absolute_of elements)) all sum low
@@ -386,7 +448,8 @@ extension-range (place ∷ places) fit = by (greatest reach places) (extension-r
         (omega (arith, ints, clamps), omega (arith, ints, clamps))
 
 -- the reduced bound by where the grown pattern occurs
-pub reduced-seen : (growth : Growth) (pattern : List (List ℕ)) (item : ℕ) (elements : List (List (ℕ × ℤ))) (places : List Place) (b : Bool) → CanGrow growth pattern item → places ≡ chain_of pattern elements
+pub reduced-seen : (growth : Growth) (pattern : List (List ℕ)) (item : ℕ) (elements : List (List (ℕ × ℤ)))
+    (places : List Place) (b : Bool) → CanGrow growth pattern item → places ≡ chain_of pattern elements
     → occurs growth item elements places ≡ b → reduced_bound places (grown growth pattern item) elements ≡ cond b (extension_bound places) (pos 0)
 reduced-seen growth pattern item elements places b can is e =
     ap (λ o. cond o (extension_bound places) (pos 0)) (occurs-grown growth pattern item elements can ∙ ap (occurs growth item elements) (sym is) ∙ e)

@@ -1,5 +1,7 @@
 -- The cells of an itemset: where an item stands among them, and the sums of their values.
-use Rattle.std.proofs.Common.{◌≡◌, ℕ, zero, suc, ◌<◌, ◌≤◌, ◌+◌, Bool, true, false, cond, eqb, ℤ, pos, ◌+ℤ◌, ◌≤ℤ◌, int_lt, None, Some, option_map, List, [], ◌∷◌, length, get_or, drop, take, refl, sym, ap, ◌∙◌, subst, inl, inr, arith, ◌||◌}
+use Rattle.std.proofs.Common.{◌≡◌, ℕ, zero, suc, ◌<◌, ◌≤◌, ◌+◌, Bool, true, false, cond, eqb, ℤ, pos, ◌+ℤ◌, ◌≤ℤ◌}
+use Rattle.std.proofs.Common.{int_lt, None, Some, option_map, List, [], ◌∷◌, length, get_or, drop, take, refl, sym, ap}
+use Rattle.std.proofs.Common.{◌∙◌, subst, inl, inr, arith, ◌||◌}
 use Rattle.std.specs.List.{list_any, AllAdjacentBelow, AllByRecursion}
 use Rattle.std.specs.List.Sorted.{IsPartitionPoint, IsNonDecreasingBy}
 use Rattle.std.proofs.lemmas.Int.{ints}
@@ -14,13 +16,15 @@ use Rattle.hu_chain.specs.Search.{cell_in}
 
 -- ---- where an item stands
 
-above-at : (x : ℕ) (cells : List Cell) (k : ℕ) (d : Cell) → AllByRecursion (λ y. x < y) (items_in (pairs_of cells)) → k < length cells → x < (get_or cells k d).item.0
+above-at : (x : ℕ) (cells : List Cell) (k : ℕ) (d : Cell) → AllByRecursion (λ y. x < y) (items_in (pairs_of cells))
+    → k < length cells → x < (get_or cells k d).item.0
 above-at x [] k d above within = absurd (omega arith)
 above-at x (cell ∷ cells) zero d above within = above.0
 above-at x (cell ∷ cells) (suc k) d above within = above-at x cells k d above.1 (omega arith)
 
 -- the items ascend strictly from place to place
-rises : (cells : List Cell) (i j : ℕ) (d : Cell) → Ascend (items_in (pairs_of cells)) → i < j → j < length cells → (get_or cells i d).item.0 < (get_or cells j d).item.0
+rises : (cells : List Cell) (i j : ℕ) (d : Cell) → Ascend (items_in (pairs_of cells)) → i < j → j < length cells
+    → (get_or cells i d).item.0 < (get_or cells j d).item.0
 rises [] i j d up before within = absurd (omega arith)
 rises (cell ∷ cells) i zero d up before within = absurd (omega arith)
 rises (cell ∷ cells) zero (suc j) d up before within = above-at cell.item.0 cells j d up.0 (omega arith)
@@ -40,7 +44,8 @@ cell_in-later item cell cells miss = simp miss (later (has item cells))
     later false = refl
 
 -- the cell at a place that has the item
-pub cell_in-at : (item : ℕ) (cells : List Cell) (k : ℕ) (d : Cell) → Ascend (items_in (pairs_of cells)) → k < length cells → (get_or cells k d).item.0 ≡ item → cell_in item (pairs_of cells) ≡ Some k
+pub cell_in-at : (item : ℕ) (cells : List Cell) (k : ℕ) (d : Cell) → Ascend (items_in (pairs_of cells))
+    → k < length cells → (get_or cells k d).item.0 ≡ item → cell_in item (pairs_of cells) ≡ Some k
 cell_in-at item [] k d up within here = absurd (omega arith)
 cell_in-at item (cell ∷ cells) zero d up within here = let yes : eqb item cell.item.0 ≡ true = eq-eqb item cell.item.0 (sym here) in simp yes
 cell_in-at item (cell ∷ cells) (suc k) d up within here =
@@ -48,7 +53,8 @@ cell_in-at item (cell ∷ cells) (suc k) d up within here =
     let no : eqb item cell.item.0 ≡ false = ne_eqb item cell.item.0 (λ e. absurd (omega arith)) in
     cell_in-later item (pair_of cell) (pairs_of cells) no ∙ ap (option_map suc) (cell_in-at item cells k d up.1 (omega arith) here)
 
-cell_in-none : (item : ℕ) (cells : List Cell) → ((k : ℕ) (d : Cell) → k < length cells → (get_or cells k d).item.0 ≡ item → ⊥) → cell_in item (pairs_of cells) ≡ None
+cell_in-none : (item : ℕ) (cells : List Cell) → ((k : ℕ) (d : Cell) → k < length cells → (get_or cells k d).item.0
+    ≡ item → ⊥) → cell_in item (pairs_of cells) ≡ None
 cell_in-none item [] absent = refl
 cell_in-none item (cell ∷ cells) absent =
     let no : eqb item cell.item.0 ≡ false = ne_eqb item cell.item.0 (λ e. absent 0 cell (omega arith) (sym e)) in
@@ -82,11 +88,14 @@ cell_of-within item (cell ∷ cells) h = by (cell_of-within item cells) (eqb ite
 
 -- ---- the rules of an itemset
 
-pub Ascend-from : (first : ℕ × ℤ) (cells : List (ℕ × ℤ)) → AllAdjacentBelow (λ a b. a.0 < b.0) (first ∷ cells) (length (first ∷ cells)) → Ascend (items_in (first ∷ cells))
+pub Ascend-from : (first : ℕ × ℤ) (cells : List (ℕ × ℤ))
+    → AllAdjacentBelow (λ a b. a.0 < b.0) (first ∷ cells) (length (first ∷ cells)) → Ascend (items_in (first ∷ cells))
 Ascend-from first [] up = (tt, tt)
 Ascend-from first (next ∷ cells) up =
     let up' : AllAdjacentBelow (λ (a b : ℕ × ℤ). a.0 < b.0) (next ∷ cells) (length (next ∷ cells)) =
-    λ k d within. let e : suc k + 1 ≡ suc (k + 1) = omega arith in subst (λ j. (get_or (next ∷ cells) k d).0 < (get_or (first ∷ next ∷ cells) j d).0) e (up (suc k) d (omega arith)) in
+    λ k d within. let e : suc k + 1 ≡ suc (k + 1) =
+    omega arith in subst (λ j. (get_or (next ∷ cells) k d).0 < (get_or (first ∷ next ∷ cells) j d).0) e
+    (up (suc k) d (omega arith)) in
     let rest = Ascend-from next cells up' in
     let before : first.0 < next.0 = up 0 first (omega arith) in
     ((before, above_all first.0 next.0 (items_in cells) before rest.0), rest)
@@ -112,11 +121,17 @@ above-not v e = grind (arith, ints)
 
 pub each-above : (cells : List (ℕ × ℤ)) → any_negative cells ≡ false → AllByRecursion IsAbove cells
 each-above [] e = tt
-each-above (cell ∷ cells) e = (above-not cell.1 (or-left (int_lt cell.1 (pos 0)) (any_negative cells) e), each-above cells (or-right (int_lt cell.1 (pos 0)) (any_negative cells) e))
+each-above (cell ∷ cells) e = (
+  above-not cell.1 (or-left (int_lt cell.1 (pos 0)) (any_negative cells) e),
+  each-above cells (or-right (int_lt cell.1 (pos 0)) (any_negative cells) e),
+)
 
 pub all-above : (elements : List (List (ℕ × ℤ))) → list_any any_negative elements ≡ false → AllByRecursion (AllByRecursion IsAbove) elements
 all-above [] e = tt
-all-above (cells ∷ elements) e = (each-above cells (or-left (any_negative cells) (list_any any_negative elements) e), all-above elements (or-right (any_negative cells) (list_any any_negative elements) e))
+all-above (cells ∷ elements) e = (
+  each-above cells (or-left (any_negative cells) (list_any any_negative elements) e),
+  all-above elements (or-right (any_negative cells) (list_any any_negative elements) e),
+)
 
 pub Ascend-drop : (k : ℕ) (cells : List (ℕ × ℤ)) → Ascend (items_in cells) → Ascend (items_in (drop k cells))
 Ascend-drop zero cells up = up
@@ -151,8 +166,12 @@ pub total-item : (item : ℕ) (cells : List (ℕ × ℤ)) → AllByRecursion IsA
 total-item item [] above h = cc
 total-item item (cell ∷ cells) above h = by (total-item item cells above.1) (total-above cells above.1) (eqb item cell.0) refl
   where
-    by : (has item cells ≡ true → (pos 0 ≤ℤ value_of item cells) × ((value_of item cells +ℤ total (drop (suc (cell_of item cells)) cells)) ≤ℤ total cells)) → pos 0 ≤ℤ total cells
-        → (b : Bool) → eqb item cell.0 ≡ b → (pos 0 ≤ℤ value_of item (cell ∷ cells)) × ((value_of item (cell ∷ cells) +ℤ total (drop (suc (cell_of item (cell ∷ cells))) (cell ∷ cells))) ≤ℤ total (cell ∷ cells))
+    by : (has item cells ≡ true → (pos 0 ≤ℤ value_of item cells)
+        × ((value_of item cells +ℤ total (drop (suc (cell_of item cells)) cells)) ≤ℤ total cells))
+        → pos 0 ≤ℤ total cells
+        → (b : Bool) → eqb item cell.0 ≡ b → (pos 0 ≤ℤ value_of item (cell ∷ cells))
+        × ((value_of item (cell ∷ cells) +ℤ total (drop (suc (cell_of item (cell ∷ cells))) (cell ∷ cells)))
+        ≤ℤ total (cell ∷ cells))
     by ih all true e = let here = above.0 in simp e (here, omega (arith, ints))
     by ih all false e =
         let later = ih (simp e at h) in
@@ -162,7 +181,8 @@ total-item item (cell ∷ cells) above h = by (total-item item cells above.1) (t
         simp e (low, omega (arith, ints))
 
 -- one more cell
-pub total-next : (cells : List Cell) (k : ℕ) (d : Cell) → k < length cells → total (pairs_of (take (suc k) cells)) ≡ total (pairs_of (take k cells)) +ℤ (get_or cells k d).value
+pub total-next : (cells : List Cell) (k : ℕ) (d : Cell) → k < length cells → total (pairs_of (take (suc k) cells))
+    ≡ total (pairs_of (take k cells)) +ℤ (get_or cells k d).value
 total-next [] k d within = absurd (omega arith)
 total-next (cell ∷ cells) zero d within = omega (arith, ints)
 total-next (cell ∷ cells) (suc k) d within = let ih = total-next cells k d (omega arith) in omega (arith, ints)
@@ -177,7 +197,8 @@ pairs-drop zero cells = refl
 pairs-drop (suc k) [] = refl
 pairs-drop (suc k) (cell ∷ cells) = pairs-drop k cells
 
-pub total-front : (k : ℕ) (cells : List Cell) → AllByRecursion IsAbove (pairs_of cells) → (pos 0 ≤ℤ total (pairs_of (take k cells))) × (total (pairs_of (take k cells)) ≤ℤ total (pairs_of cells))
+pub total-front : (k : ℕ) (cells : List Cell) → AllByRecursion IsAbove (pairs_of cells)
+    → (pos 0 ≤ℤ total (pairs_of (take k cells))) × (total (pairs_of (take k cells)) ≤ℤ total (pairs_of cells))
 total-front k cells above =
     let same = pairs-take k cells in
     let low = total-above (take k (pairs_of cells)) (each-take IsAbove k (pairs_of cells) above) in

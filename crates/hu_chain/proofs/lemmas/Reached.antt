@@ -14,18 +14,26 @@ use Rattle.hu_chain.proofs.lemmas.Bounds.{grown-first}
 pub grown_from-itself : (pattern : List (List ℕ)) → IsGrownFrom pattern pattern
 grown_from-itself pattern = record { steps = []; leads = refl }
 
-leads-join : (steps more : List (Growth × ℕ)) (pattern middle other : List (List ℕ)) → Leads steps pattern middle → Leads more middle other → Leads (steps ++ more) pattern other
+leads-join : (steps more : List (Growth × ℕ)) (pattern middle other : List (List ℕ)) → Leads steps pattern middle
+    → Leads more middle other → Leads (steps ++ more) pattern other
 leads-join [] more pattern middle other leads next = subst (λ p. Leads more p other) (sym leads) next
 leads-join (step ∷ steps) more pattern middle other leads next = (leads.0, leads-join steps more (grown step.0 pattern step.1) middle other leads.1 next)
 
 -- growths of a grown pattern
 pub grown_from-join : (pattern middle other : List (List ℕ)) → IsGrownFrom pattern middle → IsGrownFrom middle other → IsGrownFrom pattern other
-grown_from-join pattern middle other from next = record { steps = from.steps ++ next.steps; leads = leads-join from.steps next.steps pattern middle other from.leads next.leads }
+grown_from-join pattern middle other from next =
+    record {
+      steps = from.steps ++ next.steps;
+      leads = leads-join from.steps next.steps pattern middle other from.leads
+          next.leads;
+    }
 
 -- one growth more at the end
-pub grown_from-next : (growth : Growth) (pattern other : List (List ℕ)) (item : ℕ) → IsGrownFrom pattern other → CanGrow growth other item → IsGrownFrom pattern (grown growth other item)
+pub grown_from-next : (growth : Growth) (pattern other : List (List ℕ)) (item : ℕ) → IsGrownFrom pattern other
+    → CanGrow growth other item → IsGrownFrom pattern (grown growth other item)
 grown_from-next growth pattern other item from can =
-    grown_from-join pattern other (grown growth other item) from (grown-first growth other (grown growth other item) item can (grown_from-itself (grown growth other item)))
+    grown_from-join pattern other (grown growth other item) from
+    (grown-first growth other (grown growth other item) item can (grown_from-itself (grown growth other item)))
 
 -- ---- every pattern is reached
 
@@ -35,9 +43,12 @@ into-append (first ∷ []) items item = refl
 into-append (first ∷ next ∷ front) items item = ap (λ ps. first ∷ ps) (into-append (next ∷ front) items item)
 
 -- items that ascend after the last one, into the last itemset
-into-reached : (front : List (List ℕ)) (items more : List ℕ) → Ends (front ++ items ∷ []) → AllByRecursion (λ item. last_item (front ++ items ∷ []) < item) more → Ascend more
+into-reached : (front : List (List ℕ)) (items more : List ℕ) → Ends (front ++ items ∷ [])
+    → AllByRecursion (λ item. last_item (front ++ items ∷ []) < item) more → Ascend more
     → IsGrownFrom (front ++ items ∷ []) (front ++ (items ++ more) ∷ [])
-into-reached front items [] ends above up = subst (λ is. IsGrownFrom (front ++ items ∷ []) (front ++ is ∷ [])) (sym (append-nil items)) (grown_from-itself (front ++ items ∷ []))
+into-reached front items [] ends above up =
+    subst (λ is. IsGrownFrom (front ++ items ∷ []) (front ++ is ∷ [])) (sym (append-nil items))
+    (grown_from-itself (front ++ items ∷ []))
 into-reached front items (item ∷ more) ends above up =
     let pattern : List (List ℕ) = front ++ items ∷ [] in
     let next : List (List ℕ) = front ++ (items ++ item ∷ []) ∷ [] in
@@ -56,7 +67,8 @@ Ends-alone (first ∷ []) item items = record { some = omega arith }
 Ends-alone (first ∷ next ∷ front) item items = record { some = let ends = Ends-alone (next ∷ front) item items in ends.some }
 
 -- further itemsets
-after-reached : (pattern rest : List (List ℕ)) → Ends pattern → AllByRecursion (λ items. (0 < length items) × Ascend items) rest → IsGrownFrom pattern (pattern ++ rest)
+after-reached : (pattern rest : List (List ℕ)) → Ends pattern
+    → AllByRecursion (λ items. (0 < length items) × Ascend items) rest → IsGrownFrom pattern (pattern ++ rest)
 after-reached pattern [] ends all = subst (IsGrownFrom pattern) (sym (append-nil pattern)) (grown_from-itself pattern)
 after-reached pattern ([] ∷ rest) ends all = let first = all.0 in absurd (omega (arith, first.0))
 after-reached pattern ((item ∷ items) ∷ rest) ends all =

@@ -36,7 +36,8 @@ leaves-open inner records table entry ordered out =
 -- ---- patterns
 
 -- the key of a set that occurs is closed where the set is
-occurring-key : (records : List (List (ℕ × ℤ))) (items : List ℕ) → AllByRecursion IsRecord records → Member items (occurring_sets records) → is_closed_key records (map pos items) ≡ is_closed records items
+occurring-key : (records : List (List (ℕ × ℤ))) (items : List ℕ) → AllByRecursion IsRecord records
+    → Member items (occurring_sets records) → is_closed_key records (map pos items) ≡ is_closed records items
 occurring-key records items all m =
     let o = Occurs-from_member records items m in
     let held = held-members records items o.held in
@@ -44,7 +45,8 @@ occurring-key records items all m =
       some = o.some;
       ascending = o.ascending;
       in_range = by_members (λ item. item ≤ 2147483647) items (λ item n.
-          occurs-in_range records item all (Member-ranking item (flat_map items_in records) (at_member (λ i. Member i (flat_map items_in records)) item items held n)));
+          occurs-in_range records item all (Member-ranking item (flat_map items_in records)
+          (at_member (λ i. Member i (flat_map items_in records)) item items held n)));
     })
 
 passes-closed : (w c l : Bool) → c ≡ true → ((w && c) && l) ≡ (w && l)
@@ -54,9 +56,13 @@ passes-closed false c l h = refl
 passes-open : (w c l : Bool) → c ≡ false → ((w && c) && l) ≡ false
 passes-open w c l h = and_left (w && c) l (and_right w c h)
 
-patterns-cons : (inner : Rule) (records : List (List (ℕ × ℤ))) (table : List ℕ) (s : List ℕ) (sets : List (List ℕ)) (b : Bool) → is_closed records s ≡ b → is_closed_key records (map pos s) ≡ is_closed records s
-    → filter (passes (closed_rule inner records table)) (map (item_entry records) sets) ≡ filter (passes inner) (map (item_entry records) (filter (is_closed records) sets))
-    → filter (passes (closed_rule inner records table)) (map (item_entry records) (s ∷ sets)) ≡ filter (passes inner) (map (item_entry records) (cond b (s ∷ filter (is_closed records) sets) (filter (is_closed records) sets)))
+patterns-cons : (inner : Rule) (records : List (List (ℕ × ℤ))) (table : List ℕ) (s : List ℕ) (sets : List (List ℕ))
+    (b : Bool) → is_closed records s ≡ b → is_closed_key records (map pos s) ≡ is_closed records s
+    → filter (passes (closed_rule inner records table)) (map (item_entry records) sets)
+    ≡ filter (passes inner) (map (item_entry records) (filter (is_closed records) sets))
+    → filter (passes (closed_rule inner records table)) (map (item_entry records) (s ∷ sets))
+    ≡ filter (passes inner)
+    (map (item_entry records) (cond b (s ∷ filter (is_closed records) sets) (filter (is_closed records) sets)))
 patterns-cons inner records table s sets true e key ih =
     let entry = item_entry records s in
     let same = passes-closed (inner.wants entry.key) (is_closed_key records entry.key) (int_le inner.start entry.utility) (key ∙ e) in
@@ -64,12 +70,17 @@ patterns-cons inner records table s sets true e key ih =
 patterns-cons inner records table s sets false e key ih =
     let entry = item_entry records s in
     let fails = passes-open (inner.wants entry.key) (is_closed_key records entry.key) (int_le inner.start entry.utility) (key ∙ e) in
-    (λ j. cond (fails j) (entry ∷ filter (passes (closed_rule inner records table)) (map (item_entry records) sets)) (filter (passes (closed_rule inner records table)) (map (item_entry records) sets))) ∙ ih
+    (λ j. cond (fails j) (entry ∷ filter (passes (closed_rule inner records table)) (map (item_entry records) sets))
+    (filter (passes (closed_rule inner records table)) (map (item_entry records) sets))) ∙ ih
 
-patterns-sets : (inner : Rule) (records : List (List (ℕ × ℤ))) (table : List ℕ) (sets : List (List ℕ)) → AllByRecursion (λ s. is_closed_key records (map pos s) ≡ is_closed records s) sets
-    → filter (passes (closed_rule inner records table)) (map (item_entry records) sets) ≡ filter (passes inner) (map (item_entry records) (filter (is_closed records) sets))
+patterns-sets : (inner : Rule) (records : List (List (ℕ × ℤ))) (table : List ℕ) (sets : List (List ℕ))
+    → AllByRecursion (λ s. is_closed_key records (map pos s) ≡ is_closed records s) sets
+    → filter (passes (closed_rule inner records table)) (map (item_entry records) sets)
+    ≡ filter (passes inner) (map (item_entry records) (filter (is_closed records) sets))
 patterns-sets inner records table [] each = refl
-patterns-sets inner records table (s ∷ sets) each = patterns-cons inner records table s sets (is_closed records s) refl each.0 (patterns-sets inner records table sets each.1)
+patterns-sets inner records table (s ∷ sets) each =
+    patterns-cons inner records table s sets (is_closed records s) refl each.0
+    (patterns-sets inner records table sets each.1)
 
 pub makes-closed : (inner : State) (records : List (List (ℕ × ℤ))) (table : List ℕ) → AllByRecursion IsRecord records → MakesClosed records table inner
 makes-closed inner records table all =

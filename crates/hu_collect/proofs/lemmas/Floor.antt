@@ -1,5 +1,6 @@
 -- Utilities along the one order, and the last one of a content.
-use Rattle.std.proofs.Common.{◌≡◌, ℕ, ◌<◌, ◌≤◌, ℤ, ◌<ℤ◌, ◌≤ℤ◌, Option, None, Some, true, false, if◌then◌else◌, nat_lt, ltb, List, [], ◌∷◌, ◌++◌, length, take, refl, sym, ap, ◌∙◌, arith}
+use Rattle.std.proofs.Common.{◌≡◌, ℕ, ◌<◌, ◌≤◌, ℤ, ◌<ℤ◌, ◌≤ℤ◌, Option, None, Some, true, false, if◌then◌else◌, nat_lt}
+use Rattle.std.proofs.Common.{ltb, List, [], ◌∷◌, ◌++◌, length, take, refl, sym, ap, ◌∙◌, arith}
 use Rattle.std.specs.declared.cmp.Ordering.TheVariants.{Less, Greater}
 use Rattle.std.specs.Int.{int_max}
 use Rattle.std.specs.Int.Signed.{≤ℤ_refl}
@@ -68,7 +69,9 @@ insert-at_end (y ∷ ys) x h = rw (h.0) (ap (λ s. y ∷ s) (insert-at_end ys x 
 pub take-insert_below : (d : ℤ) (xs : List Entry) (x : Entry) → IsStrictlySortedBy entry_cmp xs → x.utility <ℤ last_utility d xs
     → take (length xs) (insert_key entry_cmp xs x) ≡ xs
 take-insert_below d xs x h below =
-    rw (insert-at_end xs x (AllByRecursion-weaker _ _ (λ y. λ (le : last_utility d xs ≤ℤ y.utility). later-by_utility x y (omega (arith, ints))) xs (last-least d xs h)))
+    rw (insert-at_end xs x
+    (AllByRecursion-weaker _ _ (λ y. λ (le : last_utility d xs ≤ℤ y.utility). later-by_utility x y
+    (omega (arith, ints))) xs (last-least d xs h)))
     (take_at xs (x ∷ []) (length xs) refl)
 
 -- an insertion doesn't shorten
@@ -112,7 +115,8 @@ floor_by-short k start xs h = rw (lt-ltb (length xs) k h) refl
 floor_by-full_insert : (start : ℤ) (xs : List Entry) (x : Entry) → IsStrictlySortedBy entry_cmp xs
     → floor_by (Some (length xs)) start xs ≤ℤ floor_by (Some (length xs)) start (take (length xs) (insert_key entry_cmp xs x))
 floor_by-full_insert start xs x h =
-    let long : length xs ≤ length (take (length xs) (insert_key entry_cmp xs x)) = omega (arith, length-take (length xs) (insert_key entry_cmp xs x), length-insert_key xs x) in
+    let long : length xs ≤ length (take (length xs) (insert_key entry_cmp xs x)) =
+    omega (arith, length-take (length xs) (insert_key entry_cmp xs x), length-insert_key xs x) in
     rw (floor_by-full (length xs) start xs (omega arith), floor_by-full (length xs) start (take (length xs) (insert_key entry_cmp xs x)) long)
     (int_max-le_right start _ _ (last_utility-insert start xs x h))
 

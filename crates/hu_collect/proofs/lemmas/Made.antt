@@ -1,5 +1,6 @@
 -- The laws of what collectors make, for proofs above to cite.
-use Rattle.std.proofs.Common.{◌≡◌, ◌↔◌, ◌<ℤ◌, ◌≤ℤ◌, ℤ, Bool, true, false, not, cond, ◌&&◌, ◌⊎◌, inl, inr, List, [], ◌∷◌, ◌++◌, refl, sym, ap, subst, ◌∙◌, arith, append-nil, append_assoc}
+use Rattle.std.proofs.Common.{◌≡◌, ◌↔◌, ◌<ℤ◌, ◌≤ℤ◌, ℤ, Bool, true, false, not, cond, ◌&&◌, ◌⊎◌, inl, inr, List, [], ◌∷◌}
+use Rattle.std.proofs.Common.{◌++◌, refl, sym, ap, subst, ◌∙◌, arith, append-nil, append_assoc}
 use Rattle.std.specs.Prelude.{int_le, T}
 use Rattle.std.specs.Int.Signed.{≤ℤ_refl}
 use Rattle.std.specs.List.{All, AllByRecursion, Contains, filter}
@@ -7,7 +8,9 @@ use Rattle.std.specs.List.Sorted.{IsStrictlySortedBy}
 use Rattle.std.specs.BTreeSet.{insert_key}
 use Rattle.std.proofs.lemmas.Int.{ints, by_lt_z}
 use Rattle.std.proofs.lemmas.Float.{T_from_true}
-use Rattle.std.proofs.lemmas.List.Elements.{filter-append, filter_passes, All-filter, All-weaker, All-contains, All-contains_itself, recursion_from_All, Contains-append_left, Contains-append_right, Contains-append_cases}
+use Rattle.std.proofs.lemmas.List.Elements.{filter-append, filter_passes, All-filter, All-weaker, All-contains}
+use Rattle.std.proofs.lemmas.List.Elements.{All-contains_itself, recursion_from_All, Contains-append_left}
+use Rattle.std.proofs.lemmas.List.Elements.{Contains-append_right, Contains-append_cases}
 use Rattle.hu_kind.specs.declared.entry.Entry.{Entry}
 use Rattle.hu_kind.specs.Order.{entry_cmp, ranking, cut}
 use Rattle.hu_collect.specs.Rule.{Rule, passes, made, IsKept, floor_of}
@@ -68,7 +71,10 @@ pub makes_by_passing : MakesByPassing
 makes_by_passing rule content xs ys h =
     ap (cut rule.limit)
     (ranking-same_members entry_cmp entry_order (content ++ filter (passes rule) xs) (content ++ filter (passes rule) ys)
-    (λ x. (appended-members content _ _ (passing-members rule xs ys (λ z p. (h z p).0)) x, appended-members content _ _ (passing-members rule ys xs (λ z p. (h z p).1)) x)))
+    (λ x. (
+      appended-members content _ _ (passing-members rule xs ys (λ z p. (h z p).0)) x,
+      appended-members content _ _ (passing-members rule ys xs (λ z p. (h z p).1)) x,
+    )))
 
 -- and so do those with the same members
 pub makes_by_members : MakesByMembers
@@ -77,7 +83,8 @@ makes_by_members rule content xs ys h = makes_by_passing rule content xs ys (λ 
 -- a content that is kept is in order and within the limit
 pub sorted-kept : (rule : Rule) (content : List Entry) → IsKept rule content → IsStrictlySortedBy entry_cmp content
 sorted-kept rule content kept =
-    subst (IsStrictlySortedBy entry_cmp) kept (sorted-cut entry_cmp rule.limit (ranking entry_cmp (content ++ [])) (sorted-ranking entry_cmp entry_order (content ++ [])))
+    subst (IsStrictlySortedBy entry_cmp) kept (sorted-cut entry_cmp rule.limit (ranking entry_cmp (content ++ []))
+    (sorted-ranking entry_cmp entry_order (content ++ [])))
 
 pub cut-kept : (rule : Rule) (content : List Entry) → IsKept rule content → cut rule.limit content ≡ content
 cut-kept rule content kept = ap (cut rule.limit) (sym kept) ∙ cut-cut rule.limit (ranking entry_cmp (content ++ [])) ∙ kept
@@ -129,7 +136,8 @@ pub made-unwanted : (rule : Rule) (content entries : List Entry) → IsKept rule
     → All (λ entry. rule.wants entry.key ≡ false) entries → made rule content entries ≡ content
 made-unwanted rule content entries kept h =
     made-idle rule content entries kept
-    (AllByRecursion-weaker _ _ (λ entry. λ (e : rule.wants entry.key ≡ false). made-not_passing rule content entry kept (rw e refl)) entries (recursion_from_All _ entries h))
+    (AllByRecursion-weaker _ _ (λ entry. λ (e : rule.wants entry.key ≡ false). made-not_passing rule content entry kept
+    (rw e refl)) entries (recursion_from_All _ entries h))
 
 -- what reaches a floor, and what doesn't
 abbrev reaches : ℤ → Entry → Bool
@@ -168,12 +176,14 @@ parted-members floor xs x = (there, back)
     ]
 
 -- of a list only what reaches the floor counts
-made-reaching : (rule : Rule) (content xs : List Entry) → IsKept rule content → made rule content xs ≡ made rule content (filter (reaches (floor_of rule content)) xs)
+made-reaching : (rule : Rule) (content xs : List Entry) → IsKept rule content → made rule content xs
+    ≡ made rule content (filter (reaches (floor_of rule content)) xs)
 made-reaching rule content xs kept =
     let floor = floor_of rule content in
     let low = filter (falls_short floor) xs in
     let high = filter (reaches floor) xs in
-    let below : All (λ entry. entry.utility <ℤ floor) low = All-weaker _ _ (λ entry short. short-below floor entry short) low (filter_passes (falls_short floor) xs) in
+    let below : All (λ entry. entry.utility <ℤ floor) low =
+    All-weaker _ _ (λ entry short. short-below floor entry short) low (filter_passes (falls_short floor) xs) in
     makes_by_members rule content xs (low ++ high) (parted-members floor xs)
     ∙ sym (makes_in_turn rule content low high)
     ∙ ap (λ c. made rule c high) (made-below_floor rule content low kept below)
@@ -200,7 +210,8 @@ keeps_floor-one : (rule : Rule) (content : List Entry) (entry : Entry) → IsKep
     → floor_of rule content ≤ℤ floor_of rule (made rule content (entry ∷ []))
 keeps_floor-one rule content entry kept =
     by_passing rule entry
-    (λ e. rw (made-passing rule content entry kept e) (floor_by-insert rule.limit rule.start content entry (sorted-kept rule content kept) (cut-kept rule content kept)))
+    (λ e. rw (made-passing rule content entry kept e) (floor_by-insert rule.limit rule.start content entry
+    (sorted-kept rule content kept) (cut-kept rule content kept)))
     (λ e. rw (made-not_passing rule content entry kept e) (≤ℤ_refl (floor_of rule content)))
 
 pub keeps_floor : KeepsFloor

@@ -1,5 +1,6 @@
 -- What a search makes of a collector's state, step by step.
-use Rattle.std.proofs.Common.{◌≡◌, true, ◌<ℤ◌, ◌≤ℤ◌, List, [], ◌∷◌, ◌++◌, sym, ap, ◌∙◌, subst, inl, inr, ◌⊎◌, ◌↔◌, arith, Contains, Result, Ok, Err, IsErr, IsOk}
+use Rattle.std.proofs.Common.{◌≡◌, true, ◌<ℤ◌, ◌≤ℤ◌, List, [], ◌∷◌, ◌++◌, sym, ap, ◌∙◌, subst, inl, inr, ◌⊎◌, ◌↔◌}
+use Rattle.std.proofs.Common.{arith, Contains, Result, Ok, Err, IsErr, IsOk}
 use Rattle.std.proofs.lemmas.Int.{ints}
 use Rattle.std.proofs.lemmas.List.Elements.{All-contains_itself, All-weaker}
 use Rattle.hu_kind.specs.declared.entry.Entry.{Entry}
@@ -186,17 +187,20 @@ reached-all {old = old} {new = new} all some same =
     λ more. ap (λ s. offered s more) some.is ∙ offered-then old some.entries more in
     let twice : offered new some.entries ≡ new =
     both some.entries ∙ offered-members old (some.entries ++ some.entries) some.entries (λ e. (
-      λ c. both_cases {P = Contains some.entries} {Q = Contains some.entries} {R = Contains some.entries} some.entries some.entries (λ x d. d) (λ x d. d) (λ x d. d) (λ x d. d) e c,
+      λ c. both_cases {P = Contains some.entries} {Q = Contains some.entries} {R = Contains some.entries} some.entries
+          some.entries (λ x d. d) (λ x d. d) (λ x d. d) (λ x d. d) e c,
       λ c. contains_left e some.entries some.entries c,
     )) ∙ sym some.is in
     let whole : offered new all ≡ offered old all =
     both all ∙ offered-members old (some.entries ++ all) all (λ e. (
-      λ c. both_cases {P = Contains some.entries} {Q = Contains all} {R = Contains all} some.entries all (λ x d. (same x).0 (some.each x d)) (λ x d. d) (λ x d. d) (λ x d. d) e c,
+      λ c. both_cases {P = Contains some.entries} {Q = Contains all} {R = Contains all} some.entries all
+          (λ x d. (same x).0 (some.each x d)) (λ x d. d) (λ x d. d) (λ x d. d) e c,
       λ c. contains_right e some.entries all c,
     )) in
     sym twice ∙ sym again ∙ whole
 
-pub some-all : {P : Entry → Type 0} {old new : State} (all : List Entry) → ReachedSome old P new → ((e : Entry) → P e → Contains all e) → OfferedSome old all new
+pub some-all : {P : Entry → Type 0} {old new : State} (all : List Entry) → ReachedSome old P new
+    → ((e : Entry) → P e → Contains all e) → OfferedSome old all new
 some-all all some same = (
   some.entries,
   All-weaker (λ e. Contains some.entries e) (λ e. Contains all e) (λ e c. same e (some.each e c)) some.entries (All-contains_itself some.entries),

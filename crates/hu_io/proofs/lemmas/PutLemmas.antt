@@ -22,7 +22,8 @@ Appended-append {a} {b} {c} {first} {second} put next = record {
 }
 
 -- a front of a text, and then a front of what is left of it
-pub Appended-take : {a b c : SinkState} (m n : ℕ) (text : List ℕ) → Appended a b (take m text) → Appended b c (take n (drop m text)) → Appended a c (take (m + n) text)
+pub Appended-take : {a b c : SinkState} (m n : ℕ) (text : List ℕ) → Appended a b (take m text)
+    → Appended b c (take n (drop m text)) → Appended a c (take (m + n) text)
 Appended-take {a} {c = c} m n text put next = subst (Appended a c) (sym (take-add m n text)) (Appended-append put next)
 
 -- a text, and then one that fails
@@ -33,7 +34,8 @@ Broke-append {a} {b} {c} {first} {second} put next =
       front = (
         length first + k,
         omega (arith, length-append first second, next.front.1),
-        subst (Appends a.bytes c.bytes) (sym (take-append-add first second k)) (Appends-trans a.bytes b.bytes c.bytes first (take k second) put.bytes next.front.2),
+        subst (Appends a.bytes c.bytes) (sym (take-append-add first second k))
+            (Appends-trans a.bytes b.bytes c.bytes first (take k second) put.bytes next.front.2),
       );
       rose = subst (λ n. Rose n c.faults) put.faults next.rose;
       later = subst (λ n. n ≤ c.faults) put.faults next.later;
@@ -57,7 +59,9 @@ Broke-longer {a} {b} {first} second put =
     }
 
 -- a text, and then another that may fail
-pub PutsAll-append : {E : Type 0} {a b : SinkState} {first : List ℕ} (c : SinkState) (second : List ℕ) (result : Result (Unit {0}) E) → Appended a b first → PutsAll b c result second → PutsAll a c result (first ++ second)
+pub PutsAll-append : {E : Type 0} {a b : SinkState} {first : List ℕ} (c : SinkState) (second : List ℕ)
+    (result : Result (Unit {0}) E) → Appended a b first → PutsAll b c result second
+    → PutsAll a c result (first ++ second)
 PutsAll-append c second (Ok _) put next = Appended-append put next
 PutsAll-append c second (Err _) put next = Broke-append put next
 

@@ -8,11 +8,14 @@ use Rattle.hu_kind.proofs.lemmas.Each.{each-from_all, each-weaker, each-left, ea
 use Rattle.hu_kind.proofs.lemmas.Members.{Member, Member-append_right}
 use Rattle.hu_kind.proofs.lemmas.Occurring.{above_all, at_member}
 
-Ascend-adjacent-from : (first : ℕ × ℤ) (cells : List (ℕ × ℤ)) → AllAdjacentBelow (λ a b. a.0 < b.0) (first ∷ cells) (length (first ∷ cells)) → Ascend (items_in (first ∷ cells))
+Ascend-adjacent-from : (first : ℕ × ℤ) (cells : List (ℕ × ℤ))
+    → AllAdjacentBelow (λ a b. a.0 < b.0) (first ∷ cells) (length (first ∷ cells)) → Ascend (items_in (first ∷ cells))
 Ascend-adjacent-from first [] up = (tt, tt)
 Ascend-adjacent-from first (next ∷ cells) up =
     let up' : AllAdjacentBelow (λ (a b : ℕ × ℤ). a.0 < b.0) (next ∷ cells) (length (next ∷ cells)) =
-    λ k d within. let e : suc k + 1 ≡ suc (k + 1) = omega arith in subst (λ j. (get_or (next ∷ cells) k d).0 < (get_or (first ∷ next ∷ cells) j d).0) e (up (suc k) d (omega arith)) in
+    λ k d within. let e : suc k + 1 ≡ suc (k + 1) =
+    omega arith in subst (λ j. (get_or (next ∷ cells) k d).0 < (get_or (first ∷ next ∷ cells) j d).0) e
+    (up (suc k) d (omega arith)) in
     let rest = Ascend-adjacent-from next cells up' in
     let before : first.0 < next.0 = up 0 first (omega arith) in
     ((before, above_all first.0 next.0 (items_in cells) before rest.0), rest)
@@ -22,7 +25,9 @@ pub Ascend-adjacent : (cells : List (ℕ × ℤ)) → AllAdjacentBelow (λ a b. 
 Ascend-adjacent [] up = tt
 Ascend-adjacent (first ∷ cells) up = Ascend-adjacent-from first cells up
 
-pub each-ascending : (records : List (List (ℕ × ℤ))) → All (λ cells. AllAdjacentBelow (λ a b. a.0 < b.0) cells (length cells)) records → AllByRecursion (λ cells. Ascend (items_in cells)) records
+pub each-ascending : (records : List (List (ℕ × ℤ))) → All
+    (λ cells. AllAdjacentBelow (λ a b. a.0 < b.0) cells (length cells)) records
+    → AllByRecursion (λ cells. Ascend (items_in cells)) records
 each-ascending records all =
     each-weaker (λ cells. AllAdjacentBelow (λ a b. a.0 < b.0) cells (length cells)) (λ cells. Ascend (items_in cells)) records Ascend-adjacent
     (each-from_all (λ cells. AllAdjacentBelow (λ a b. a.0 < b.0) cells (length cells)) records all)
@@ -48,9 +53,11 @@ Ascend-push (x ∷ xs) a b up below =
     let before : x < a = at_member (λ z. x < z) a (xs ++ a ∷ []) up.0 (Member-append_right a xs (a ∷ []) (inl refl)) in
     (each-append (λ z. x < z) xs (a ∷ b ∷ []) (each-left (λ z. x < z) xs (a ∷ []) up.0) (before, (omega arith, tt)), Ascend-push xs a b up.1 below)
 
-pub each-in_range : (n : ℕ) (records : List (List (ℕ × ℤ))) → All (λ cells. All (λ cell. cell.0 < n) cells) records → AllByRecursion (λ cells. AllByRecursion (λ cell. cell.0 < n) cells) records
+pub each-in_range : (n : ℕ) (records : List (List (ℕ × ℤ))) → All (λ cells. All (λ cell. cell.0 < n) cells) records
+    → AllByRecursion (λ cells. AllByRecursion (λ cell. cell.0 < n) cells) records
 each-in_range n records all =
-    each-weaker (λ cells. All (λ cell. cell.0 < n) cells) (λ cells. AllByRecursion (λ cell. cell.0 < n) cells) records (λ cells. each-from_all (λ cell. cell.0 < n) cells)
+    each-weaker (λ cells. All (λ cell. cell.0 < n) cells) (λ cells. AllByRecursion (λ cell. cell.0 < n) cells) records
+    (λ cells. each-from_all (λ cell. cell.0 < n) cells)
     (each-from_all (λ cells. All (λ cell. cell.0 < n) cells) records all)
 
 -- the numbers of a range

@@ -1,5 +1,7 @@
 -- How often items stand in a list, and cells in order.
-use Rattle.std.proofs.Common.{◌≡◌, ℕ, ◌+◌, ◌-◌, ◌<◌, ◌≤◌, ◌≢◌, ◌==◌, Bool, true, false, cond, min, fold, None, Some, List, [], ◌∷◌, ◌++◌, length, take, drop, map, filter, refl, sym, ap, ◌∙◌, ◌⊎◌, inl, inr, arith, get_or, nat_lt, suc, ℤ, pos, add-zero}
+use Rattle.std.proofs.Common.{◌≡◌, ℕ, ◌+◌, ◌-◌, ◌<◌, ◌≤◌, ◌≢◌, ◌==◌, Bool, true, false, cond, min, fold, None, Some}
+use Rattle.std.proofs.Common.{List, [], ◌∷◌, ◌++◌, length, take, drop, map, filter, refl, sym, ap, ◌∙◌, ◌⊎◌, inl, inr}
+use Rattle.std.proofs.Common.{arith, get_or, nat_lt, suc, ℤ, pos, add-zero}
 use Rattle.std.specs.List.{All, AllByRecursion, AllAdjacentBelow, reduce}
 use Rattle.std.specs.List.Sorted.{IsPermutation, IsStrictlySortedBy, IsNonDecreasing, IsNonDecreasingBy, IsStrictlyIncreasing}
 use Rattle.std.specs.declared.cmp.Ordering.TheVariants.{Less}
@@ -75,7 +77,8 @@ reduce_min (x ∷ xs) d some least =
     let reached : (x ≡ d) ⊎ (0 < times d xs) = head_or_later x d xs some in
     ap Some (fold_min xs x d reached above (λ e more. least e (omega (arith, times-cons e x xs))))
 
-filter_step : (p : ℕ → Bool) (e x : ℕ) (xs ys : List ℕ) (t : Bool) → p x ≡ t → times e ys ≡ cond (p e) (times e xs) 0 → (x ≡ e) ⊎ (x ≢ e) → times e (cond t (x ∷ ys) ys) ≡ cond (p e) (times e (x ∷ xs)) 0
+filter_step : (p : ℕ → Bool) (e x : ℕ) (xs ys : List ℕ) (t : Bool) → p x ≡ t → times e ys ≡ cond (p e) (times e xs) 0
+    → (x ≡ e) ⊎ (x ≢ e) → times e (cond t (x ∷ ys) ys) ≡ cond (p e) (times e (x ∷ xs)) 0
 filter_step p e x xs ys true is more (inl same) =
     let passes : p e ≡ true = rw (← same) is in
     let front = times-cons e x xs in
@@ -154,8 +157,12 @@ back_above xs i d e ascending within here below k z short =
 pub IsFirstTwice-repeated : (xs : List ℕ) (i d : ℕ) → 0 < i → i < length xs → IsNonDecreasing xs → ((k : ℕ) → k + 1 < i → get_or xs k 0 < get_or xs (k + 1) 0)
     → get_or xs i 0 ≡ d → get_or xs (i - 1) 0 ≡ d → IsFirstTwice xs d
 IsFirstTwice-repeated xs i d some within ascending strictly here before =
-    let front : 0 < times d (take i xs) = times-present (take i xs) (i - 1) d (omega (arith, length-take-le i xs (omega arith))) (get_or-take i xs (i - 1) 0 (omega arith) ∙ before) in
-    let back : 0 < times d (drop i xs) = times-present (drop i xs) 0 d (omega (arith, length-drop i xs)) (omega (arith, get_or-drop i xs 0 0, ap (λ k. get_or xs k 0) (add-zero i))) in
+    let front : 0 < times d (take i xs) =
+    times-present (take i xs) (i - 1) d (omega (arith, length-take-le i xs (omega arith)))
+    (get_or-take i xs (i - 1) 0 (omega arith) ∙ before) in
+    let back : 0 < times d (drop i xs) =
+    times-present (drop i xs) 0 d (omega (arith, length-drop i xs))
+    (omega (arith, get_or-drop i xs 0 0, ap (λ k. get_or xs k 0) (add-zero i))) in
     record { more = omega (arith, times-split d i xs); least = λ e more. least e more (cases_lt e d) }
   where
     least : (e : ℕ) → 1 < times e xs → (e < d) ⊎ (d ≤ e) → d ≤ e
@@ -215,7 +222,8 @@ pair_exact = record {
 -- pairs whose items ascend strictly are in order
 pub by_item-ascending : (pairs : List (ℕ × ℤ)) → AllAdjacentBelow (λ a b. a.0 < b.0) pairs (length pairs) → by_item pairs ≡ pairs
 by_item-ascending pairs h =
-    ranking-sorted pair_cmp pairs (sorted_from_all_adjacent pair_exact.total pairs (0, pos 0) (λ k within. pair_less (get_or pairs k (0, pos 0)) (get_or pairs (k + 1) (0, pos 0)) (h k (0, pos 0) within)))
+    ranking-sorted pair_cmp pairs (sorted_from_all_adjacent pair_exact.total pairs (0, pos 0)
+    (λ k within. pair_less (get_or pairs k (0, pos 0)) (get_or pairs (k + 1) (0, pos 0)) (h k (0, pos 0) within)))
 
 -- cells that ascend strictly are the pairs by item of the cells that were put in order
 pub by_item-ordered : (cells ordered : List Cell) → IsPermutation cells ordered → AllAdjacentBelow (λ a b. a.item.0 < b.item.0) ordered (length ordered)

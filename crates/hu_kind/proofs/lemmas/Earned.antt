@@ -1,5 +1,7 @@
 -- What sets and sequences earn in a record, beside what the record gains and what its absolute values sum to.
-use Rattle.std.proofs.Common.{◌≡◌, ℕ, ◌<◌, ◌≤◌, ◌+◌, Bool, true, false, not, cond, eqb, ℤ, pos, negsuc, ◌+ℤ◌, ◌≤ℤ◌, unsigned_abs, Option, None, Some, option_map, unwrap_or, List, [], ◌∷◌, map, filter, refl, sym, ap, subst, inl, inr, arith, sum_by}
+use Rattle.std.proofs.Common.{◌≡◌, ℕ, ◌<◌, ◌≤◌, ◌+◌, Bool, true, false, not, cond, eqb, ℤ, pos, negsuc, ◌+ℤ◌, ◌≤ℤ◌}
+use Rattle.std.proofs.Common.{unsigned_abs, Option, None, Some, option_map, unwrap_or, List, [], ◌∷◌, map, filter, refl}
+use Rattle.std.proofs.Common.{sym, ap, subst, inl, inr, arith, sum_by}
 use Rattle.std.specs.List.{AllByRecursion}
 use Rattle.std.proofs.lemmas.Bool.{eq-eqb, ne_eqb, cases_eq}
 use Rattle.std.proofs.lemmas.Int.{ints, clamps}
@@ -59,7 +61,8 @@ Ascend-others x (y ∷ ys) up = by (eqb y x) (each-others (λ z. y < z) x ys up.
     by false above rest = (above, rest)
 
 -- where the set has no such item, the cell counts for nothing
-pub values_of-past : (cell : ℕ × ℤ) (cells : List (ℕ × ℤ)) (set : List ℕ) → AllByRecursion (λ i. cell.0 < i) set → values_of set (cell ∷ cells) ≡ values_of (others cell.0 set) cells
+pub values_of-past : (cell : ℕ × ℤ) (cells : List (ℕ × ℤ)) (set : List ℕ) → AllByRecursion (λ i. cell.0 < i) set
+    → values_of set (cell ∷ cells) ≡ values_of (others cell.0 set) cells
 values_of-past cell cells [] above = refl
 values_of-past cell cells (i ∷ is) above =
     let other : eqb i cell.0 ≡ false = ne_eqb i cell.0 (λ e. absurd (omega arith)) in
@@ -165,12 +168,15 @@ Within-later : (a : Option ℤ) (here sum : ℕ) → Within a sum → Within a (
 Within-later None here sum h = tt
 Within-later (Some x) here sum h = omega arith
 
-best-within : (pattern : List (List ℕ)) (elements : List (List (ℕ × ℤ))) → AllByRecursion Ascend pattern → Within (best_utility pattern elements) (sum_by absolute_of elements)
+best-within : (pattern : List (List ℕ)) (elements : List (List (ℕ × ℤ))) → AllByRecursion Ascend pattern
+    → Within (best_utility pattern elements) (sum_by absolute_of elements)
 best-within [] elements up = omega arith
 best-within (p ∷ ps) [] up = tt
 best-within (p ∷ ps) (e ∷ es) up =
     let sum = sum_by-cons absolute_of e es in
-    let first = Within-first (holds p e) (best_utility ps es) (values_of p e) (absolute_of e) (sum_by absolute_of es) (values_of-within e p up.0) (best-within ps es up.1) in
+    let first =
+    Within-first (holds p e) (best_utility ps es) (values_of p e) (absolute_of e) (sum_by absolute_of es)
+    (values_of-within e p up.0) (best-within ps es up.1) in
     let later = Within-later (best_utility (p ∷ ps) es) (absolute_of e) (sum_by absolute_of es) (best-within (p ∷ ps) es up) in
     subst (Within (best_utility (p ∷ ps) (e ∷ es))) (sym sum) (Within-better _ _ (absolute_of e + sum_by absolute_of es) first later)
 
@@ -191,7 +197,8 @@ led_by-ascends : (s : List ℕ) (pattern : List (List ℕ)) → Ascend s → All
 led_by-ascends [] pattern up rest = rest
 led_by-ascends (i ∷ is) pattern up rest = (up, rest)
 
-pub subsequence-ascends : (elements : List (List (ℕ × ℤ))) (pattern : List (List ℕ)) → AllByRecursion (λ e. Ascend (items_in e)) elements → Member pattern (subsequences elements)
+pub subsequence-ascends : (elements : List (List (ℕ × ℤ))) (pattern : List (List ℕ))
+    → AllByRecursion (λ e. Ascend (items_in e)) elements → Member pattern (subsequences elements)
     → AllByRecursion Ascend pattern
 subsequence-ascends [] pattern up (inl e) = subst (AllByRecursion Ascend) e tt
 subsequence-ascends [] pattern up (inr m) = absurd m

@@ -1,5 +1,6 @@
 -- Members of lists, by recursion.
-use Rattle.std.proofs.Common.{◌≡◌, ℕ, zero, suc, ◌<◌, Bool, true, false, cond, List, [], ◌∷◌, ◌++◌, map, length, get_or, refl, sym, ap, ◌∙◌, subst, ◌⊎◌, inl, inr, arith, filter, flat_map, Contains}
+use Rattle.std.proofs.Common.{◌≡◌, ℕ, zero, suc, ◌<◌, Bool, true, false, cond, List, [], ◌∷◌, ◌++◌, map, length, get_or}
+use Rattle.std.proofs.Common.{refl, sym, ap, ◌∙◌, subst, ◌⊎◌, inl, inr, arith, filter, flat_map, Contains}
 
 -- x is an element of a list
 abbrev pub Member : {A : Type 0} → A → List A → Type 0
@@ -55,7 +56,8 @@ Member-from_flat_map f y (x ∷ xs) m = elim (Member-append_cases y (f x) (flat_
   | inr b ↦ let r = Member-from_flat_map f y xs b in (r.0, inr r.1, r.2)
 ]
 
-Member-filter-cons : {A : Type 0} (p : A → Bool) (x y : A) (ys : List A) → (Member x ys → Member x (filter p ys)) → (b : Bool) → p y ≡ b → Member x (y ∷ ys) → p x ≡ true → Member x (cond b (y ∷ filter p ys) (filter p ys))
+Member-filter-cons : {A : Type 0} (p : A → Bool) (x y : A) (ys : List A) → (Member x ys → Member x (filter p ys))
+    → (b : Bool) → p y ≡ b → Member x (y ∷ ys) → p x ≡ true → Member x (cond b (y ∷ filter p ys) (filter p ys))
 Member-filter-cons p x y ys ih true e (inl s) h = inl s
 Member-filter-cons p x y ys ih true e (inr m) h = inr (ih m)
 Member-filter-cons p x y ys ih false e (inl s) h = let no : true ≡ false = sym h ∙ ap p (sym s) ∙ e in cc
@@ -65,7 +67,9 @@ pub Member-filter : {A : Type 0} (p : A → Bool) (x : A) (xs : List A) → Memb
 Member-filter p x [] m h = absurd m
 Member-filter p x (y ∷ ys) m h = Member-filter-cons p x y ys (λ n. Member-filter p x ys n h) (p y) refl m h
 
-Member-from_filter-cons : {A : Type 0} (p : A → Bool) (x y : A) (ys : List A) → (Member x (filter p ys) → Member x ys × (p x ≡ true)) → (b : Bool) → p y ≡ b → Member x (cond b (y ∷ filter p ys) (filter p ys)) → Member x (y ∷ ys) × (p x ≡ true)
+Member-from_filter-cons : {A : Type 0} (p : A → Bool) (x y : A) (ys : List A)
+    → (Member x (filter p ys) → Member x ys × (p x ≡ true)) → (b : Bool) → p y ≡ b
+    → Member x (cond b (y ∷ filter p ys) (filter p ys)) → Member x (y ∷ ys) × (p x ≡ true)
 Member-from_filter-cons p x y ys ih true e (inl s) = (inl s, ap p (sym s) ∙ e)
 Member-from_filter-cons p x y ys ih true e (inr m) = let r = ih m in (inr r.0, r.1)
 Member-from_filter-cons p x y ys ih false e m = let r = ih m in (inr r.0, r.1)

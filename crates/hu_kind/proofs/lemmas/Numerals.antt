@@ -1,5 +1,7 @@
 -- Digits, what a text of them says, and why a text says no number.
-use Rattle.std.proofs.Common.{◌≡◌, ℕ, zero, suc, ◌+◌, ◌*◌, ◌-◌, ◌<◌, ◌≤◌, ◌^◌, ◌==◌, Bool, true, false, not, nat_lt, Option, None, Some, Ok, Err, List, [], ◌∷◌, length, get_or, take, drop, refl, ◌⊎◌, inl, inr, arith}
+use Rattle.std.proofs.Common.{◌≡◌, ℕ, zero, suc, ◌+◌, ◌*◌, ◌-◌, ◌<◌, ◌≤◌, ◌^◌, ◌==◌, Bool, true, false, not, nat_lt}
+use Rattle.std.proofs.Common.{Option, None, Some, Ok, Err, List, [], ◌∷◌, length, get_or, take, drop, refl, ◌⊎◌, inl}
+use Rattle.std.proofs.Common.{inr, arith}
 use Rattle.std.specs.Char.{is_ascii_digit, digit_value}
 use Rattle.std.specs.Int.{IsInRange}
 use Rattle.std.specs.List.{position_or_len}
@@ -90,7 +92,8 @@ other_place-digits ds digits =
 -- ---- what a text says
 
 -- digits are read as their value
-pub digits_from-value : (at n : ℕ) (ds : List ℕ) → 0 < length ds → AllDigits 10 ds → length ds ≤ 39 → digits_value 10 ds ≡ n → n < 2 ^ 127 → digits_from at ds ≡ Ok n
+pub digits_from-value : (at n : ℕ) (ds : List ℕ) → 0 < length ds → AllDigits 10 ds → length ds ≤ 39 → digits_value 10 ds
+    ≡ n → n < 2 ^ 127 → digits_from at ds ≡ Ok n
 digits_from-value at n [] some digits short value small = absurd (omega (arith, some))
 digits_from-value at n (d ∷ ds) some digits short value small =
     let none : other_place (d ∷ ds) ≡ None = other_place-digits (d ∷ ds) digits in

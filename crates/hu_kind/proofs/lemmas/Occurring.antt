@@ -1,5 +1,7 @@
 -- The sets that occur in a database are the ascending lists of items that some record holds.
-use Rattle.std.proofs.Common.{◌≡◌, ℕ, ◌<◌, ◌+◌, Bool, true, false, cond, eqb, nat_lt, ◌&&◌, ℤ, List, [], ◌∷◌, map, length, refl, sym, ap, ◌∙◌, subst, inl, inr, arith, flat_map, count_by, Ordering, Less, Equal, Greater, nat_cmp}
+use Rattle.std.proofs.Common.{◌≡◌, ℕ, ◌<◌, ◌+◌, Bool, true, false, cond, eqb, nat_lt, ◌&&◌, ℤ, List, [], ◌∷◌, map}
+use Rattle.std.proofs.Common.{length, refl, sym, ap, ◌∙◌, subst, inl, inr, arith, flat_map, count_by, Ordering, Less}
+use Rattle.std.proofs.Common.{Equal, Greater, nat_cmp}
 use Rattle.std.specs.List.{AllByRecursion}
 use Rattle.std.specs.Ordering.{match_ordering, MatchOrdering}
 use Rattle.std.specs.BTreeSet.{insert_key}
@@ -11,7 +13,9 @@ use Rattle.hu_kind.specs.Database.{support, items_of}
 use Rattle.hu_kind.specs.Itemsets.{sublists, occurring_sets}
 use Rattle.hu_kind.specs.Order.{ranking, Ascend}
 use Rattle.hu_kind.proofs.lemmas.Each.{each-weaker}
-use Rattle.hu_kind.proofs.lemmas.Members.{Member, Member-append_left, Member-append_right, Member-append_cases, Member-map, Member-from_map, Member-flat_map, Member-filter, Member-from_filter}
+use Rattle.hu_kind.proofs.lemmas.Members.{Member, Member-append_left, Member-append_right, Member-append_cases}
+use Rattle.hu_kind.proofs.lemmas.Members.{Member-map, Member-from_map, Member-flat_map, Member-filter}
+use Rattle.hu_kind.proofs.lemmas.Members.{Member-from_filter}
 
 -- what holds of each element holds of a member
 pub at_member : {A : Type 0} (P : A → Type 0) (x : A) (xs : List A) → AllByRecursion P xs → Member x xs → P x
@@ -28,7 +32,10 @@ by_members P (x ∷ xs) each = (each x (inl refl), by_members P xs (λ y m. each
 insert_key-cases : (x y : ℕ) (xs : List ℕ) (o : Ordering) → MatchOrdering o (x < y) (x ≡ y) (y < x) → Ascend (y ∷ xs)
     → ((P : ℕ → Type 0) → P x → AllByRecursion P xs → AllByRecursion P (insert_key nat_cmp xs x)) → Ascend (insert_key nat_cmp xs x)
     → Ascend (match_ordering o (x ∷ y ∷ xs) (y ∷ xs) (y ∷ insert_key nat_cmp xs x))
-insert_key-cases x y xs Less below up each ih = ((below, by_members (λ z. x < z) xs (λ z m. let later : y < z = at_member (λ w. y < w) z xs up.0 m in omega arith)), up)
+insert_key-cases x y xs Less below up each ih = (
+  (below, by_members (λ z. x < z) xs (λ z m. let later : y < z = at_member (λ w. y < w) z xs up.0 m in omega arith)),
+  up,
+)
 insert_key-cases x y xs Equal same up each ih = up
 insert_key-cases x y xs Greater above up each ih = (each (λ z. y < z) above up.0, ih)
 
@@ -44,14 +51,17 @@ each-insert_key P x (y ∷ ys) h all = each-insert_key-cases P x y ys (nat_cmp x
 
 Ascend-insert_key : (x : ℕ) (xs : List ℕ) → Ascend xs → Ascend (insert_key nat_cmp xs x)
 Ascend-insert_key x [] up = (tt, tt)
-Ascend-insert_key x (y ∷ ys) up = insert_key-cases x y ys (nat_cmp x y) (ranked x y (nat_cmp x y) refl) up (λ P h all. each-insert_key P x ys h all) (Ascend-insert_key x ys up.1)
+Ascend-insert_key x (y ∷ ys) up =
+    insert_key-cases x y ys (nat_cmp x y) (ranked x y (nat_cmp x y) refl) up (λ P h all. each-insert_key P x ys h all)
+    (Ascend-insert_key x ys up.1)
 
 pub Ascend-ranking : (xs : List ℕ) → Ascend (ranking nat_cmp xs)
 Ascend-ranking [] = tt
 Ascend-ranking (x ∷ xs) = Ascend-insert_key x (ranking nat_cmp xs) (Ascend-ranking xs)
 
 -- a ranking has the members of its list
-Member-insert_key-cases : (z x y : ℕ) (xs : List ℕ) (o : Ordering) → MatchOrdering o (x < y) (x ≡ y) (y < x) → (Member z (x ∷ xs) → Member z (insert_key nat_cmp xs x))
+Member-insert_key-cases : (z x y : ℕ) (xs : List ℕ) (o : Ordering) → MatchOrdering o (x < y) (x ≡ y) (y < x)
+    → (Member z (x ∷ xs) → Member z (insert_key nat_cmp xs x))
     → Member z (x ∷ y ∷ xs) → Member z (match_ordering o (x ∷ y ∷ xs) (y ∷ xs) (y ∷ insert_key nat_cmp xs x))
 Member-insert_key-cases z x y xs Less h ih m = m
 Member-insert_key-cases z x y xs Equal h ih (inl e) = inl (sym h ∙ e)
@@ -79,7 +89,9 @@ each-sublist P [] s all (inl e) = subst (AllByRecursion P) e tt
 each-sublist P [] s all (inr m) = absurd m
 each-sublist P (x ∷ xs) s all m = elim (Member-append_cases s (sublists xs) (map (λ r. x ∷ r) (sublists xs)) m) [
   | inl a ↦ each-sublist P xs s all.1 a
-  | inr b ↦ let from = Member-from_map (λ (r : List ℕ). x ∷ r) s (sublists xs) b in subst (AllByRecursion P) from.2 (all.0, each-sublist P xs from.0 all.1 from.1)
+  | inr b ↦ let from =
+      Member-from_map (λ (r : List ℕ). x ∷ r) s (sublists xs) b in subst (AllByRecursion P) from.2
+      (all.0, each-sublist P xs from.0 all.1 from.1)
 ]
 
 pub Ascend-sublist : (xs s : List ℕ) → Ascend xs → Member s (sublists xs) → Ascend s
@@ -87,7 +99,9 @@ Ascend-sublist [] s up (inl e) = subst Ascend e tt
 Ascend-sublist [] s up (inr m) = absurd m
 Ascend-sublist (x ∷ xs) s up m = elim (Member-append_cases s (sublists xs) (map (λ r. x ∷ r) (sublists xs)) m) [
   | inl a ↦ Ascend-sublist xs s up.1 a
-  | inr b ↦ let from = Member-from_map (λ (r : List ℕ). x ∷ r) s (sublists xs) b in subst Ascend from.2 (each-sublist (λ y. x < y) xs from.0 up.0 from.1, Ascend-sublist xs from.0 up.1 from.1)
+  | inr b ↦ let from =
+      Member-from_map (λ (r : List ℕ). x ∷ r) s (sublists xs) b in subst Ascend from.2
+      (each-sublist (λ y. x < y) xs from.0 up.0 from.1, Ascend-sublist xs from.0 up.1 from.1)
 ]
 
 -- a list whose members are above x, each a member of x and xs, has its members in xs
@@ -107,11 +121,13 @@ Member-sublists (x ∷ xs) [] up rise all = Member-append_left [] (sublists xs) 
 Member-sublists (x ∷ xs) (y ∷ ys) up rise (inl e, rest) =
     let above : AllByRecursion (λ z. x < z) ys = subst (λ w. AllByRecursion (λ z. w < z) ys) (sym e) rise.0 in
     let m : Member ys (sublists xs) = Member-sublists xs ys up.1 rise.1 (tail_members x xs ys above rest) in
-    Member-append_right (y ∷ ys) (sublists xs) (map (λ r. x ∷ r) (sublists xs)) (subst (λ w. Member (w ∷ ys) (map (λ r. x ∷ r) (sublists xs))) e (Member-map (λ r. x ∷ r) ys (sublists xs) m))
+    Member-append_right (y ∷ ys) (sublists xs) (map (λ r. x ∷ r) (sublists xs))
+    (subst (λ w. Member (w ∷ ys) (map (λ r. x ∷ r) (sublists xs))) e (Member-map (λ r. x ∷ r) ys (sublists xs) m))
 Member-sublists (x ∷ xs) (y ∷ ys) up rise (inr m, rest) =
     let low : x < y = at_member (λ w. x < w) y xs up.0 m in
     let above : AllByRecursion (λ z. x < z) (y ∷ ys) = (low, above_all x y ys low rise.0) in
-    Member-append_left (y ∷ ys) (sublists xs) (map (λ r. x ∷ r) (sublists xs)) (Member-sublists xs (y ∷ ys) up.1 rise (tail_members x xs (y ∷ ys) above (inr m, rest)))
+    Member-append_left (y ∷ ys) (sublists xs) (map (λ r. x ∷ r) (sublists xs))
+    (Member-sublists xs (y ∷ ys) up.1 rise (tail_members x xs (y ∷ ys) above (inr m, rest)))
 
 -- a count above 0 has a member that passes
 counted-cons : {A : Type 0} (p : A → Bool) (x : A) (xs : List A) (b : Bool) → p x ≡ b → 0 < cond b 1 0 + count_by p xs
@@ -152,7 +168,8 @@ pub record Occurs (records : List (List (ℕ × ℤ))) (items : List ℕ) : Type
   pub held : 0 < support records items
 
 -- the items of a set that some record holds occur
-pub held-members : (records : List (List (ℕ × ℤ))) (items : List ℕ) → 0 < support records items → AllByRecursion (λ item. Member item (flat_map items_in records)) items
+pub held-members : (records : List (List (ℕ × ℤ))) (items : List ℕ) → 0 < support records items
+    → AllByRecursion (λ item. Member item (flat_map items_in records)) items
 held-members records items h =
     let found = counted (holds items) records h in
     each-weaker (λ item. Member item (items_in found.0)) (λ item. Member item (flat_map items_in records)) items

@@ -46,11 +46,13 @@ insert_comm-cons cmp e z zs x y ih (before a a') (before b b') (before c c') = s
 insert_comm-cons cmp e z zs x y ih (before a a') (before b b') (same c d d') = simp (a, b, d, d') (ap (λ w. w ∷ z ∷ zs) c)
 insert_comm-cons cmp e z zs x y ih (before a a') (before b b') (after c c') = simp (a, b, c, c')
 insert_comm-cons cmp e z zs x y ih (before a a') (same b d d') c = let k : cmp y x ≡ Greater = rw b a' in simp (a, d, k)
-insert_comm-cons cmp e z zs x y ih (before a a') (after b b') c = let t : cmp x y ≡ Less = e.total.trans x z y a b' in let k : cmp y x ≡ Greater = rw (e.total.antisymm y x, t) refl in simp (a, b, k)
+insert_comm-cons cmp e z zs x y ih (before a a') (after b b') c = let t : cmp x y ≡ Less =
+    e.total.trans x z y a b' in let k : cmp y x ≡ Greater = rw (e.total.antisymm y x, t) refl in simp (a, b, k)
 insert_comm-cons cmp e z zs x y ih (same a d d') (before b b') c = let k : cmp x y ≡ Greater = rw a b' in simp (d, b, k)
 insert_comm-cons cmp e z zs x y ih (same a d d') (same b f f') c = simp (d, f)
 insert_comm-cons cmp e z zs x y ih (same a d d') (after b b') c = simp (d, b)
-insert_comm-cons cmp e z zs x y ih (after a a') (before b b') c = let t : cmp y x ≡ Less = e.total.trans y z x b a' in let k : cmp x y ≡ Greater = rw (e.total.antisymm x y, t) refl in simp (a, b, k)
+insert_comm-cons cmp e z zs x y ih (after a a') (before b b') c = let t : cmp y x ≡ Less =
+    e.total.trans y z x b a' in let k : cmp x y ≡ Greater = rw (e.total.antisymm x y, t) refl in simp (a, b, k)
 insert_comm-cons cmp e z zs x y ih (after a a') (same b f f') c = simp (a, f)
 insert_comm-cons cmp e z zs x y ih (after a a') (after b b') c = simp (a, b) (ap (λ w. z ∷ w) ih)
 

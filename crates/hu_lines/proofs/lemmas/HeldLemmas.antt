@@ -1,5 +1,6 @@
 -- What the bytes that a `Lines` holds keep, from call to call.
-use Rattle.std.proofs.Common.{◌≡◌, ℕ, ◌+◌, ◌<◌, ◌≤◌, Bool, true, false, inl, inr, length-append, List, [], ◌∷◌, ◌++◌, length, drop, append_assoc, refl, sym, ap, ◌∙◌, arith, None}
+use Rattle.std.proofs.Common.{◌≡◌, ℕ, ◌+◌, ◌<◌, ◌≤◌, Bool, true, false, inl, inr, length-append, List, [], ◌∷◌, ◌++◌}
+use Rattle.std.proofs.Common.{length, drop, append_assoc, refl, sym, ap, ◌∙◌, arith, None}
 use Rattle.std.specs.Prelude.{map}
 use Rattle.std.specs.Option.{is_some}
 use Rattle.std.proofs.lemmas.Bool.{false≢true}
@@ -26,7 +27,8 @@ pub kept_number : (a : Inside) → IsKept a → a.number ≤ LARGEST_INPUT + 1
 kept_number a kept = omega (arith, kept_within a kept, kept.held.numbered)
 
 -- there is room for more bytes of a line, where they pass no limit
-pub kept_room : (a : Inside) (taken : List ℕ) → IsKept a → a.whole ≡ false → first_piece taken ≡ taken → refusal a.number a.before (a.bytes.items ++ taken) ≡ None
+pub kept_room : (a : Inside) (taken : List ℕ) → IsKept a → a.whole ≡ false → first_piece taken ≡ taken
+    → refusal a.number a.before (a.bytes.items ++ taken) ≡ None
     → length a.bytes.items + length taken ≤ LONGEST_LINE + 1
 kept_room a taken kept open_ one none =
     let held = a.bytes.items in
@@ -57,7 +59,8 @@ held_empty s none open_ within numbered = record {
 
 -- more bytes of the line are held
 pub held_grown : (s : State) (held taken : List ℕ) → s.bytes ≡ held ++ taken → has_line_feed held ≡ false → first_piece taken ≡ taken
-    → s.whole ≡ has_line_feed taken → refusal s.number s.before (held ++ taken) ≡ None → s.before ≤ 268435456 → s.number ≤ s.before + 1 → s.refused ≡ None → IsHeld s
+    → s.whole ≡ has_line_feed taken → refusal s.number s.before (held ++ taken) ≡ None → s.before ≤ 268435456
+    → s.number ≤ s.before + 1 → s.refused ≡ None → IsHeld s
 held_grown s held taken is open_ one ends none counted numbered accepted = record {
   one = rw is (first_piece-append held taken open_ ∙ ap (λ r. held ++ r) one);
   whole = rw is (ends ∙ sym (has_line_feed-append held taken open_));
@@ -70,7 +73,11 @@ held_grown s held taken is open_ one ends none counted numbered accepted = recor
 -- a line that can be read is the one line of the bytes held
 pub held_line : (s : State) → IsHeld s → HasLine s → lines s.bytes ≡ line_of s.bytes ∷ []
 held_line s held has =
-    elim has [ inl ended ↦ ap (map line_of) (one_piece_of s.bytes held.one (held_some s held ended)) | inr rest ↦ ap (map line_of) (one_piece_of s.bytes held.one rest.1) ]
+    elim has [
+      | inl ended ↦ ap (map line_of) (one_piece_of s.bytes held.one (held_some s held ended))
+      | inr rest ↦ ap
+          (map line_of) (one_piece_of s.bytes held.one rest.1)
+    ]
 
 -- it isn't too long
 pub held_short : (s : State) → IsHeld s → length (line_of s.bytes) ≤ LONGEST_LINE

@@ -1,5 +1,6 @@
 -- What a piece's length says of its limits.
-use Rattle.std.proofs.Common.{◌≡◌, ℕ, suc, ◌+◌, ◌-◌, ◌<◌, ◌≤◌, ◌||◌, ◌&&◌, inl, inr, Bool, true, false, cond, eqb, List, [], ◌∷◌, ◌++◌, length, take, get_or, refl, sym, ap, subst, ◌∙◌, arith, None, Some, Option}
+use Rattle.std.proofs.Common.{◌≡◌, ℕ, suc, ◌+◌, ◌-◌, ◌<◌, ◌≤◌, ◌||◌, ◌&&◌, inl, inr, Bool, true, false, cond, eqb, List}
+use Rattle.std.proofs.Common.{[], ◌∷◌, ◌++◌, length, take, get_or, refl, sym, ap, subst, ◌∙◌, arith, None, Some, Option}
 use Rattle.std.specs.Prelude.{◌⊎◌, not, nat_lt, nat_le}
 use Rattle.std.specs.Option.{option_or}
 use Rattle.hu_lines.specs.declared.limits.LineFault.TheVariants.{LineTooLong, InputTooLarge}
@@ -49,17 +50,20 @@ module _ (longest largest number : ℕ) where
   passed_more at before [] more fault is = absurd (cc)
   passed_more at before (b ∷ bs) more fault is =
       elim (passed_by longest largest number at before b) as
-      (λ first. option_or first (first_passed longest largest number (at + 1) (before + 1) bs) ≡ Some fault → option_or first (first_passed longest largest number (at + 1) (before + 1) (bs ++ more)) ≡ Some fault)
+      (λ first. option_or first (first_passed longest largest number (at + 1) (before + 1) bs) ≡ Some fault
+      → option_or first (first_passed longest largest number (at + 1) (before + 1) (bs ++ more)) ≡ Some fault)
       [ None ↦ passed_more (at + 1) (before + 1) bs more fault | Some f ↦ (λ e. e) ]
       is
 
   -- what passes no limit is within both
-  passed-none : (at before : ℕ) (piece : List ℕ) → first_piece piece ≡ piece → at ≤ longest → before ≤ largest → first_passed longest largest number at before piece ≡ None
+  passed-none : (at before : ℕ) (piece : List ℕ) → first_piece piece ≡ piece → at ≤ longest → before ≤ largest
+      → first_passed longest largest number at before piece ≡ None
       → (before + length piece ≤ largest) × (at + length piece ≤ longest + cond (has_line_feed piece) 1 0)
   passed-none at before [] one low within none = (omega arith, omega arith)
   passed-none at before (b ∷ bs) one low within none = by (passed-none (at + 1) (before + 1) bs) (eqb b 10) refl
     where
-      tests : ((not (eqb b 10) && nat_le longest at) ≡ false) × (nat_le largest before ≡ false) × (first_passed longest largest number (at + 1) (before + 1) bs ≡ None)
+      tests : ((not (eqb b 10) && nat_le longest at) ≡ false) × (nat_le largest before ≡ false)
+          × (first_passed longest largest number (at + 1) (before + 1) bs ≡ None)
       tests = none_tests number (eqb b 10) (nat_le longest at) (nat_le largest before) _ none
 
       small : nat_le largest before ≡ false → before < largest
@@ -86,7 +90,8 @@ module _ (longest largest number : ℕ) where
   passed-by_counts : (at before body all : ℕ) (piece : List ℕ) → first_piece piece ≡ piece → at ≤ longest → before ≤ largest
       → all ≡ length piece → body + cond (has_line_feed piece) 1 0 ≡ all
       → first_passed longest largest number at before piece
-      ≡ cond (nat_lt longest (at + body) && nat_le (before + (longest - at)) largest) (Some (LineTooLong number)) (cond (nat_lt largest (before + all)) (Some (InputTooLarge number)) None)
+      ≡ cond (nat_lt longest (at + body) && nat_le (before + (longest - at)) largest) (Some (LineTooLong number))
+      (cond (nat_lt largest (before + all)) (Some (InputTooLarge number)) None)
   passed-by_counts at before body all [] one low within all_is body_is =
       let short : nat_lt longest (at + body) ≡ false = grind (arith, nat_tests) in
       let small : nat_lt largest (before + all) ≡ false = grind (arith, nat_tests) in
@@ -95,10 +100,13 @@ module _ (longest largest number : ℕ) where
       by (passed-by_counts (at + 1) (before + 1) (body - 1) (all - 1) bs) (eqb b 10) refl (nat_le longest at) refl (nat_le largest before) refl
     where
       Says : ℕ → ℕ → ℕ → Option LineFault
-      Says reach short whole = cond (nat_lt longest reach && nat_le short largest) (Some (LineTooLong number)) (cond (nat_lt largest whole) (Some (InputTooLarge number)) None)
+      Says reach short whole =
+          cond (nat_lt longest reach && nat_le short largest) (Some (LineTooLong number))
+          (cond (nat_lt largest whole) (Some (InputTooLarge number)) None)
 
       by : (first_piece bs ≡ bs → at + 1 ≤ longest → before + 1 ≤ largest → all - 1 ≡ length bs → (body - 1) + cond (has_line_feed bs) 1 0 ≡ all - 1
-          → first_passed longest largest number (at + 1) (before + 1) bs ≡ Says ((at + 1) + (body - 1)) ((before + 1) + (longest - (at + 1))) ((before + 1) + (all - 1)))
+          → first_passed longest largest number (at + 1) (before + 1) bs
+          ≡ Says ((at + 1) + (body - 1)) ((before + 1) + (longest - (at + 1))) ((before + 1) + (all - 1)))
           → (eol : Bool) → eqb b 10 ≡ eol → (long : Bool) → nat_le longest at ≡ long → (large : Bool) → nat_le largest before ≡ large
           → first_passed longest largest number at before (b ∷ bs) ≡ Says (at + body) (before + (longest - at)) (before + all)
       by next true ended long el large em =
@@ -108,7 +116,9 @@ module _ (longest largest number : ℕ) where
           let no_body : body + 1 ≡ all = rw (ended) at body_is in
           let short : nat_lt longest (at + body) ≡ false = grind (arith, nat_tests) in
           let same : nat_lt largest (before + all) ≡ nat_le largest before = rw one_byte (grind (arith, nat_tests)) in
-          rw (ended, none_left, short, same, em) (elim large as (λ t. option_or (cond t (Some (InputTooLarge number)) None) None ≡ cond t (Some (InputTooLarge number)) None) [ true ↦ refl | false ↦ refl ])
+          rw (ended, none_left, short, same, em) (elim large as
+          (λ t. option_or (cond t (Some (InputTooLarge number)) None) None
+          ≡ cond t (Some (InputTooLarge number)) None) [ true ↦ refl | false ↦ refl ])
       by next false open_ true el large em =
           let ends : body + cond (has_line_feed bs) 1 0 ≡ all = rw open_ at body_is in
           let reached : nat_lt longest (at + body) ≡ true = grind (arith, nat_tests, line_feed-le) in
@@ -117,7 +127,9 @@ module _ (longest largest number : ℕ) where
       by next false open_ false el true em =
           let later : nat_le (before + (longest - at)) largest ≡ false = grind (arith, nat_tests) in
           let over : nat_lt largest (before + all) ≡ true = grind (arith, nat_tests) in
-          rw (open_, el, em, later, over) (elim (nat_lt longest (at + body)) as (λ t. Some (InputTooLarge number) ≡ cond (t && false) (Some (LineTooLong number)) (Some (InputTooLarge number))) [ true ↦ refl | false ↦ refl ])
+          rw (open_, el, em, later, over) (elim (nat_lt longest (at + body)) as
+          (λ t. Some (InputTooLarge number) ≡ cond (t && false) (Some (LineTooLong number))
+          (Some (InputTooLarge number))) [ true ↦ refl | false ↦ refl ])
       by next false open_ false el false em =
           let tail : (b ∷ first_piece bs) ≡ b ∷ bs = rw open_ at one in
           let rest : first_piece bs ≡ bs = cc in

@@ -1,5 +1,6 @@
 -- Pieces of bytes: how they are cut.
-use Rattle.std.proofs.Common.{◌≡◌, ℕ, add-one, zero, suc, ◌+◌, ◌<◌, ◌≤◌, ◌||◌, true, false, cond, eqb, List, [], ◌∷◌, ◌++◌, length, take, drop, refl, sym, ap, subst, ◌∙◌, arith, Option, None, Some}
+use Rattle.std.proofs.Common.{◌≡◌, ℕ, add-one, zero, suc, ◌+◌, ◌<◌, ◌≤◌, ◌||◌, true, false, cond, eqb, List, [], ◌∷◌}
+use Rattle.std.proofs.Common.{◌++◌, length, take, drop, refl, sym, ap, subst, ◌∙◌, arith, Option, None, Some}
 use Rattle.std.specs.Prelude.{MatchOption, not}
 use Rattle.std.proofs.lemmas.Bool.{false≢true, false_from_ne_true}
 use Rattle.std.proofs.lemmas.Bool.Decides.{nat_tests}
@@ -28,21 +29,25 @@ pub first_piece-append : (held bytes : List ℕ) → has_line_feed held ≡ fals
 first_piece-append [] bytes open_ = refl
 first_piece-append (b ∷ bs) bytes open_ =
     ap (λ r. b ∷ r)
-    (elim (eqb b 10) as (λ t. (t || has_line_feed bs) ≡ false → cond t [] (first_piece (bs ++ bytes)) ≡ bs ++ first_piece bytes) [ true ↦ (λ no. absurd (false≢true (sym no))) | false ↦ first_piece-append bs bytes ] open_)
+    (elim (eqb b 10) as (λ t. (t || has_line_feed bs) ≡ false → cond t [] (first_piece (bs ++ bytes))
+    ≡ bs ++ first_piece bytes) [ true ↦ (λ no. absurd (false≢true (sym no))) | false ↦ first_piece-append bs bytes ]
+    open_)
 
 -- bytes after a line feed change nothing of the first piece
 pub first_piece-append_after : (bytes more : List ℕ) → has_line_feed bytes ≡ true → first_piece (bytes ++ more) ≡ first_piece bytes
 first_piece-append_after [] more ended = absurd (false≢true ended)
 first_piece-append_after (b ∷ bs) more ended =
     ap (λ r. b ∷ r)
-    (elim (eqb b 10) as (λ t. (t || has_line_feed bs) ≡ true → cond t [] (first_piece (bs ++ more)) ≡ cond t [] (first_piece bs)) [ true ↦ (λ _. refl) | false ↦ first_piece-append_after bs more ] ended)
+    (elim (eqb b 10) as (λ t. (t || has_line_feed bs) ≡ true → cond t [] (first_piece (bs ++ more))
+    ≡ cond t [] (first_piece bs)) [ true ↦ (λ _. refl) | false ↦ first_piece-append_after bs more ] ended)
 
 -- bytes without a line feed are a first piece
 pub first_piece_open : (bytes : List ℕ) → has_line_feed bytes ≡ false → first_piece bytes ≡ bytes
 first_piece_open [] open_ = refl
 first_piece_open (b ∷ bs) open_ =
     ap (λ r. b ∷ r)
-    (elim (eqb b 10) as (λ t. (t || has_line_feed bs) ≡ false → cond t [] (first_piece bs) ≡ bs) [ true ↦ (λ no. absurd (false≢true (sym no))) | false ↦ first_piece_open bs ] open_)
+    (elim (eqb b 10) as (λ t. (t || has_line_feed bs) ≡ false → cond t [] (first_piece bs) ≡ bs)
+    [ true ↦ (λ no. absurd (false≢true (sym no))) | false ↦ first_piece_open bs ] open_)
 
 -- bytes are their first piece and what is left
 pub first_piece_split : (bytes : List ℕ) → first_piece bytes ++ drop (length (first_piece bytes)) bytes ≡ bytes
@@ -50,18 +55,21 @@ first_piece_split [] = refl
 first_piece_split (b ∷ bs) =
     let none : List ℕ = [] in
     ap (λ r. b ∷ r)
-    (elim (eqb b 10) as (λ t. cond t none (first_piece bs) ++ drop (length (cond t none (first_piece bs))) bs ≡ bs) [ true ↦ refl | false ↦ first_piece_split bs ])
+    (elim (eqb b 10) as (λ t. cond t none (first_piece bs) ++ drop (length (cond t none (first_piece bs))) bs ≡ bs)
+    [ true ↦ refl | false ↦ first_piece_split bs ])
 
 -- the first piece of bytes comes first, and then the pieces of what is left
 pub first_piece_first : FirstPieceComesFirst
 first_piece_first [] some = absurd (omega arith)
 first_piece_first (b ∷ []) some =
     let none : List ℕ = [] in
-    elim (eqb b 10) as (λ t. cond t ((b ∷ []) ∷ []) ((b ∷ []) ∷ []) ≡ (b ∷ cond t none none) ∷ pieces (drop (length (cond t none none)) none)) [ true ↦ refl | false ↦ refl ]
+    elim (eqb b 10) as (λ t. cond t ((b ∷ []) ∷ []) ((b ∷ []) ∷ [])
+    ≡ (b ∷ cond t none none) ∷ pieces (drop (length (cond t none none)) none)) [ true ↦ refl | false ↦ refl ]
 first_piece_first (b ∷ c ∷ cs) some =
     let rest = c ∷ cs in
     elim (eqb b 10) as
-    (λ t. cond t ((b ∷ []) ∷ pieces rest) (in_front b (pieces rest)) ≡ (b ∷ cond t [] (first_piece rest)) ∷ pieces (drop (length (cond t [] (first_piece rest))) rest))
+    (λ t. cond t ((b ∷ []) ∷ pieces rest) (in_front b (pieces rest))
+    ≡ (b ∷ cond t [] (first_piece rest)) ∷ pieces (drop (length (cond t [] (first_piece rest))) rest))
     [ true ↦ refl | false ↦ ap (in_front b) (first_piece_first (c ∷ cs) (omega arith)) ]
 
 -- bytes that end with their only line feed are a piece, and what follows them has its own
@@ -117,7 +125,13 @@ first_piece_found (b ∷ bs) None found =
 first_piece_found (b ∷ bs) (Some zero) found = let ends : eqb b 10 ≡ true = found.1 in (rw ends refl, rw ends refl)
 first_piece_found (b ∷ bs) (Some (suc k)) found =
     let other : eqb b 10 ≡ false = false_from_ne_true (eqb b 10) (found.0.before 0 (omega arith) (omega arith)) in
-    let later : NoneBefore (Passes (is_byte 10) bs) 0 (length bs) k = record { low = omega arith; high = omega (arith, found.0.high); before = λ j low high ends. found.0.before (suc j) (omega arith) (omega arith) ends } in
+    let later : NoneBefore (Passes (is_byte 10) bs) 0 (length bs) k =
+    record {
+      low = omega arith;
+      high = omega (arith, found.0.high);
+      before =
+          λ j low high ends. found.0.before (suc j) (omega arith) (omega arith) ends;
+    } in
     let rest = first_piece_found bs (Some k) (later, found.1) in
     (rw (other, add-one) (ap (λ r. b ∷ r) (rw add-one at rest.0)), rw other rest.1)
 

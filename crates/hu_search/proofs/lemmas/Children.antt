@@ -1,5 +1,7 @@
 -- What a search makes that offers all children of a set and then enters them best bound first.
-use Rattle.std.proofs.Common.{◌≡◌, ℕ, zero, suc, ◌<◌, ◌≤◌, ◌+◌, true, ◌<ℤ◌, ◌≤ℤ◌, List, [], ◌∷◌, ◌++◌, length, get_or, take, drop, refl, sym, ap, ◌∙◌, subst, inl, inr, ◌⊎◌, arith, append_assoc, Contains, Result}
+use Rattle.std.proofs.Common.{◌≡◌, ℕ, zero, suc, ◌<◌, ◌≤◌, ◌+◌, true, ◌<ℤ◌, ◌≤ℤ◌, List, [], ◌∷◌, ◌++◌, length, get_or}
+use Rattle.std.proofs.Common.{take, drop, refl, sym, ap, ◌∙◌, subst, inl, inr, ◌⊎◌, arith, append_assoc, Contains}
+use Rattle.std.proofs.Common.{Result}
 use Rattle.std.specs.List.{AllByRecursion}
 use Rattle.std.proofs.lemmas.Int.{ints}
 use Rattle.std.proofs.lemmas.List.{take_more}
@@ -12,7 +14,9 @@ use Rattle.hu_kind.proofs.lemmas.Members.{Member, Member-from_contains, Contains
 use Rattle.hu_totals.specs.Ranked.{Ranking, IsRanking, unranked}
 use Rattle.hu_collect.specs.Rule.{passes}
 use Rattle.hu_collect.specs.State.{State, offered, floor_in, IsInOrder, Reached, ReachedSome, Searches, Mines}
-use Rattle.hu_collect.proofs.lemmas.Searching.{empty-contains, reached-rule, reached-in_order, reached-floor, passes-new, reached-none, reached-one, reached-then, reached-as, some-reached, some-as, some-then, mined}
+use Rattle.hu_collect.proofs.lemmas.Searching.{empty-contains, reached-rule, reached-in_order, reached-floor}
+use Rattle.hu_collect.proofs.lemmas.Searching.{passes-new, reached-none, reached-one, reached-then, reached-as}
+use Rattle.hu_collect.proofs.lemmas.Searching.{some-reached, some-as, some-then, mined}
 use Rattle.hu_search.specs.declared.child.Child.{Child}
 use Rattle.hu_search.specs.Growth.{rank_entry, Grows}
 use Rattle.hu_search.specs.Children.{IsChild, ranks_of, IsOneOf, IsBelow, Counts, AreEnough, IsBarren, IsBound, AreOpen, Fall, IsUpto}
@@ -24,16 +28,20 @@ map-push : (children : List Child) (child : Child) → ranks_of (children ++ chi
 map-push [] child = refl
 map-push (c ∷ cs) child = ap (λ ranks. c.rank ∷ ranks) (map-push cs child)
 
-pub ranks-more : (children : List Child) (i : ℕ) (d : Child) → i < length children → ranks_of (take (i + 1) children) ≡ ranks_of (take i children) ++ (get_or children i d).rank ∷ []
+pub ranks-more : (children : List Child) (i : ℕ) (d : Child) → i < length children → ranks_of (take (i + 1) children)
+    ≡ ranks_of (take i children) ++ (get_or children i d).rank ∷ []
 ranks-more children i d within = ap ranks_of (take_more children i d within) ∙ map-push (take i children) (get_or children i d)
 
-contains-before : (children : List Child) (i : ℕ) (d : Child) (rank : ℕ) → i < length children → Contains (ranks_of (take i children)) rank → Contains (ranks_of (take (i + 1) children)) rank
+contains-before : (children : List Child) (i : ℕ) (d : Child) (rank : ℕ) → i < length children
+    → Contains (ranks_of (take i children)) rank → Contains (ranks_of (take (i + 1) children)) rank
 contains-before children i d rank within c =
-    subst (λ ranks. Contains ranks rank) (sym (ranks-more children i d within)) (Contains-append_left (ranks_of (take i children)) ((get_or children i d).rank ∷ []) rank c)
+    subst (λ ranks. Contains ranks rank) (sym (ranks-more children i d within))
+    (Contains-append_left (ranks_of (take i children)) ((get_or children i d).rank ∷ []) rank c)
 
 contains-here : (children : List Child) (i : ℕ) (d : Child) → i < length children → Contains (ranks_of (take (i + 1) children)) (get_or children i d).rank
 contains-here children i d within =
-    subst (λ ranks. Contains ranks (get_or children i d).rank) (sym (ranks-more children i d within)) (Contains-push (ranks_of (take i children)) (get_or children i d).rank)
+    subst (λ ranks. Contains ranks (get_or children i d).rank) (sym (ranks-more children i d within))
+    (Contains-push (ranks_of (take i children)) (get_or children i d).rank)
 
 contains-cases : (children : List Child) (i : ℕ) (d : Child) (rank : ℕ) → i < length children → Contains (ranks_of (take (i + 1) children)) rank
     → Contains (ranks_of (take i children)) rank ⊎ ((get_or children i d).rank ≡ rank)
@@ -130,7 +138,8 @@ module _ (r : Ranking) (set : List ℕ) where
   some-offered {old} children i first same =
       subst (ReachedSome old (IsOneOf r set (ranks_of children))) (sym same)
       (some-reached {P = IsOneOf r set (ranks_of (take i children))} {R = IsOneOf r set (ranks_of children)}
-      (λ e one. one-as one (Contains-from_member one.rank (ranks_of children) (Member-front children i one.rank (Member-from_contains one.rank (ranks_of (take i children)) one.among))))
+      (λ e one. one-as one (Contains-from_member one.rank (ranks_of children)
+      (Member-front children i one.rank (Member-from_contains one.rank (ranks_of (take i children)) one.among))))
       first)
 
   pub offered-some : {old new : State} (ranks : List ℕ) → ReachedSome old (IsOneOf r set ranks) new → ReachedSome old (Grows r set) new
@@ -191,7 +200,13 @@ module _ (r : Ranking) (set : List ℕ) where
       upto-some first second =
           some-then {P = IsUpto r set ranks chosen i} {Q = Grows r (set ++ (get_or chosen i d).rank ∷ [])} {R = Grows r set}
           (upto-grows i)
-          (λ e grows. below-grows ((get_or chosen i d).rank ∷ []) e (record { rank = (get_or chosen i d).rank; among = Contains-push [] (get_or chosen i d).rank; grows = grows }))
+          (λ e grows. below-grows ((get_or chosen i d).rank ∷ []) e
+          (record {
+            rank = (get_or chosen i d).rank;
+            among = Contains-push [] (get_or chosen i d).rank;
+            grows =
+                grows;
+          }))
           first second
 
     -- want of memory after some were entered
@@ -241,14 +256,16 @@ module _ (r : Ranking) (set : List ℕ) where
           | inr barren ↦ absurd (barren e grows (counts-mid e counts))
         ]
 
-        cases : (e : Entry) → Counts new e → (more : List ℕ) → 0 < length more → Ascend (set ++ more) → 0 < support r.records (set ++ more) → e ≡ rank_entry r (set ++ more)
+        cases : (e : Entry) → Counts new e → (more : List ℕ) → 0 < length more → Ascend (set ++ more)
+            → 0 < support r.records (set ++ more) → e ≡ rank_entry r (set ++ more)
             → IsUpto r set ranks chosen i e
         cases e counts [] some up occurs is = absurd (omega arith)
         cases e counts (m ∷ ms) some up occurs is =
             let among = (enough (m ∷ ms) up occurs (subst (Counts old) is (counts-old e counts))).0 in
             by ms up occurs is among
           where
-            by : (ms : List ℕ) → Ascend (set ++ m ∷ ms) → 0 < support r.records (set ++ m ∷ ms) → e ≡ rank_entry r (set ++ m ∷ ms) → Contains ranks m → IsUpto r set ranks chosen i e
+            by : (ms : List ℕ) → Ascend (set ++ m ∷ ms) → 0 < support r.records (set ++ m ∷ ms) → e
+                ≡ rank_entry r (set ++ m ∷ ms) → Contains ranks m → IsUpto r set ranks chosen i e
             by [] up occurs is among = inl (record { rank = m; among = among; ascending = up; occurs = occurs; is = is })
             by (n ∷ ns) up occurs is among =
                 let same : set ++ m ∷ n ∷ ns ≡ (set ++ m ∷ []) ++ n ∷ ns = sym (append_assoc set (m ∷ []) (n ∷ ns)) in

@@ -1,5 +1,7 @@
 -- Sets of ranks and the sets of their items.
-use Rattle.std.proofs.Common.{◌≡◌, ◌≢◌, ℕ, ◌<◌, ◌≤◌, ◌+◌, Bool, true, false, cond, eqb, ◌&&◌, ◌||◌, ℤ, pos, ◌+ℤ◌, List, [], ◌∷◌, map, length, slice_index, refl, sym, ap, ◌∙◌, subst, inl, inr, ◌⊎◌, arith, flat_map, nat_cmp, Ordering, Less, Equal, Greater}
+use Rattle.std.proofs.Common.{◌≡◌, ◌≢◌, ℕ, ◌<◌, ◌≤◌, ◌+◌, Bool, true, false, cond, eqb, ◌&&◌, ◌||◌, ℤ, pos, ◌+ℤ◌, List}
+use Rattle.std.proofs.Common.{[], ◌∷◌, map, length, slice_index, refl, sym, ap, ◌∙◌, subst, inl, inr, ◌⊎◌, arith}
+use Rattle.std.proofs.Common.{flat_map, nat_cmp, Ordering, Less, Equal, Greater}
 use Rattle.std.specs.List.{AllByRecursion}
 use Rattle.std.specs.Ordering.{match_ordering, MatchOrdering}
 use Rattle.std.specs.BTreeSet.{insert_key}
@@ -15,7 +17,8 @@ use Rattle.hu_kind.specs.Database.{utility, support}
 use Rattle.hu_kind.specs.Itemsets.{occurring_sets, item_entry, item_patterns}
 use Rattle.hu_kind.specs.Order.{ranking, Ascend}
 use Rattle.hu_kind.proofs.lemmas.Members.{Member, Member-map, Member-from_map, Member-from_flat_map}
-use Rattle.hu_kind.proofs.lemmas.Occurring.{at_member, Ascend-ranking, Member-ranking, each-ranking, Occurs, held-members, Occurs-from_member, Member-from_occurs}
+use Rattle.hu_kind.proofs.lemmas.Occurring.{at_member, Ascend-ranking, Member-ranking, each-ranking, Occurs}
+use Rattle.hu_kind.proofs.lemmas.Occurring.{held-members, Occurs-from_member, Member-from_occurs}
 use Rattle.hu_totals.specs.Ranked.{Ranking, IsRanking, unranked, item_at}
 use Rattle.hu_totals.proofs.lemmas.SortedLists.{Once, Member-from_ranking, ranking-members}
 use Rattle.hu_search.specs.Growth.{rank_entry, Grows, InTable}
@@ -26,7 +29,8 @@ use Rattle.hu_search.proofs.KeyLemmas.{items_at, Once-items_at}
 -- ---- putting a list in order changes neither what holds it nor what it earns
 
 module _ (cells : List (ℕ × ℤ)) where
-  holds-insert-by : (x y : ℕ) (ys : List ℕ) (o : Ordering) → MatchOrdering o (x < y) (x ≡ y) (y < x) → holds (insert_key nat_cmp ys x) cells ≡ (has x cells && holds ys cells)
+  holds-insert-by : (x y : ℕ) (ys : List ℕ) (o : Ordering) → MatchOrdering o (x < y) (x ≡ y) (y < x)
+      → holds (insert_key nat_cmp ys x) cells ≡ (has x cells && holds ys cells)
       → holds (match_ordering o (x ∷ y ∷ ys) (y ∷ ys) (y ∷ insert_key nat_cmp ys x)) cells ≡ (has x cells && (has y cells && holds ys cells))
   holds-insert-by x y ys Less h ih = refl
   holds-insert-by x y ys Equal h ih = twice (has y cells) (holds ys cells) ∙ ap (λ i. has i cells && (has y cells && holds ys cells)) (sym h)
@@ -50,7 +54,8 @@ module _ (cells : List (ℕ × ℤ)) where
   holds-ranking [] = refl
   holds-ranking (x ∷ xs) = holds-insert x (ranking nat_cmp xs) ∙ ap (λ b. has x cells && b) (holds-ranking xs)
 
-  values_of-insert-by : (x y : ℕ) (ys : List ℕ) (o : Ordering) → MatchOrdering o (x < y) (x ≡ y) (y < x) → (Member x (y ∷ ys) → ⊥) → values_of (insert_key nat_cmp ys x) cells ≡ value_of x cells +ℤ values_of ys cells
+  values_of-insert-by : (x y : ℕ) (ys : List ℕ) (o : Ordering) → MatchOrdering o (x < y) (x ≡ y) (y < x)
+      → (Member x (y ∷ ys) → ⊥) → values_of (insert_key nat_cmp ys x) cells ≡ value_of x cells +ℤ values_of ys cells
       → values_of (match_ordering o (x ∷ y ∷ ys) (y ∷ ys) (y ∷ insert_key nat_cmp ys x)) cells ≡ value_of x cells +ℤ values_of (y ∷ ys) cells
   values_of-insert-by x y ys Less h out ih = refl
   values_of-insert-by x y ys Equal h out ih = absurd (out (inl (sym h)))
@@ -99,33 +104,45 @@ module _ (r : Ranking) (rules : IsRanking r) where
       apart ne (inl below) = rules.distinct a b below high
       apart ne (inr above) = λ e. rules.distinct b a above low (sym e)
 
-  has-with_items : (rank : ℕ) (cells : List (ℕ × ℤ)) → rank < length r.items → AllByRecursion (λ cell. cell.0 < length r.items) cells → has (item_at r.items rank) (with_items cells) ≡ has rank cells
+  has-with_items : (rank : ℕ) (cells : List (ℕ × ℤ)) → rank < length r.items
+      → AllByRecursion (λ cell. cell.0 < length r.items) cells → has (item_at r.items rank) (with_items cells)
+      ≡ has rank cells
   has-with_items rank [] within all = refl
   has-with_items rank (cell ∷ cells) within all = λ j. same_item rank cell.0 within all.0 j || has-with_items rank cells within all.1 j
 
-  value_of-with_items : (rank : ℕ) (cells : List (ℕ × ℤ)) → rank < length r.items → AllByRecursion (λ cell. cell.0 < length r.items) cells → value_of (item_at r.items rank) (with_items cells) ≡ value_of rank cells
+  value_of-with_items : (rank : ℕ) (cells : List (ℕ × ℤ)) → rank < length r.items
+      → AllByRecursion (λ cell. cell.0 < length r.items) cells → value_of (item_at r.items rank) (with_items cells)
+      ≡ value_of rank cells
   value_of-with_items rank [] within all = refl
   value_of-with_items rank (cell ∷ cells) within all = λ j. cond (same_item rank cell.0 within all.0 j) cell.1 (value_of-with_items rank cells within all.1 j)
 
-  holds-with_items : (ranks : List ℕ) (cells : List (ℕ × ℤ)) → InTable r ranks → AllByRecursion (λ cell. cell.0 < length r.items) cells → holds (items_at r.items ranks) (with_items cells) ≡ holds ranks cells
+  holds-with_items : (ranks : List ℕ) (cells : List (ℕ × ℤ)) → InTable r ranks
+      → AllByRecursion (λ cell. cell.0 < length r.items) cells → holds (items_at r.items ranks) (with_items cells)
+      ≡ holds ranks cells
   holds-with_items [] cells within all = refl
   holds-with_items (x ∷ xs) cells within all = λ j. has-with_items x cells within.0 all j && holds-with_items xs cells within.1 all j
 
-  values_of-with_items : (ranks : List ℕ) (cells : List (ℕ × ℤ)) → InTable r ranks → AllByRecursion (λ cell. cell.0 < length r.items) cells → values_of (items_at r.items ranks) (with_items cells) ≡ values_of ranks cells
+  values_of-with_items : (ranks : List ℕ) (cells : List (ℕ × ℤ)) → InTable r ranks
+      → AllByRecursion (λ cell. cell.0 < length r.items) cells → values_of (items_at r.items ranks) (with_items cells)
+      ≡ values_of ranks cells
   values_of-with_items [] cells within all = refl
   values_of-with_items (x ∷ xs) cells within all = λ j. value_of-with_items x cells within.0 all j +ℤ values_of-with_items xs cells within.1 all j
 
-  utility-with_items : (ranks : List ℕ) (records : List (List (ℕ × ℤ))) → InTable r ranks → AllByRecursion (λ cells. AllByRecursion (λ cell. cell.0 < length r.items) cells) records
+  utility-with_items : (ranks : List ℕ) (records : List (List (ℕ × ℤ))) → InTable r ranks
+      → AllByRecursion (λ cells. AllByRecursion (λ cell. cell.0 < length r.items) cells) records
       → utility (map (λ cells. map (λ cell. (item_at r.items cell.0, cell.1)) cells) records) (items_at r.items ranks) ≡ utility records ranks
   utility-with_items ranks [] within all = refl
   utility-with_items ranks (cells ∷ records) within all =
-      λ j. cond (holds-with_items ranks cells within all.0 j) (values_of-with_items ranks cells within all.0 j) (pos 0) +ℤ utility-with_items ranks records within all.1 j
+      λ j. cond (holds-with_items ranks cells within all.0 j) (values_of-with_items ranks cells within all.0 j) (pos 0)
+      +ℤ utility-with_items ranks records within all.1 j
 
-  support-with_items : (ranks : List ℕ) (records : List (List (ℕ × ℤ))) → InTable r ranks → AllByRecursion (λ cells. AllByRecursion (λ cell. cell.0 < length r.items) cells) records
+  support-with_items : (ranks : List ℕ) (records : List (List (ℕ × ℤ))) → InTable r ranks
+      → AllByRecursion (λ cells. AllByRecursion (λ cell. cell.0 < length r.items) cells) records
       → support (map (λ cells. map (λ cell. (item_at r.items cell.0, cell.1)) cells) records) (items_at r.items ranks) ≡ support records ranks
   support-with_items ranks [] within all = refl
   support-with_items ranks (cells ∷ records) within all =
-      sum_by-cons (λ c. cond (holds (items_at r.items ranks) c) 1 0) (with_items cells) (map (λ cells. map (λ cell. (item_at r.items cell.0, cell.1)) cells) records)
+      sum_by-cons (λ c. cond (holds (items_at r.items ranks) c) 1 0) (with_items cells)
+      (map (λ cells. map (λ cell. (item_at r.items cell.0, cell.1)) cells) records)
       ∙ (λ j. cond (holds-with_items ranks cells within all.0 j) 1 0 + support-with_items ranks records within all.1 j)
       ∙ sym (sum_by-cons (λ c. cond (holds ranks c) 1 0) cells records)
 
@@ -151,13 +168,21 @@ module _ (r : Ranking) (rules : IsRanking r) where
   itemset ranks = ranking nat_cmp (items_at r.items ranks)
 
   utility-itemset : (ranks : List ℕ) → Ascend ranks → InTable r ranks → utility (unranked r) (itemset ranks) ≡ utility r.records ranks
-  utility-itemset ranks up within = utility-ranking (unranked r) (items_at r.items ranks) (Once-items_at r rules ranks up within) ∙ utility-with_items ranks r.records within in_range
+  utility-itemset ranks up within =
+      utility-ranking (unranked r) (items_at r.items ranks) (Once-items_at r rules ranks up within)
+      ∙ utility-with_items ranks r.records within in_range
 
   support-itemset : (ranks : List ℕ) → InTable r ranks → support (unranked r) (itemset ranks) ≡ support r.records ranks
   support-itemset ranks within = support-ranking (unranked r) (items_at r.items ranks) ∙ support-with_items ranks r.records within in_range
 
   rank_entry-items : (ranks : List ℕ) → Ascend ranks → InTable r ranks → rank_entry r ranks ≡ item_entry (unranked r) (itemset ranks)
-  rank_entry-items ranks up within = λ j. record { key = map pos (itemset ranks); utility = sym (utility-itemset ranks up within) j; support = sym (support-itemset ranks within) j }
+  rank_entry-items ranks up within =
+      λ j. record {
+        key = map pos (itemset ranks);
+        utility = sym (utility-itemset ranks up within) j;
+        support =
+            sym (support-itemset ranks within) j;
+      }
 
   -- the entry of a set of ranks that occurs is a pattern
   pub pattern-grows : (entry : Entry) → Grows r [] entry → Member entry (item_patterns (unranked r))
@@ -185,7 +210,8 @@ module _ (r : Ranking) (rules : IsRanking r) where
   Ranked : ℕ → Type 0
   Ranked item = (rank : ℕ) × (rank < length r.items) × (item_at r.items rank ≡ item)
 
-  ranked_cells : (item : ℕ) (cells : List (ℕ × ℤ)) → AllByRecursion (λ cell. cell.0 < length r.items) cells → Member item (items_in (with_items cells)) → Ranked item
+  ranked_cells : (item : ℕ) (cells : List (ℕ × ℤ)) → AllByRecursion (λ cell. cell.0 < length r.items) cells
+      → Member item (items_in (with_items cells)) → Ranked item
   unfolding Ranked
   ranked_cells item [] all m = absurd m
   ranked_cells item (cell ∷ cells) all (inl e) = (cell.0, all.0, e)
@@ -196,7 +222,9 @@ module _ (r : Ranking) (rules : IsRanking r) where
   ranked_records item records all m =
       let found = Member-from_flat_map items_in item (map (λ cells. map (λ cell. (item_at r.items cell.0, cell.1)) cells) records) m in
       let cells = Member-from_map (λ (cells : List (ℕ × ℤ)). map (λ cell. (item_at r.items cell.0, cell.1)) cells) found.0 records found.1 in
-      ranked_cells item cells.0 (at_member (λ cs. AllByRecursion (λ cell. cell.0 < length r.items) cs) cells.0 records all cells.1) (subst (λ cs. Member item (items_in cs)) (sym cells.2) found.2)
+      ranked_cells item cells.0
+      (at_member (λ cs. AllByRecursion (λ cell. cell.0 < length r.items) cs) cells.0 records all cells.1)
+      (subst (λ cs. Member item (items_in cs)) (sym cells.2) found.2)
 
   -- the ranks of a set of items, in its order
   ranks_for : (items : List ℕ) → AllByRecursion Ranked items → (ranks : List ℕ) × InTable r ranks × (items_at r.items ranks ≡ items)
@@ -213,12 +241,16 @@ module _ (r : Ranking) (rules : IsRanking r) where
       to : (z : ℕ) → Member z (items_at r.items (ranking nat_cmp ranks)) → Member z items
       to z m =
           let from = Member-from_map (λ rank. slice_index r.items rank) z (ranking nat_cmp ranks) m in
-          subst (Member z) is (subst (λ w. Member w (items_at r.items ranks)) from.2 (Member-map (λ rank. slice_index r.items rank) from.0 ranks (Member-from_ranking nat_cmp from.0 ranks from.1)))
+          subst (Member z) is (subst (λ w. Member w (items_at r.items ranks)) from.2
+          (Member-map (λ rank. slice_index r.items rank) from.0 ranks
+          (Member-from_ranking nat_cmp from.0 ranks from.1)))
 
       back : (z : ℕ) → Member z items → Member z (items_at r.items (ranking nat_cmp ranks))
       back z m =
           let from = Member-from_map (λ rank. slice_index r.items rank) z ranks (subst (Member z) (sym is) m) in
-          subst (λ w. Member w (items_at r.items (ranking nat_cmp ranks))) from.2 (Member-map (λ rank. slice_index r.items rank) from.0 (ranking nat_cmp ranks) (Member-ranking from.0 ranks from.1))
+          subst (λ w. Member w (items_at r.items (ranking nat_cmp ranks))) from.2
+          (Member-map (λ rank. slice_index r.items rank) from.0 (ranking nat_cmp ranks)
+          (Member-ranking from.0 ranks from.1))
 
       insert-least : (x : ℕ) (xs : List ℕ) → AllByRecursion (λ y. x < y) xs → insert_key nat_cmp xs x ≡ x ∷ xs
       insert-least x [] all = refl
@@ -234,7 +266,9 @@ module _ (r : Ranking) (rules : IsRanking r) where
       let from = Member-from_map (item_entry (unranked r)) entry (occurring_sets (unranked r)) m in
       let items = from.0 in
       let occurs = Occurs-from_member (unranked r) items from.1 in
-      let ranked_all = each-weaker (λ item. Member item (flat_map items_in (unranked r))) Ranked items (λ item held. ranked_records item r.records in_range held) (held-members (unranked r) items occurs.held) in
+      let ranked_all =
+      each-weaker (λ item. Member item (flat_map items_in (unranked r))) Ranked items
+      (λ item held. ranked_records item r.records in_range held) (held-members (unranked r) items occurs.held) in
       let found = ranks_for items ranked_all in
       let ranks = ranking nat_cmp found.0 in
       let within : InTable r ranks = each-ranking (λ rank. rank < length r.items) found.0 found.1 in

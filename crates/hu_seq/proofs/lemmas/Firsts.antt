@@ -1,5 +1,6 @@
 -- What stands before and after the first element that passes a test.
-use Rattle.std.proofs.Common.{◌≡◌, suc, ◌+◌, nat_lt, true, false, Bool, List, [], ◌∷◌, ◌++◌, ◌||◌, length, take, drop, refl, ap, ◌∙◌, arith, None, Some, position, length-append}
+use Rattle.std.proofs.Common.{◌≡◌, suc, ◌+◌, nat_lt, true, false, Bool, List, [], ◌∷◌, ◌++◌, ◌||◌, length, take, drop}
+use Rattle.std.proofs.Common.{refl, ap, ◌∙◌, arith, None, Some, position, length-append}
 use Rattle.std.specs.List.{AllByRecursion, before_first, after_first, position_or_len, list_any}
 use Rattle.std.proofs.lemmas.Bool.{lt-ltb}
 use Rattle.std.proofs.lemmas.Bool.Decides.{nat_tests}

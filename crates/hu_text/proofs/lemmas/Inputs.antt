@@ -1,5 +1,7 @@
 -- A text of lines that each say a record is read as these records, and so are files of such texts.
-use Rattle.std.proofs.Common.{◌≡◌, ℕ, ◌+◌, ◌<◌, ◌≤◌, ◌^◌, ◌==◌, false, Option, None, Some, Result, Ok, Err, List, [], ◌∷◌, length, map, slice_index, sum_by, refl, ap, ◌∙◌, length-append, arith, flat_map, ◌⊎◌, inl, inr}
+use Rattle.std.proofs.Common.{◌≡◌, ℕ, ◌+◌, ◌<◌, ◌≤◌, ◌^◌, ◌==◌, false, Option, None, Some, Result, Ok, Err, List, []}
+use Rattle.std.proofs.Common.{◌∷◌, length, map, slice_index, sum_by, refl, ap, ◌∙◌, length-append, arith, flat_map, ◌⊎◌}
+use Rattle.std.proofs.Common.{inl, inr}
 use Rattle.std.specs.Prelude.{nat_le}
 use Rattle.std.specs.Int.{IsInRange}
 use Rattle.std.specs.List.{AllByRecursion, AllZip}
@@ -12,7 +14,8 @@ use Rattle.hu_lines.specs.Limits.{first_passed, refusal}
 use Rattle.hu_lines.specs.Pieces.{line_of}
 use Rattle.hu_lines.specs.Skipped.{is_skipped_line}
 use Rattle.hu_input.specs.declared.reason.Reason.{Reason}
-use Rattle.hu_input.specs.Input.{Unread, with_front, line_record, piece_record, after_line, records_from, records_of, after_file, content_length, input_from, input, limit_reason}
+use Rattle.hu_input.specs.Input.{Unread, with_front, line_record, piece_record, after_line, records_from, records_of}
+use Rattle.hu_input.specs.Input.{after_file, content_length, input_from, input, limit_reason}
 use Rattle.hu_seq.proofs.lemmas.Numerals.{Lacks}
 use Rattle.hu_text.specs.Texts.{AreFilesOf, all_of}
 use Rattle.hu_text.proofs.lemmas.Lines.{IsLine, fed, line_of-fed, pieces-written}

@@ -1,5 +1,6 @@
 -- What the words of a line tell: numbers, and after a label one number.
-use Rattle.std.proofs.Common.{◌≡◌, ℕ, ◌<◌, ◌^◌, ◌==◌, ℤ, pos, true, false, Option, None, Some, slice_get, List, [], ◌∷◌, ◌++◌, map, filter_map, refl, ap, ◌∙◌, arith, codes, decimal}
+use Rattle.std.proofs.Common.{◌≡◌, ℕ, ◌<◌, ◌^◌, ◌==◌, ℤ, pos, true, false, Option, None, Some, slice_get, List, [], ◌∷◌}
+use Rattle.std.proofs.Common.{◌++◌, map, filter_map, refl, ap, ◌∙◌, arith, codes, decimal}
 use Rattle.std.specs.Fmt.{signed_decimal}
 use Rattle.std.specs.List.{AllByRecursion, before_first}
 use Rattle.std.specs.Option.{option_and_then}

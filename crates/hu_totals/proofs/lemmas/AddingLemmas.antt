@@ -1,5 +1,7 @@
 -- A record added to the totals of some records makes the totals of these and the record.
-use Rattle.std.proofs.Common.{◌≡◌, ◌≢◌, ℕ, ◌<◌, ◌+◌, Bool, true, false, not, cond, eqb, nat_eq, ◌&&◌, ℤ, pos, ◌+ℤ◌, List, [], ◌∷◌, ◌++◌, map, filter, fold, refl, sym, ap, ◌∙◌, subst, inl, inr, ◌⊎◌, arith, flat_map, append_assoc, append-nil}
+use Rattle.std.proofs.Common.{◌≡◌, ◌≢◌, ℕ, ◌<◌, ◌+◌, Bool, true, false, not, cond, eqb, nat_eq, ◌&&◌, ℤ, pos, ◌+ℤ◌}
+use Rattle.std.proofs.Common.{List, [], ◌∷◌, ◌++◌, map, filter, fold, refl, sym, ap, ◌∙◌, subst, inl, inr, ◌⊎◌, arith}
+use Rattle.std.proofs.Common.{flat_map, append_assoc, append-nil}
 use Rattle.std.specs.List.{AllByRecursion}
 use Rattle.std.proofs.lemmas.Int.{ints}
 use Rattle.std.proofs.lemmas.Bool.{eq-eqb, ne_eqb, cases_eq}
@@ -55,7 +57,11 @@ unfolding put_key
 Once-put_key k [] o = (λ m. m, tt)
 Once-put_key k (x ∷ xs) o = elim (cases_eq k x) [
   | inl e ↦ let yes : eqb k x ≡ true = eq-eqb k x e in rw yes o
-  | inr ne ↦ let no : eqb k x ≡ false = ne_eqb k x ne in rw no (λ m. elim (Member-from_put_key x k xs m) [ inl e ↦ ne e | inr n ↦ o.0 n ], Once-put_key k xs o.1)
+  | inr ne ↦ let no : eqb k x ≡ false =
+      ne_eqb k x ne in rw no (
+        λ m. elim (Member-from_put_key x k xs m) [ inl e ↦ ne e | inr n ↦ o.0 n ],
+        Once-put_key k xs o.1,
+      )
 ]
 
 Once-fold : (ks xs : List ℕ) → Once xs → Once (fold put_key xs ks)
@@ -72,7 +78,9 @@ filter-put_key_yes p k (x ∷ xs) keeps = elim (cases_eq k x) [
   | inr ne ↦ let other : eqb k x ≡ false = ne_eqb k x ne in let ih = filter-put_key_yes p k xs keeps in rw other (by (p x) ih other)
 ]
   where
-    by : (b : Bool) → filter p (put_key xs k) ≡ put_key (filter p xs) k → eqb k x ≡ false → cond b (x ∷ filter p (put_key xs k)) (filter p (put_key xs k)) ≡ put_key (cond b (x ∷ filter p xs) (filter p xs)) k
+    by : (b : Bool) → filter p (put_key xs k) ≡ put_key (filter p xs) k → eqb k x ≡ false
+        → cond b (x ∷ filter p (put_key xs k)) (filter p (put_key xs k))
+        ≡ put_key (cond b (x ∷ filter p xs) (filter p xs)) k
     by true ih other = rw other (ap (λ ys. x ∷ ys) ih)
     by false ih other = ih
 
@@ -184,7 +192,8 @@ fold-with_cell gained (cell ∷ cells) f keys o absent =
     (bump-other f gained cell) in
     ap (λ t. fold (with_cell gained) t cells) step
     ∙ fold-with_cell gained cells (bump f gained cell) (put_key keys cell.0) (Once-put_key cell.0 keys o)
-    (λ i out. bump-other f gained cell i (λ same. out (Member-put_key i cell.0 keys (inl (sym same)))) ∙ absent i (λ m. out (Member-put_key i cell.0 keys (inr m))))
+    (λ i out. bump-other f gained cell i (λ same. out (Member-put_key i cell.0 keys (inl (sym same))))
+    ∙ absent i (λ m. out (Member-put_key i cell.0 keys (inr m))))
 
 bumps-at : (gained : ℤ) (cells : List (ℕ × ℤ)) (f : ℕ → ItemTotal) (item : ℕ) → Ascend (items_in cells)
     → bumps f gained cells item ≡ cond (has item cells) (grown (f item) (value_of item cells) gained) (f item)
@@ -204,19 +213,23 @@ bumps-at gained (cell ∷ cells) f item up =
 
 -- ---- the total of an item with a record more
 
-utility-push : (records : List (List (ℕ × ℤ))) (cells : List (ℕ × ℤ)) (items : List ℕ) → utility (records ++ cells ∷ []) items ≡ utility records items +ℤ utility_in items cells
+utility-push : (records : List (List (ℕ × ℤ))) (cells : List (ℕ × ℤ)) (items : List ℕ)
+    → utility (records ++ cells ∷ []) items ≡ utility records items +ℤ utility_in items cells
 utility-push [] cells items = omega (arith, ints)
 utility-push (r ∷ rs) cells items = let ih = utility-push rs cells items in omega (arith, ints)
 
-twu-push : (records : List (List (ℕ × ℤ))) (cells : List (ℕ × ℤ)) (items : List ℕ) → twu (records ++ cells ∷ []) items ≡ twu records items +ℤ cond (holds items cells) (gain cells) (pos 0)
+twu-push : (records : List (List (ℕ × ℤ))) (cells : List (ℕ × ℤ)) (items : List ℕ) → twu (records ++ cells ∷ []) items
+    ≡ twu records items +ℤ cond (holds items cells) (gain cells) (pos 0)
 twu-push [] cells items = omega (arith, ints)
 twu-push (r ∷ rs) cells items = let ih = twu-push rs cells items in omega (arith, ints)
 
-positive-push : (records : List (List (ℕ × ℤ))) (cells : List (ℕ × ℤ)) (item : ℕ) → positive (records ++ cells ∷ []) item ≡ positive records item +ℤ positive_part (value_of item cells)
+positive-push : (records : List (List (ℕ × ℤ))) (cells : List (ℕ × ℤ)) (item : ℕ)
+    → positive (records ++ cells ∷ []) item ≡ positive records item +ℤ positive_part (value_of item cells)
 positive-push [] cells item = omega (arith, ints)
 positive-push (r ∷ rs) cells item = let ih = positive-push rs cells item in omega (arith, ints)
 
-support-push : (records : List (List (ℕ × ℤ))) (cells : List (ℕ × ℤ)) (items : List ℕ) → support (records ++ cells ∷ []) items ≡ support records items + cond (holds items cells) 1 0
+support-push : (records : List (List (ℕ × ℤ))) (cells : List (ℕ × ℤ)) (items : List ℕ)
+    → support (records ++ cells ∷ []) items ≡ support records items + cond (holds items cells) 1 0
 support-push records cells items = omega (arith, sum_by-append (λ r. cond (holds items r) 1 0) records (cells ∷ []))
 
 pub same_total : (a a' b b' : ℤ) (n n' : ℕ) (d d' : ℤ) → a ≡ a' → b ≡ b' → n ≡ n' → d ≡ d'
@@ -278,7 +291,8 @@ flat_map-push [] cells = append-nil (items_in cells)
 flat_map-push (r ∷ rs) cells = ap (λ xs. items_in r ++ xs) (flat_map-push rs cells) ∙ sym (append_assoc (items_in r) (flat_map items_in rs) (items_in cells))
 
 -- a record more
-pub with_record-item_totals : (records : List (List (ℕ × ℤ))) (cells : List (ℕ × ℤ)) → Ascend (items_in cells) → with_record (item_totals records) cells ≡ item_totals (records ++ cells ∷ [])
+pub with_record-item_totals : (records : List (List (ℕ × ℤ))) (cells : List (ℕ × ℤ)) → Ascend (items_in cells)
+    → with_record (item_totals records) cells ≡ item_totals (records ++ cells ∷ [])
 with_record-item_totals records cells up =
     let seen = flat_map items_in records in
     let keys = sym (first_seen-append seen (items_in cells)) ∙ ap first_seen (sym (flat_map-push records cells)) in

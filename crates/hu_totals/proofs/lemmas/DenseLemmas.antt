@@ -1,5 +1,8 @@
 -- A record's cells take the ranks of their items; put in order by rank they are the record over these ranks.
-use Rattle.std.proofs.Common.{◌≡◌, ◌≢◌, ℕ, suc, ◌<◌, ◌≤◌, ◌+◌, Bool, true, false, cond, eqb, nat_eq, nat_lt, ℤ, pos, unsigned_abs, List, [], ◌∷◌, ◌++◌, map, length, get_or, position, option_map, Option, Some, None, refl, sym, ap, ◌∙◌, subst, inl, inr, arith, Ordering, Less, Equal, Greater, nat_cmp, one-add}
+use Rattle.std.proofs.Common.{◌≡◌, ◌≢◌, ℕ, suc, ◌<◌, ◌≤◌, ◌+◌, Bool, true, false, cond, eqb, nat_eq, nat_lt, ℤ, pos}
+use Rattle.std.proofs.Common.{unsigned_abs, List, [], ◌∷◌, ◌++◌, map, length, get_or, position, option_map, Option}
+use Rattle.std.proofs.Common.{Some, None, refl, sym, ap, ◌∙◌, subst, inl, inr, arith, Ordering, Less, Equal, Greater}
+use Rattle.std.proofs.Common.{nat_cmp, one-add}
 use Rattle.std.specs.List.{AllByRecursion, position_or_len, IsDistinct}
 use Rattle.std.specs.List.Sorted.{IsPermutation, IsStrictlySortedBy, IsNonDecreasing, IsNonDecreasingBy, IsStrictlyIncreasing}
 use Rattle.std.specs.Option.{option_to_list}
@@ -45,7 +48,8 @@ position-rank_in item (x ∷ xs) = elim (cases_eq item x) [
       simp (here, first)
   | inr ne ↦
       let other : eqb item x ≡ false = ne_eqb item x ne in
-      rw other (position-later (position_or_len (nat_eq item) xs) (length xs) (nat_lt (position_or_len (nat_eq item) xs) (length xs)) refl ∙ ap (option_map suc) (position-rank_in item xs))
+      rw other (position-later (position_or_len (nat_eq item) xs) (length xs)
+      (nat_lt (position_or_len (nat_eq item) xs) (length xs)) refl ∙ ap (option_map suc) (position-rank_in item xs))
 ]
 
 rank_in-none : (item : ℕ) (items : List ℕ) → rank_in item items ≡ None → Member item items → ⊥
@@ -90,7 +94,8 @@ rank_in-same (x ∷ xs) i j k a b = elim (cases_eq i x) [
     both : (r s : Option ℕ) (n : ℕ) → option_map suc r ≡ Some n → option_map suc s ≡ Some n → ((m : ℕ) → r ≡ Some m → s ≡ Some m → i ≡ j) → i ≡ j
     both None s n p q ih = cc
     both (Some m) None n p q ih = cc
-    both (Some m) (Some m') n p q ih = let e : Some (suc m') ≡ Some (suc m) = q ∙ sym p in let f : suc m' ≡ suc m = cc in let g : m' ≡ m = omega arith in ih m refl (ap Some g)
+    both (Some m) (Some m') n p q ih = let e : Some (suc m') ≡ Some (suc m) = q ∙ sym p in let f : suc m' ≡ suc m =
+        cc in let g : m' ≡ m = omega arith in ih m refl (ap Some g)
 
 -- ---- pairs by rank
 
@@ -107,25 +112,31 @@ pair_greater : (a b : ℕ × ℤ) → b.0 < a.0 → pair_cmp a b ≡ Greater
 pair_greater a b above = let first : nat_cmp a.0 b.0 ≡ Greater = grind (arith, nat_tests) in rw first refl
 
 -- the ranks of a record from a rank on
-pub ranks_from : (rank : ℕ) (items : List ℕ) (cells : List (ℕ × ℤ)) → AllByRecursion (λ cell. (rank ≤ cell.0) × (cell.0 < rank + length items)) (cells_from rank items cells)
+pub ranks_from : (rank : ℕ) (items : List ℕ) (cells : List (ℕ × ℤ))
+    → AllByRecursion (λ cell. (rank ≤ cell.0) × (cell.0 < rank + length items)) (cells_from rank items cells)
 ranks_from rank [] cells = tt
 ranks_from rank (x ∷ xs) cells = by (has x cells) (weaker (cells_from (rank + 1) xs cells) (ranks_from (rank + 1) xs cells))
   where
-    weaker : (dense : List (ℕ × ℤ)) → AllByRecursion (λ cell. (rank + 1 ≤ cell.0) × (cell.0 < rank + 1 + length xs)) dense → AllByRecursion (λ cell. (rank ≤ cell.0) × (cell.0 < rank + length (x ∷ xs))) dense
+    weaker : (dense : List (ℕ × ℤ)) → AllByRecursion (λ cell. (rank + 1 ≤ cell.0) × (cell.0 < rank + 1 + length xs))
+        dense → AllByRecursion (λ cell. (rank ≤ cell.0) × (cell.0 < rank + length (x ∷ xs))) dense
     weaker [] all = tt
     weaker (c ∷ cs) all = let low = all.0.0 in let high = all.0.1 in ((omega arith, omega arith), weaker cs all.1)
 
     by : (b : Bool) → AllByRecursion (λ cell. (rank ≤ cell.0) × (cell.0 < rank + length (x ∷ xs))) (cells_from (rank + 1) xs cells)
-        → AllByRecursion (λ cell. (rank ≤ cell.0) × (cell.0 < rank + length (x ∷ xs))) (cond b ((rank, value_of x cells) ∷ []) [] ++ cells_from (rank + 1) xs cells)
+        → AllByRecursion (λ cell. (rank ≤ cell.0) × (cell.0 < rank + length (x ∷ xs)))
+        (cond b ((rank, value_of x cells) ∷ []) [] ++ cells_from (rank + 1) xs cells)
     by true rest = ((omega arith, omega arith), rest)
     by false rest = rest
 
-insert-front : (cell : ℕ × ℤ) (high : ℕ) (dense : List (ℕ × ℤ)) → AllByRecursion (λ other. (cell.0 + 1 ≤ other.0) × (other.0 < high)) dense → insert_key pair_cmp dense cell ≡ cell ∷ dense
+insert-front : (cell : ℕ × ℤ) (high : ℕ) (dense : List (ℕ × ℤ))
+    → AllByRecursion (λ other. (cell.0 + 1 ≤ other.0) × (other.0 < high)) dense → insert_key pair_cmp dense cell
+    ≡ cell ∷ dense
 insert-front cell high [] all = refl
 insert-front cell high (d ∷ ds) all = let low = all.0.0 in let less : pair_cmp cell d ≡ Less = pair_less cell d (omega arith) in rw less refl
 
 -- a cell of no ranked item changes nothing
-cells_from-skip : (rank : ℕ) (items : List ℕ) (cell : ℕ × ℤ) (cells : List (ℕ × ℤ)) → (Member cell.0 items → ⊥) → cells_from rank items (cell ∷ cells) ≡ cells_from rank items cells
+cells_from-skip : (rank : ℕ) (items : List ℕ) (cell : ℕ × ℤ) (cells : List (ℕ × ℤ)) → (Member cell.0 items → ⊥)
+    → cells_from rank items (cell ∷ cells) ≡ cells_from rank items cells
 cells_from-skip rank [] cell cells out = refl
 cells_from-skip rank (x ∷ xs) cell cells out =
     let other : eqb x cell.0 ≡ false = ne_eqb x cell.0 (λ e. out (inl e)) in
@@ -133,7 +144,8 @@ cells_from-skip rank (x ∷ xs) cell cells out =
     simp (other, rest)
 
 -- a cell of a ranked item stands at its rank
-cells_from-put : (rank : ℕ) (items : List ℕ) (cell : ℕ × ℤ) (cells : List (ℕ × ℤ)) (k : ℕ) → Once items → has cell.0 cells ≡ false → rank_in cell.0 items ≡ Some k
+cells_from-put : (rank : ℕ) (items : List ℕ) (cell : ℕ × ℤ) (cells : List (ℕ × ℤ)) (k : ℕ) → Once items
+    → has cell.0 cells ≡ false → rank_in cell.0 items ≡ Some k
     → insert_key pair_cmp (cells_from rank items cells) (rank + k, cell.1) ≡ cells_from rank items (cell ∷ cells)
 cells_from-put rank [] cell cells k o fresh at = cc
 cells_from-put rank (x ∷ xs) cell cells k o fresh at = elim (cases_eq cell.0 x) [
@@ -184,15 +196,20 @@ dense_from items cell place = option_to_list (option_map (λ rank. (rank, cell.1
 dense-is : (items : List ℕ) (cell : ℕ × ℤ) (place : Option ℕ) → rank_in cell.0 items ≡ place → dense_of items cell ≡ dense_from items cell place
 dense-is items cell place e = ap (dense_from items cell) (position-rank_in cell.0 items ∙ e)
 
-ranking-dense-by : (items : List ℕ) (cell : ℕ × ℤ) (cells : List (ℕ × ℤ)) (place : Option ℕ) → rank_in cell.0 items ≡ place → Once items → has cell.0 cells ≡ false
-    → ranking pair_cmp (dense_cells items cells) ≡ cells_from 0 items cells → ranking pair_cmp (dense_from items cell place ++ dense_cells items cells) ≡ cells_from 0 items (cell ∷ cells)
+ranking-dense-by : (items : List ℕ) (cell : ℕ × ℤ) (cells : List (ℕ × ℤ)) (place : Option ℕ) → rank_in cell.0 items
+    ≡ place → Once items → has cell.0 cells ≡ false
+    → ranking pair_cmp (dense_cells items cells) ≡ cells_from 0 items cells
+    → ranking pair_cmp (dense_from items cell place ++ dense_cells items cells) ≡ cells_from 0 items (cell ∷ cells)
 ranking-dense-by items cell cells None at o fresh ih = ih ∙ sym (cells_from-skip 0 items cell cells (rank_in-none cell.0 items at))
 ranking-dense-by items cell cells (Some k) at o fresh ih =
     let zero_on : k ≡ 0 + k = omega arith in
-    ap (λ dense. insert_key pair_cmp dense (k, cell.1)) ih ∙ ap (λ rank. insert_key pair_cmp (cells_from 0 items cells) (rank, cell.1)) zero_on ∙ cells_from-put 0 items cell cells k o fresh at
+    ap (λ dense. insert_key pair_cmp dense (k, cell.1)) ih
+    ∙ ap (λ rank. insert_key pair_cmp (cells_from 0 items cells) (rank, cell.1)) zero_on
+    ∙ cells_from-put 0 items cell cells k o fresh at
 
 -- in order they are the record over the ranks
-pub ranking-dense : (items : List ℕ) (cells : List (ℕ × ℤ)) → Once items → Ascend (items_in cells) → ranking pair_cmp (dense_cells items cells) ≡ cells_from 0 items cells
+pub ranking-dense : (items : List ℕ) (cells : List (ℕ × ℤ)) → Once items → Ascend (items_in cells)
+    → ranking pair_cmp (dense_cells items cells) ≡ cells_from 0 items cells
 ranking-dense items [] o up = sym (cells_from-none 0 items)
 ranking-dense items (cell ∷ cells) o up =
     let place = rank_in cell.0 items in
@@ -207,14 +224,16 @@ member-dense-by items cell cells k None at ih m = let r = ih m in (r.0, inr r.1,
 member-dense-by items cell cells k (Some n) at ih (inl e) = (cell.0, inl refl, at ∙ ap Some e)
 member-dense-by items cell cells k (Some n) at ih (inr m) = let r = ih m in (r.0, inr r.1, r.2)
 
-member-dense : (items : List ℕ) (cells : List (ℕ × ℤ)) (k : ℕ) → Member k (items_in (dense_cells items cells)) → (i : ℕ) × Member i (items_in cells) × (rank_in i items ≡ Some k)
+member-dense : (items : List ℕ) (cells : List (ℕ × ℤ)) (k : ℕ) → Member k (items_in (dense_cells items cells))
+    → (i : ℕ) × Member i (items_in cells) × (rank_in i items ≡ Some k)
 member-dense items [] k m = absurd m
 member-dense items (cell ∷ cells) k m =
     let place = rank_in cell.0 items in
     member-dense-by items cell cells k place refl (member-dense items cells k)
     (subst (λ dense. Member k (items_in (dense ++ dense_cells items cells))) (dense-is items cell place refl) m)
 
-once-dense-by : (items : List ℕ) (cell : ℕ × ℤ) (cells : List (ℕ × ℤ)) (place : Option ℕ) → rank_in cell.0 items ≡ place → AllByRecursion (λ other. cell.0 < other) (items_in cells)
+once-dense-by : (items : List ℕ) (cell : ℕ × ℤ) (cells : List (ℕ × ℤ)) (place : Option ℕ) → rank_in cell.0 items ≡ place
+    → AllByRecursion (λ other. cell.0 < other) (items_in cells)
     → Once (items_in (dense_cells items cells)) → Once (items_in (dense_from items cell place ++ dense_cells items cells))
 once-dense-by items cell cells None at above ih = ih
 once-dense-by items cell cells (Some k) at above ih = (λ m. apart (member-dense items cells k m), ih)
@@ -242,7 +261,8 @@ no_dense = record { rank = 0; value = pos 0 }
 rank_at : (dense : List Dense) (k d : ℕ) (e : Dense) → k < length dense → get_or (items_in (map dense_pair dense)) k d ≡ (get_or dense k e).rank
 rank_at dense k d e within =
     let inside : k < length (map dense_pair dense) = omega (arith, length-map dense dense_pair) in
-    get_or-map (λ (cell : ℕ × ℤ). cell.0) (map dense_pair dense) k (dense_pair e) d inside ∙ ap (λ (cell : ℕ × ℤ). cell.0) (get_or-map dense_pair dense k e (dense_pair e) within)
+    get_or-map (λ (cell : ℕ × ℤ). cell.0) (map dense_pair dense) k (dense_pair e) d inside
+    ∙ ap (λ (cell : ℕ × ℤ). cell.0) (get_or-map dense_pair dense k e (dense_pair e) within)
 
 length-ranks : (dense : List Dense) → length (items_in (map dense_pair dense)) ≡ length dense
 length-ranks dense = length-map (map dense_pair dense) (λ cell. cell.0) ∙ length-map dense dense_pair
@@ -254,7 +274,8 @@ rising dense up i j d upto within =
     omega (arith, rank_at dense i d no_dense (omega arith), rank_at dense j d no_dense inside, up i j no_dense upto inside)
 
 -- sorted by rank they are the record over the ranks
-pub sorted-dense : (items : List ℕ) (cells : List (ℕ × ℤ)) (dense sorted : List Dense) → Once items → Ascend (items_in cells) → map dense_pair dense ≡ dense_cells items cells
+pub sorted-dense : (items : List ℕ) (cells : List (ℕ × ℤ)) (dense sorted : List Dense) → Once items
+    → Ascend (items_in cells) → map dense_pair dense ≡ dense_cells items cells
     → IsPermutation dense sorted → IsNonDecreasingBy (λ cell. cell.rank) sorted → map dense_pair sorted ≡ cells_from 0 items cells
 unfolding no_dense
 sorted-dense items cells dense sorted o up is moved rise =
@@ -282,7 +303,8 @@ sorted-dense items cells dense sorted o up is moved rise =
         let rank = rank_at sorted k 0 no_dense (omega arith) in
         let rank' = rank_at sorted (k + 1) 0 no_dense (omega arith) in
         let less = increasing k (omega (arith, length-ranks sorted)) in
-        pair_less (get_or (map dense_pair sorted) k (0, pos 0)) (get_or (map dense_pair sorted) (k + 1) (0, pos 0)) (omega (arith, ap (λ (p : ℕ × ℤ). p.0) here, ap (λ (p : ℕ × ℤ). p.0) next)))
+        pair_less (get_or (map dense_pair sorted) k (0, pos 0)) (get_or (map dense_pair sorted) (k + 1) (0, pos 0))
+        (omega (arith, ap (λ (p : ℕ × ℤ). p.0) here, ap (λ (p : ℕ × ℤ). p.0) next)))
 
 -- ---- the values of the record over the ranks are within those of the record
 
@@ -296,7 +318,8 @@ dense-within : (items : List ℕ) (cells : List (ℕ × ℤ)) → absolute_of (d
 dense-within items [] = omega arith
 dense-within items (cell ∷ cells) =
     let place = rank_in cell.0 items in
-    subst (λ dense. absolute_of (dense ++ dense_cells items cells) ≤ absolute_of (cell ∷ cells)) (sym (dense-is items cell place refl)) (dense-within-by items cell cells place (dense-within items cells))
+    subst (λ dense. absolute_of (dense ++ dense_cells items cells) ≤ absolute_of (cell ∷ cells))
+    (sym (dense-is items cell place refl)) (dense-within-by items cell cells place (dense-within items cells))
 
 insert-within-by : (cell d : ℕ × ℤ) (ds : List (ℕ × ℤ)) (o : Ordering) → absolute_of (insert_key pair_cmp ds cell) ≤ absolute_of (cell ∷ ds)
     → absolute_of (match_ordering o (cell ∷ d ∷ ds) (d ∷ ds) (d ∷ insert_key pair_cmp ds cell)) ≤ absolute_of (cell ∷ d ∷ ds)
@@ -324,5 +347,12 @@ ranking-within (cell ∷ cells) = omega (
   sum_by-cons (λ (c : ℕ × ℤ). unsigned_abs c.1) cell cells,
 )
 
-pub cells_from-within : (items : List ℕ) (cells : List (ℕ × ℤ)) → Once items → Ascend (items_in cells) → absolute_of (cells_from 0 items cells) ≤ absolute_of cells
-cells_from-within items cells o up = omega (arith, ap absolute_of (ranking-dense items cells o up), ranking-within (dense_cells items cells), dense-within items cells)
+pub cells_from-within : (items : List ℕ) (cells : List (ℕ × ℤ)) → Once items → Ascend (items_in cells)
+    → absolute_of (cells_from 0 items cells) ≤ absolute_of cells
+cells_from-within items cells o up =
+    omega (
+      arith,
+      ap absolute_of (ranking-dense items cells o up),
+      ranking-within (dense_cells items cells),
+      dense-within items cells,
+    )

@@ -1,5 +1,7 @@
 -- Totals stay within the sum of absolute values.
-use Rattle.std.proofs.Common.{◌≡◌, ◌≢◌, ℕ, zero, suc, ◌<◌, ◌≤◌, ◌+◌, ◌^◌, Bool, true, false, cond, eqb, nat_eq, ℤ, pos, negsuc, ◌+ℤ◌, unsigned_abs, List, [], ◌∷◌, fold, length, get_or, take, Some, refl, sym, ap, ◌∙◌, inl, inr, arith, sum_by}
+use Rattle.std.proofs.Common.{◌≡◌, ◌≢◌, ℕ, zero, suc, ◌<◌, ◌≤◌, ◌+◌, ◌^◌, Bool, true, false, cond, eqb, nat_eq, ℤ, pos}
+use Rattle.std.proofs.Common.{negsuc, ◌+ℤ◌, unsigned_abs, List, [], ◌∷◌, fold, length, get_or, take, Some, refl, sym}
+use Rattle.std.proofs.Common.{ap, ◌∙◌, inl, inr, arith, sum_by}
 use Rattle.std.specs.List.{AllByRecursion}
 use Rattle.std.specs.Map.{lookup}
 use Rattle.std.specs.Option.{unwrap_or}
@@ -29,7 +31,8 @@ gain-within (cell ∷ cells) =
     let head = positive_part-within cell.1 in
     omega (arith, ints, sum_by-cons (λ (c : ℕ × ℤ). unsigned_abs c.1) cell cells)
 
-pub gain-more : (cells : List Cell) (i : ℕ) (d : Cell) → i < length cells → gain (pairs_of (take (suc i) cells)) ≡ gain (pairs_of (take i cells)) +ℤ positive_part (get_or cells i d).value
+pub gain-more : (cells : List Cell) (i : ℕ) (d : Cell) → i < length cells → gain (pairs_of (take (suc i) cells))
+    ≡ gain (pairs_of (take i cells)) +ℤ positive_part (get_or cells i d).value
 gain-more [] i d within = absurd (omega arith)
 gain-more (cell ∷ cells) zero d within = omega (arith, ints)
 gain-more (cell ∷ cells) (suc i) d within = let ih = gain-more cells i d (omega arith) in omega (arith, ints)
@@ -47,11 +50,17 @@ gain-take (cell ∷ cells) (suc i) =
 pub value-within : (cells : List Cell) (i : ℕ) (d : Cell) → i < length cells → unsigned_abs (get_or cells i d).value ≤ absolute_of (pairs_of cells)
 value-within [] i d within = absurd (omega arith)
 value-within (cell ∷ cells) zero d within = omega (arith, sum_by-cons (λ (c : ℕ × ℤ). unsigned_abs c.1) (pair_of cell) (pairs_of cells))
-value-within (cell ∷ cells) (suc i) d within = omega (arith, sum_by-cons (λ (c : ℕ × ℤ). unsigned_abs c.1) (pair_of cell) (pairs_of cells), value-within cells i d (omega arith))
+value-within (cell ∷ cells) (suc i) d within =
+    omega (
+      arith,
+      sum_by-cons (λ (c : ℕ × ℤ). unsigned_abs c.1) (pair_of cell) (pairs_of cells),
+      value-within cells i d (omega arith),
+    )
 
 -- ---- an item's total while the cells before its own are added
 
-lookup-insert_other : (totals : List (ℕ × ItemTotal)) (k item : ℕ) (total : ItemTotal) → item ≢ k → lookup (nat_eq item) (insert_entry nat_eq totals k total) ≡ lookup (nat_eq item) totals
+lookup-insert_other : (totals : List (ℕ × ItemTotal)) (k item : ℕ) (total : ItemTotal) → item ≢ k
+    → lookup (nat_eq item) (insert_entry nat_eq totals k total) ≡ lookup (nat_eq item) totals
 lookup-insert_other [] k item total ne = let no : eqb item k ≡ false = ne_eqb item k ne in rw no refl
 lookup-insert_other (e ∷ es) k item total ne = elim (cases_eq k e.0) [
   | inl same ↦
@@ -63,12 +72,14 @@ lookup-insert_other (e ∷ es) k item total ne = elim (cases_eq k e.0) [
       rw no (ap (cond (eqb item e.0) (Some e.1)) (lookup-insert_other es k item total ne))
 ]
 
-above-at : (x : ℕ) (cells : List Cell) (k : ℕ) (d : Cell) → AllByRecursion (λ y. x < y) (items_in (pairs_of cells)) → k < length cells → x < (get_or cells k d).item.0
+above-at : (x : ℕ) (cells : List Cell) (k : ℕ) (d : Cell) → AllByRecursion (λ y. x < y) (items_in (pairs_of cells))
+    → k < length cells → x < (get_or cells k d).item.0
 above-at x [] k d above within = absurd (omega arith)
 above-at x (cell ∷ cells) zero d above within = above.0
 above-at x (cell ∷ cells) (suc k) d above within = above-at x cells k d above.1 (omega arith)
 
-pub total_in-before : (gained : ℤ) (totals : List (ℕ × ItemTotal)) (cells : List Cell) (i : ℕ) (d : Cell) → Ascend (items_in (pairs_of cells)) → i < length cells
+pub total_in-before : (gained : ℤ) (totals : List (ℕ × ItemTotal)) (cells : List Cell) (i : ℕ) (d : Cell)
+    → Ascend (items_in (pairs_of cells)) → i < length cells
     → total_in (fold (with_cell gained) totals (pairs_of (take i cells))) (get_or cells i d).item.0 ≡ total_in totals (get_or cells i d).item.0
 total_in-before gained totals [] i d up within = absurd (omega arith)
 total_in-before gained totals (cell ∷ cells) zero d up within = refl
@@ -116,14 +127,16 @@ positive-within (r ∷ rs) item =
 
 pub support-within : (records : List (List (ℕ × ℤ))) (item : ℕ) → support records (item ∷ []) ≤ length records
 support-within [] item = omega arith
-support-within (r ∷ rs) item = let ih = support-within rs item in let one = at_most_one (holds (item ∷ []) r) in omega (arith, sum_by-cons (λ c. cond (holds (item ∷ []) c) 1 0) r rs)
+support-within (r ∷ rs) item = let ih = support-within rs item in let one =
+    at_most_one (holds (item ∷ []) r) in omega (arith, sum_by-cons (λ c. cond (holds (item ∷ []) c) 1 0) r rs)
   where
     at_most_one : (b : Bool) → cond b 1 0 ≤ 1
     at_most_one true = omega arith
     at_most_one false = omega arith
 
 -- there is room for one record more
-pub HasRoom-total_of : (records : List (List (ℕ × ℤ))) (item more : ℕ) → sum_by absolute_of records + more < 2 ^ 127 → length records + 1 < 2 ^ 64 → HasRoom (total_of records item) more
+pub HasRoom-total_of : (records : List (List (ℕ × ℤ))) (item more : ℕ) → sum_by absolute_of records + more < 2 ^ 127
+    → length records + 1 < 2 ^ 64 → HasRoom (total_of records item) more
 HasRoom-total_of records item more fits few = record {
   utility = omega (arith, utility-within records item);
   positive = omega (arith, positive-within records item);

@@ -86,7 +86,8 @@ module _ {A : Type 0} (cmp : A → A → Ordering) where
   later o x y [] h all = tt
   later o x y (z ∷ zs) h all = (o.trans x y z h all.0, later o x y zs h all.1)
 
-  sorted-insert-by : IsTotalOrder cmp → (x y : A) (ys : List A) (r : Ordering) → cmp x y ≡ r → IsStrictlySortedBy cmp (y ∷ ys) → IsStrictlySortedBy cmp (insert_key cmp ys x)
+  sorted-insert-by : IsTotalOrder cmp → (x y : A) (ys : List A) (r : Ordering) → cmp x y ≡ r
+      → IsStrictlySortedBy cmp (y ∷ ys) → IsStrictlySortedBy cmp (insert_key cmp ys x)
       → IsStrictlySortedBy cmp (match_ordering r (x ∷ y ∷ ys) (y ∷ ys) (y ∷ insert_key cmp ys x))
   unfolding IsStrictlySortedBy
   sorted-insert-by o x y ys Less h up ih = ((h, later o x y ys h up.0), up)
@@ -114,7 +115,8 @@ module _ {A : Type 0} (cmp : A → A → Ordering) where
       let back : cmp x y ≡ Greater = o.antisymm x y ∙ ap ordering_reverse above in
       cc
 
-  tail_member : IsTotalOrder cmp → (x y z : A) (xs ys : List A) → AllByRecursion (λ w. cmp x w ≡ Less) xs → x ≡ y → Member z xs → Member z (y ∷ ys) → Member z ys
+  tail_member : IsTotalOrder cmp → (x y z : A) (xs ys : List A) → AllByRecursion (λ w. cmp x w ≡ Less) xs → x ≡ y
+      → Member z xs → Member z (y ∷ ys) → Member z ys
   tail_member o x y z xs ys up same m (inl e) =
       let below : cmp x z ≡ Less = at_member (λ w. cmp x w ≡ Less) z xs up m in
       let tied : cmp x z ≡ Equal = ap (cmp x) (sym (same ∙ e)) ∙ tied_itself o x in
@@ -137,7 +139,8 @@ module _ {A : Type 0} (cmp : A → A → Ordering) where
       cc
 
   -- rankings of lists with the same members are one
-  pub ranking-members : IsTotalOrder cmp → CmpEqualImpliesEq cmp → (xs ys : List A) → ((z : A) → Member z xs → Member z ys) → ((z : A) → Member z ys → Member z xs) → ranking cmp xs ≡ ranking cmp ys
+  pub ranking-members : IsTotalOrder cmp → CmpEqualImpliesEq cmp → (xs ys : List A)
+      → ((z : A) → Member z xs → Member z ys) → ((z : A) → Member z ys → Member z xs) → ranking cmp xs ≡ ranking cmp ys
   ranking-members o exact xs ys to back = sorted_same o (ranking cmp xs) (ranking cmp ys) (sorted-ranking o xs) (sorted-ranking o ys)
       (λ z m. Member-to_ranking exact z ys (to z (Member-from_ranking z xs m)))
       (λ z m. Member-to_ranking exact z xs (back z (Member-from_ranking z ys m)))

@@ -1,5 +1,8 @@
 -- Items by their weight, and the steps of the loops that gather them.
-use Rattle.std.proofs.Common.{◌≡◌, ◌≢◌, ℕ, suc, ◌<◌, ◌≤◌, ◌+◌, ◌^◌, Bool, true, false, cond, eqb, nat_eq, ℤ, pos, int_le, List, [], ◌∷◌, ◌++◌, map, filter, length, get_or, take, slice_get, refl, sym, ap, ◌∙◌, subst, inl, inr, arith, flat_map, Ordering, Less, Equal, Greater, nat_cmp, append-nil, append_assoc}
+use Rattle.std.proofs.Common.{◌≡◌, ◌≢◌, ℕ, suc, ◌<◌, ◌≤◌, ◌+◌, ◌^◌, Bool, true, false, cond, eqb, nat_eq, ℤ, pos}
+use Rattle.std.proofs.Common.{int_le, List, [], ◌∷◌, ◌++◌, map, filter, length, get_or, take, slice_get, refl, sym, ap}
+use Rattle.std.proofs.Common.{◌∙◌, subst, inl, inr, arith, flat_map, Ordering, Less, Equal, Greater, nat_cmp}
+use Rattle.std.proofs.Common.{append-nil, append_assoc}
 use Rattle.std.specs.List.{AllByRecursion, IsDistinct, list_any}
 use Rattle.std.specs.List.Sorted.{IsPermutation, IsSorted, IsStrictlySortedBy}
 use Rattle.std.specs.Cmp.{IsTotalOrder}
@@ -41,7 +44,8 @@ use Rattle.hu_totals.proofs.lemmas.SortedLists.{Once, IsDistinct-from_once, Once
 
 -- ---- one place more
 
-weights-append : (order : RankOrder) (floor : ℤ) (xs ys : List (ℕ × ItemTotal)) → weights order floor (xs ++ ys) ≡ weights order floor xs ++ weights order floor ys
+weights-append : (order : RankOrder) (floor : ℤ) (xs ys : List (ℕ × ItemTotal)) → weights order floor (xs ++ ys)
+    ≡ weights order floor xs ++ weights order floor ys
 weights-append order floor [] ys = refl
 weights-append order floor (x ∷ xs) ys = by (int_le floor x.1.twu) (weights-append order floor xs ys)
   where
@@ -66,7 +70,8 @@ weights-step order floor totals i before after more within so_far is one =
     ∙ sym (weights-append order floor (take i totals) (option_to_list (slice_get totals i)))
     ∙ ap (weights order floor) (sym (place_more totals i no_entry within))
 
-pub dense-step : (items : List ℕ) (cells : List Cell) (i : ℕ) (d : Cell) (before after more : List (ℕ × ℤ)) → i < length cells → before ≡ dense_cells items (pairs_of (take i cells))
+pub dense-step : (items : List ℕ) (cells : List Cell) (i : ℕ) (d : Cell) (before after more : List (ℕ × ℤ))
+    → i < length cells → before ≡ dense_cells items (pairs_of (take i cells))
     → after ≡ before ++ more → more ≡ dense_of items (pair_of (get_or cells i d)) → after ≡ dense_cells items (pairs_of (take (i + 1) cells))
 dense-step items cells i d before after more within so_far is one =
     let last = pair_of (get_or cells i d) in
@@ -87,7 +92,8 @@ numbers_apart (x ∷ xs) d = (each xs d.0, numbers_apart xs d.1)
     each [] all = tt
     each (y ∷ ys) all = (all.0, each ys all.1)
 
-add_all : (done items : List Item) → AllByRecursion (λ item. list_any (same_item item) done ≡ false) items → IsDistinct same_item items → insert_all same_item done items ≡ done ++ items
+add_all : (done items : List Item) → AllByRecursion (λ item. list_any (same_item item) done ≡ false) items
+    → IsDistinct same_item items → insert_all same_item done items ≡ done ++ items
 unfolding IsDistinct
 add_all done [] fresh d = sym (append-nil done)
 add_all done (x ∷ xs) fresh d =
@@ -113,14 +119,16 @@ add_all-none : (items : List Item) → IsDistinct eqb (numbers_of items) → ins
 add_all-none items d = add_all [] items (none_fresh items) (numbers_apart items d)
 
 -- one item more
-pub add-step : (ws : List Weighed) (i : ℕ) (d : Weighed) (keys keys' : List Item) → i < length ws → keys ≡ insert_all same_item [] (map (λ one. one.item) (take i ws))
+pub add-step : (ws : List Weighed) (i : ℕ) (d : Weighed) (keys keys' : List Item) → i < length ws → keys
+    ≡ insert_all same_item [] (map (λ one. one.item) (take i ws))
     → keys' ≡ add_key same_item keys (get_or ws i d).item → keys' ≡ insert_all same_item [] (map (λ one. one.item) (take (i + 1) ws))
 add-step ws i d keys keys' within so_far is =
     let item = (get_or ws i d).item in
     is
     ∙ ap (λ ks. add_key same_item ks item) so_far
     ∙ sym (fold-append (add_key same_item) [] (map (λ (one : Weighed). one.item) (take i ws)) (item ∷ []))
-    ∙ ap (insert_all same_item []) (sym (map-append (λ (one : Weighed). one.item) (take i ws) (get_or ws i d ∷ [])) ∙ ap (map (λ (one : Weighed). one.item)) (sym (take_more ws i d within)))
+    ∙ ap (insert_all same_item []) (sym (map-append (λ (one : Weighed). one.item) (take i ws) (get_or ws i d ∷ []))
+    ∙ ap (map (λ (one : Weighed). one.item)) (sym (take_more ws i d within)))
 
 -- ---- weighed items sorted
 
@@ -163,7 +171,8 @@ no_weight = record { small = 0; twu = pos 0; item = 0 }
 abbrev pub no_weighed : Weighed
 no_weighed = record { smallness = 0; twu = pos 0; item = record { 0 = 0 } }
 
-number_below : (ws : List Weighed) (n q : ℕ) → ((k : ℕ) → k < length ws → (get_or ws k no_weighed).item.0 < n) → list_any (eqb q) (map (λ (w : Weight). w.item) (map weight_of ws)) ≡ true → q < n
+number_below : (ws : List Weighed) (n q : ℕ) → ((k : ℕ) → k < length ws → (get_or ws k no_weighed).item.0 < n)
+    → list_any (eqb q) (map (λ (w : Weight). w.item) (map weight_of ws)) ≡ true → q < n
 number_below [] n q below any = cc
 number_below (w ∷ ws) n q below any = elim (or_cases (eqb q w.item.0) (list_any (eqb q) (map (λ (w : Weight). w.item) (map weight_of ws))) any) [
   | inl e ↦ let same = eqb-true q w.item.0 e in let first = below 0 (omega arith) in omega arith
@@ -174,7 +183,8 @@ keys-weights : (order : RankOrder) (entries : List (ℕ × ItemTotal)) → map (
 keys-weights order [] = refl
 keys-weights order (e ∷ es) = ap (λ ks. e.0 ∷ ks) (keys-weights order es)
 
-module _ (order : RankOrder) (floor : ℤ) (totals : List (ℕ × ItemTotal)) (weighed sorted : List Weighed) (apart : IsDistinct nat_eq (keys_of totals)) (is : map weight_of weighed ≡ weights order floor totals)
+module _ (order : RankOrder) (floor : ℤ) (totals : List (ℕ × ItemTotal)) (weighed sorted : List Weighed)
+    (apart : IsDistinct nat_eq (keys_of totals)) (is : map weight_of weighed ≡ weights order floor totals)
     (moved : IsPermutation weighed sorted) (up : IsSorted (on weight_of weight_cmp) sorted) where
   moved_weights : IsPermutation (map weight_of weighed) (map weight_of sorted)
   moved_weights = IsPermutation-map weight_of weighed sorted moved
@@ -195,7 +205,8 @@ module _ (order : RankOrder) (floor : ℤ) (totals : List (ℕ × ItemTotal)) (w
       let len : length ws ≡ length sorted = length-map sorted weight_of in
       let numbers : length (map (λ (w : Weight). w.item) ws) ≡ length ws = length-map ws (λ (w : Weight). w.item) in
       let here : get_or ws k no_weight ≡ weight_of (get_or sorted k no_weighed) = get_or-map weight_of sorted k no_weighed no_weight (omega arith) in
-      let next : get_or ws (k + 1) no_weight ≡ weight_of (get_or sorted (k + 1) no_weighed) = get_or-map weight_of sorted (k + 1) no_weighed no_weight (omega arith) in
+      let next : get_or ws (k + 1) no_weight ≡ weight_of (get_or sorted (k + 1) no_weighed) =
+      get_or-map weight_of sorted (k + 1) no_weighed no_weight (omega arith) in
       let upto = up k no_weighed (omega arith) (omega arith) in
       let upto' : is_lt (weight_cmp (get_or ws (k + 1) no_weight) (get_or ws k no_weight)) ≡ false = rw (here, next) upto in
       let differ = eqb-false _ _ (apart_from_distinct eqb (map (λ w. w.item) ws) k (k + 1) 0 apart_sorted (omega arith) (omega arith)) in
@@ -221,11 +232,13 @@ module _ (order : RankOrder) (floor : ℤ) (totals : List (ℕ × ItemTotal)) (w
       ap numbers_of (put ∙ all) ∙ numbers-sorted sorted ∙ sorted-by_weight
 
   -- and it has at most as many as there are numbers
-  pub few-by_weight : (keys : List Item) → keys ≡ insert_all same_item [] (map (λ one. one.item) sorted) → ((k : ℕ) → k < length sorted → (get_or sorted k no_weighed).item.0 < 2 ^ 32) → length keys ≤ 2 ^ 32
+  pub few-by_weight : (keys : List Item) → keys ≡ insert_all same_item [] (map (λ one. one.item) sorted)
+      → ((k : ℕ) → k < length sorted → (get_or sorted k no_weighed).item.0 < 2 ^ 32) → length keys ≤ 2 ^ 32
   few-by_weight keys put below =
       let numbers = map (λ (w : Weight). w.item) (map weight_of sorted) in
       let all = add_all-none (map (λ one. one.item) sorted) (subst (IsDistinct eqb) (sym (numbers-sorted sorted)) apart_sorted) in
-      let same : length keys ≡ length numbers = sym (length-map keys (λ item. item.0)) ∙ ap (λ items. length (numbers_of items)) (put ∙ all) ∙ ap length (numbers-sorted sorted) in
+      let same : length keys ≡ length numbers = sym (length-map keys (λ item. item.0))
+      ∙ ap (λ items. length (numbers_of items)) (put ∙ all) ∙ ap length (numbers-sorted sorted) in
       let few = length-le_from_distinct_below numbers (2 ^ 32) apart_sorted (λ q any. number_below sorted (2 ^ 32) q below any) in
       omega arith
 
@@ -235,7 +248,9 @@ filter-map : (p : ℕ × ItemTotal → Bool) (g : ℕ → ℕ × ItemTotal) (xs 
 filter-map p g [] = refl
 filter-map p g (x ∷ xs) = by (p (g x)) (filter-map p g xs)
   where
-    by : (b : Bool) → filter p (map g xs) ≡ map g (filter (λ y. p (g y)) xs) → cond b (g x ∷ filter p (map g xs)) (filter p (map g xs)) ≡ map g (cond b (x ∷ filter (λ y. p (g y)) xs) (filter (λ y. p (g y)) xs))
+    by : (b : Bool) → filter p (map g xs) ≡ map g (filter (λ y. p (g y)) xs)
+        → cond b (g x ∷ filter p (map g xs)) (filter p (map g xs))
+        ≡ map g (cond b (x ∷ filter (λ y. p (g y)) xs) (filter (λ y. p (g y)) xs))
     by true ih = ap (λ ys. g x ∷ ys) ih
     by false ih = ih
 
@@ -261,13 +276,15 @@ module _ (order : RankOrder) (records : List (List (ℕ × ℤ))) where
   weigh_item : ℕ → Weight
   weigh_item item = record { small = smallness_of order (total_of records item); twu = twu records (item ∷ []); item = item }
 
-  insert-weighed : (item : ℕ) (xs : List ℕ) → insert_key weight_cmp (map weigh_item xs) (weigh_item item) ≡ map weigh_item (insert_key (by_order order records) xs item)
+  insert-weighed : (item : ℕ) (xs : List ℕ) → insert_key weight_cmp (map weigh_item xs) (weigh_item item)
+      ≡ map weigh_item (insert_key (by_order order records) xs item)
   unfolding weigh_item
   insert-weighed item [] = refl
   insert-weighed item (x ∷ xs) = by (by_order order records item x) (insert-weighed item xs)
     where
       by : (o : Ordering) → insert_key weight_cmp (map weigh_item xs) (weigh_item item) ≡ map weigh_item (insert_key (by_order order records) xs item)
-          → match_ordering o (weigh_item item ∷ weigh_item x ∷ map weigh_item xs) (weigh_item x ∷ map weigh_item xs) (weigh_item x ∷ insert_key weight_cmp (map weigh_item xs) (weigh_item item))
+          → match_ordering o (weigh_item item ∷ weigh_item x ∷ map weigh_item xs) (weigh_item x ∷ map weigh_item xs)
+          (weigh_item x ∷ insert_key weight_cmp (map weigh_item xs) (weigh_item item))
           ≡ map weigh_item (match_ordering o (item ∷ x ∷ xs) (x ∷ xs) (x ∷ insert_key (by_order order records) xs item))
       by Less ih = refl
       by Equal ih = refl
@@ -290,7 +307,8 @@ module _ (order : RankOrder) (records : List (List (ℕ × ℤ))) where
   reaches : ℤ → ℕ → Bool
   reaches floor item = int_le floor (twu records (item ∷ []))
 
-  weights-item_totals : (floor : ℤ) → weights order floor (item_totals records) ≡ map weigh_item (filter (reaches floor) (first_seen (flat_map items_in records)))
+  weights-item_totals : (floor : ℤ) → weights order floor (item_totals records)
+      ≡ map weigh_item (filter (reaches floor) (first_seen (flat_map items_in records)))
   unfolding reaches
   weights-item_totals floor =
       let seen = first_seen (flat_map items_in records) in
@@ -328,4 +346,5 @@ module _ (records : List (List (ℕ × ℤ))) where
   Once-ordered_items order floor =
       let order_of = by_order order records in
       let total = by_order_total order records in
-      Once-from_sorted order_of total (ordered_items order floor records) (sorted-ranking order_of total (filter (λ item. int_le floor (twu records (item ∷ []))) (items_of records)))
+      Once-from_sorted order_of total (ordered_items order floor records)
+      (sorted-ranking order_of total (filter (λ item. int_le floor (twu records (item ∷ []))) (items_of records)))

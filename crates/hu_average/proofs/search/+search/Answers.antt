@@ -6,7 +6,8 @@ use Rattle.hu_list.specs.Joins.{IsPrefix}
 use Rattle.hu_average.specs.declared.extension.Extension.{Extension}
 use Rattle.hu_average.specs.Best.{IsKept, Covers, offered}
 use Rattle.hu_average.specs.Extension.{AreExtensions, AreEnough, AreJoined, entries_of, ranks_of}
-use Rattle.hu_average.proofs.TurnLemmas.{so_far-first, so_far-next, so_far-all, so_far-kept, so_far-enough, so_far-joined, shut-covers, prefix-of, rank-at, whole-at_most}
+use Rattle.hu_average.proofs.TurnLemmas.{so_far-first, so_far-next, so_far-all, so_far-kept, so_far-enough}
+use Rattle.hu_average.proofs.TurnLemmas.{so_far-joined, shut-covers, prefix-of, rank-at, whole-at_most}
 use Rattle.hu_average.proofs.search.+search.Goals as goal
 
 -- ---- enter

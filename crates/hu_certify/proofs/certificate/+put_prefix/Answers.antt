@@ -1,4 +1,5 @@
-use Rattle.std.proofs.Common.{◌≡◌, ℕ, ◌+◌, ◌<◌, ◌≤◌, append-nil, List, pos, true, [], ◌∷◌, ◌++◌, drop, length, map, take, get_or, int_le, ap, sym, subst, ◌∙◌, arith, rules, to_z, of_z, FitsSigned}
+use Rattle.std.proofs.Common.{◌≡◌, ℕ, ◌+◌, ◌<◌, ◌≤◌, append-nil, List, pos, true, [], ◌∷◌, ◌++◌, drop, length, map}
+use Rattle.std.proofs.Common.{take, get_or, int_le, ap, sym, subst, ◌∙◌, arith, rules, to_z, of_z, FitsSigned}
 use Rattle.std.specs.Int.{w128}
 use Rattle.std.specs.List.{AllByRecursion}
 use Rattle.std.proofs.lemmas.Int.{ints, to_z-of_z}
@@ -11,7 +12,9 @@ use Rattle.hu_certify.specs.declared.place.Child.{Child}
 use Rattle.hu_certify.specs.Spots.{earned, narrowed, children_at, rank_pair, spots_of, AreRanks, HasRoom, IsNode, lines_from}
 use Rattle.hu_certify.specs.Text.{line_of, lines_below, lines_text, spaced}
 use Rattle.hu_certify.proofs.SpotLemmas.{HasRoom-narrowed}
-use Rattle.hu_certify.proofs.TreeLemmas.{rank-stands, standing-below, children-below, AreRanks-narrowed, cells_left, fewer, line-long, line-written, node-of_child, so_far-opened, so_far-cut, so_far-long, so_far-whole, prefix-back, SoFar, Writes-err}
+use Rattle.hu_certify.proofs.TreeLemmas.{rank-stands, standing-below, children-below, AreRanks-narrowed, cells_left}
+use Rattle.hu_certify.proofs.TreeLemmas.{fewer, line-long, line-written, node-of_child, so_far-opened, so_far-cut}
+use Rattle.hu_certify.proofs.TreeLemmas.{so_far-long, so_far-whole, prefix-back, SoFar, Writes-err}
 use Rattle.hu_certify.proofs.certificate.+put_prefix.Goals as goal
 use Rattle.hu_certify.proofs.certificate.+put_prefix.Goals.{then-child-least+in_ok-narrow+in_ok-push_spaced+in_ok-put_prefix, else-child-least}
 

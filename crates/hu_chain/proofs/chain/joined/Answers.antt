@@ -20,9 +20,13 @@ loop-place-preserved c =
     let made = c.loop-place.grown.items in
     let last = c.requires.places.0 in
     let is = each-at (IsPlaceOf elements last) places k no_place c.requires.places.2 c.loop-place-test.true in
-    let here = c.ended.ensures.value ∙ found-after elements last c.args.item.0 (get_or places k no_place) c.tail.result is c.requires.places.1 c.tail.ensures.plain c.tail.ensures.value in
+    let here =
+    c.ended.ensures.value ∙ found-after elements last c.args.item.0
+    (get_or places k no_place) c.tail.result is c.requires.places.1 c.tail.ensures.plain c.tail.ensures.value in
     let more = c.in_ok-push_place.ensures ∙ ap (λ o. made ++ option_to_list o) here in
     record {
-      so_far = joined-next elements c.args.item.0 places k no_place made c.push_place.new.places.items _ c.loop-place-test.true c.loop-place.invariant.so_far more;
+      so_far =
+          joined-next elements c.args.item.0 places k no_place made c.push_place.new.places.items _
+          c.loop-place-test.true c.loop-place.invariant.so_far more;
       fit = subst (AllByRecursion IsFit) (sym c.in_ok-push_place.ensures) (fit-more c.ended.result made c.loop-place.invariant.fit c.ended.ensures.fit);
     }

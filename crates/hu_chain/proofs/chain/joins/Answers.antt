@@ -22,8 +22,11 @@ returns-then-is_some c =
     let last = c.requires.places.0 in
     let is = each-at (IsPlaceOf elements last) places k no_place c.requires.places.2 c.loop-place-test.true in
     let same = has-after elements last c.args.item.0 place is c.requires.places.1 c.tail.ensures.plain in
-    let here = c.is_some.ensures ∙ ap is_some c.cell_in.ensures ∙ is_some-cell_in c.args.item.0 (pairs_of c.tail.result.cells.now) ∙ ap (has c.args.item.0) c.tail.ensures.value.cells ∙ same in
-    any-here (λ p. has c.args.item.0 (element_at elements p.element)) places k no_place _ c.loop-place-test.true c.loop-place.invariant (sym here ∙ c.if-is_some.true)
+    let here = c.is_some.ensures ∙ ap is_some c.cell_in.ensures
+    ∙ is_some-cell_in c.args.item.0 (pairs_of c.tail.result.cells.now)
+    ∙ ap (has c.args.item.0) c.tail.ensures.value.cells ∙ same in
+    any-here (λ p. has c.args.item.0 (element_at elements p.element)) places k no_place _ c.loop-place-test.true
+    c.loop-place.invariant (sym here ∙ c.if-is_some.true)
 
 pub loop-place-preserved : goal.loop-place-preserved
 unfolding no_place
@@ -35,5 +38,8 @@ loop-place-preserved c =
     let last = c.requires.places.0 in
     let is = each-at (IsPlaceOf elements last) places k no_place c.requires.places.2 c.loop-place-test.true in
     let same = has-after elements last c.args.item.0 place is c.requires.places.1 c.tail.ensures.plain in
-    let here = c.is_some.ensures ∙ ap is_some c.cell_in.ensures ∙ is_some-cell_in c.args.item.0 (pairs_of c.tail.result.cells.now) ∙ ap (has c.args.item.0) c.tail.ensures.value.cells ∙ same in
-    any-next (λ p. has c.args.item.0 (element_at elements p.element)) places k no_place _ c.loop-place-test.true c.loop-place.invariant (sym here ∙ c.if-is_some.false)
+    let here = c.is_some.ensures ∙ ap is_some c.cell_in.ensures
+    ∙ is_some-cell_in c.args.item.0 (pairs_of c.tail.result.cells.now)
+    ∙ ap (has c.args.item.0) c.tail.ensures.value.cells ∙ same in
+    any-next (λ p. has c.args.item.0 (element_at elements p.element)) places k no_place _ c.loop-place-test.true
+    c.loop-place.invariant (sym here ∙ c.if-is_some.false)

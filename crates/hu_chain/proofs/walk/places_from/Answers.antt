@@ -22,12 +22,15 @@ ended-requires c =
       best = c.tail.ensures.best;
       ahead = c.tail.ensures.ahead;
     } in
-    IsTail-whole elements e c.loop-number.walk c.tail.result c.requires.sequence c.loop-number-test.true c.cells_at-cells.ensures.plain c.cells_at-cells.ensures.few c.loop-number.invariant.rules whole
+    IsTail-whole elements e c.loop-number.walk c.tail.result c.requires.sequence c.loop-number-test.true
+    c.cells_at-cells.ensures.plain c.cells_at-cells.ensures.few c.loop-number.invariant.rules whole
 
 pub past-walk-requires-clause-holds : goal.past-walk-requires-clause-holds
 past-walk-requires-clause-holds c =
     let same = ap total c.cells_at-cells.ensures.value in
-    let holds = whole-holds c.args.elements.now c.loop-number.number c.loop-number.walk c.requires.sequence c.loop-number-test.true c.loop-number.invariant.rules in
+    let holds =
+    whole-holds c.args.elements.now c.loop-number.number c.loop-number.walk c.requires.sequence
+    c.loop-number-test.true c.loop-number.invariant.rules in
     omega (arith, ints)
 
 pub loop-number-preserved : goal.loop-number-preserved
@@ -50,7 +53,9 @@ loop-number-preserved c =
     let here = c.ended.ensures.value ∙ found-whole_element elements e c.args.item.0 walk c.tail.result c.loop-number-test.true rules whole in
     let more = c.in_ok-push_place.ensures ∙ ap (λ o. made ++ option_to_list o) here in
     record {
-      so_far = walked-next elements c.args.item.0 e walk.best walk.left.now made c.push_place.new.places.items _ c.past-walk.result c.loop-number-test.true c.loop-number.invariant.so_far more best left;
+      so_far =
+          walked-next elements c.args.item.0 e walk.best walk.left.now made c.push_place.new.places.items _
+          c.past-walk.result c.loop-number-test.true c.loop-number.invariant.so_far more best left;
       rules = IsWalk-past elements e walk c.past-walk.result c.requires.sequence c.loop-number-test.true c.cells_at-cells.ensures.plain rules best left ahead;
       fit = subst (AllByRecursion IsFit) (sym c.in_ok-push_place.ensures) (fit-more c.ended.result made c.loop-number.invariant.fit c.ended.ensures.fit);
     }

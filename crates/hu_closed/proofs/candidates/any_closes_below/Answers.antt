@@ -10,11 +10,15 @@ no_item = record { 0 = 0 }
 pub returns-then-closes_below : goal.returns-then-closes_below
 unfolding no_item
 returns-then-closes_below c =
-    let test = λ (item : ℕ). has_rank_below c.args.ranked.now.items c.args.last item && closes_at (found_at (lists_of c.args.lists.now) c.args.places.now) c.args.key.now item in
+    let test =
+    λ (item : ℕ). has_rank_below c.args.ranked.now.items c.args.last item
+    && closes_at (found_at (lists_of c.args.lists.now) c.args.places.now) c.args.key.now item in
     sym (any_number-at test c.args.items.now c.loop-item.item-index no_item c.loop-item-test.true (sym c.if-closes_below.ensures))
 
 pub loop-item-preserved : goal.loop-item-preserved
 unfolding no_item
 loop-item-preserved c =
-    let test = λ (item : ℕ). has_rank_below c.args.ranked.now.items c.args.last item && closes_at (found_at (lists_of c.args.lists.now) c.args.places.now) c.args.key.now item in
+    let test =
+    λ (item : ℕ). has_rank_below c.args.ranked.now.items c.args.last item
+    && closes_at (found_at (lists_of c.args.lists.now) c.args.places.now) c.args.key.now item in
     any_number-more test c.args.items.now c.loop-item.item-index no_item c.loop-item-test.true c.loop-item.invariant (sym c.if-closes_below.ensures)

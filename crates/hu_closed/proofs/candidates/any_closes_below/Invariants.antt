@@ -5,4 +5,6 @@ use Rattle.hu_closed.specs.Holders.{closes_at, found_at, has_rank_below, lists_o
 use Rattle.hu_closed.proofs.candidates.any_closes_below.Given as goal
 
 abbrev pub invariant-loop-item : goal.invariant-loop-item
-invariant-loop-item l = list_any (λ item. has_rank_below l.ranked.items l.last item && closes_at (found_at (lists_of l.lists) l.places) l.key item) (numbers_of (take l.item-index l.items)) ≡ false
+invariant-loop-item l =
+    list_any (λ item. has_rank_below l.ranked.items l.last item
+    && closes_at (found_at (lists_of l.lists) l.places) l.key item) (numbers_of (take l.item-index l.items)) ≡ false

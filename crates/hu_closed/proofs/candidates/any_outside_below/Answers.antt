@@ -14,7 +14,8 @@ returns-then-is_outside c =
     let at = get_or_from_slice_get items rank c.item_of.result.0 0 c.item_of.ensures.value in
     let inside : rank < length (take c.args.last items) = omega (arith, length-take c.args.last items, c.loop-rank-test.true, c.requires.last) in
     let same = get_or-take c.args.last items rank 0 c.loop-rank-test.true in
-    sym (list_any_at (is_outside c.args.key.now) (take c.args.last items) rank 0 inside (ap (is_outside c.args.key.now) (same ∙ at) ∙ sym c.if-is_outside.ensures))
+    sym (list_any_at (is_outside c.args.key.now) (take c.args.last items) rank 0 inside
+    (ap (is_outside c.args.key.now) (same ∙ at) ∙ sym c.if-is_outside.ensures))
 
 pub loop-rank-preserved : goal.loop-rank-preserved
 loop-rank-preserved c =
@@ -23,4 +24,5 @@ loop-rank-preserved c =
     let test = is_outside c.args.key.now in
     let at = get_or_from_slice_get items rank c.item_of.result.0 0 c.item_of.ensures.value in
     let inside : rank < length items = omega (arith, c.loop-rank-test.true, c.requires.last) in
-    list_any_more test items rank 0 inside ∙ or_from (list_any test (take rank items)) (test (get_or items rank 0)) c.loop-rank.invariant (ap test at ∙ sym c.if-is_outside.ensures)
+    list_any_more test items rank 0 inside ∙ or_from (list_any test (take rank items))
+    (test (get_or items rank 0)) c.loop-rank.invariant (ap test at ∙ sym c.if-is_outside.ensures)

@@ -31,4 +31,5 @@ returns-clause-value c number =
     let stable = c.in_ok-sort_by_key.ensures.stable (λ (h : Holder). h.item.0) (always_returns_same _ _ _ (λ a r f' called. search rules)) in
     let past = c.loop-place-test.false in
     let all = take_all c.loop-place.place lists past in
-    pairs_with-sorted c.loop-place.holders.items c.sort_by_key.new.self.items (pairs_from 0 (lists_of lists)) stable (c.loop-place.invariant ∙ ap (λ taken. pairs_from 0 (lists_of taken)) all) number
+    pairs_with-sorted c.loop-place.holders.items c.sort_by_key.new.self.items (pairs_from 0 (lists_of lists)) stable
+    (c.loop-place.invariant ∙ ap (λ taken. pairs_from 0 (lists_of taken)) all) number

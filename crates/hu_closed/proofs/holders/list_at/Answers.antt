@@ -13,4 +13,5 @@ returns-clause-ascending c =
     let one = c.index-lists-place.result in
     let at = get_or-map (λ (items : Vec Item Global). numbers_of items.items) lists c.args.place one [] c.requires.within in
     let value = ap numbers_of c.as_slice.ensures.value ∙ ap (λ (items : Vec Item Global). numbers_of items.items) c.index-lists-place.is ∙ sym at in
-    subst Ascend (sym value) (c.requires.lists c.args.place [] (omega (arith, length-map lists (λ (items : Vec Item Global). numbers_of items.items), c.requires.within)))
+    subst Ascend (sym value) (c.requires.lists c.args.place []
+    (omega (arith, length-map lists (λ (items : Vec Item Global). numbers_of items.items), c.requires.within)))

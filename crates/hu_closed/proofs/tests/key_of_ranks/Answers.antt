@@ -10,4 +10,5 @@ returns g c =
     let high = get_or_from_slice_get table c.args.last c.item_of-high.result.0 0 c.item_of-high.ensures.value in
     let rises : c.item_of-low.result.0 < c.item_of-high.result.0 = search rules in
     let is : c.push-2.new.self ≡ pos c.item_of-low.result.0 ∷ pos c.item_of-high.result.0 ∷ [] = search rules in
-    CanOpen-pair table c.args.first c.args.last c.item_of-low.result.0 c.item_of-high.result.0 c.push-2.new.self c.requires.order c.requires.within low high rises is
+    CanOpen-pair table c.args.first c.args.last c.item_of-low.result.0 c.item_of-high.result.0 c.push-2.new.self
+    c.requires.order c.requires.within low high rises is

@@ -29,7 +29,8 @@ loop-name-preserved g c =
     let base = c.in_ok-read_file.field-0 in
     let bases = c.loop-name.bases.items in
     let at : IsAt texts i name = text_at names i c.name-item.result name c.loop-name-test.true c.name-item.is c.as_str.ensures.value in
-    let took : TookFile reading absolute v w files new name base = subst (λ old. TookFile reading absolute v w old new name base) kept.same c.in_ok-read_file.ensures in
+    let took : TookFile reading absolute v w files new name base =
+    subst (λ old. TookFile reading absolute v w old new name base) kept.same c.in_ok-read_file.ensures in
     record {
       fresh = took.fresh;
       room = kept.room;
@@ -53,8 +54,12 @@ returns-in_err-read_file g c =
     let v = c.loop-name.intake in
     let stop = c.in_err-read_file.field-0.0 in
     let at : IsAt texts i name = text_at names i c.name-item.result name c.loop-name-test.true c.name-item.is c.as_str.ensures.value in
-    let stops : StopsAt files new name (RefusesFile reading absolute v) stop = subst (λ old. StopsAt old new name (RefusesFile reading absolute v) stop) kept.same c.in_err-read_file.ensures in
-    let read = subst (λ sum. AreRead reading absolute sum files (take i texts) v c.loop-name.bases.items) (c.in_ok-intake.ensures.sum ∙ ap unsigned_abs (to_z-of_z w128 c.args.carried c.ranges.carried)) kept.read in
+    let stops : StopsAt files new name (RefusesFile reading absolute v) stop =
+    subst (λ old. StopsAt old new name (RefusesFile reading absolute v) stop) kept.same
+    c.in_err-read_file.ensures in
+    let read =
+    subst (λ sum. AreRead reading absolute sum files (take i texts) v c.loop-name.bases.items)
+    (c.in_ok-intake.ensures.sum ∙ ap unsigned_abs (to_z-of_z w128 c.args.carried c.ranges.carried)) kept.read in
     subst (ReadsFiles reading absolute c.args.carried files new texts) (sym (err_is _ _ c.from_residual-in_err-read_file.ensures.1))
     (read_stopped reading absolute c.args.carried files new texts i name v c.loop-name.bases.items stop at read stops)
 
@@ -70,6 +75,8 @@ returns g c =
     let v = c.loop-name.intake in
     let bases = c.loop-name.bases.items in
     let over : length texts ≤ i = omega (arith, length-map names string_bytes) in
-    let read = subst (λ sum. AreRead reading absolute sum files (take i texts) v bases) (c.in_ok-intake.ensures.sum ∙ ap unsigned_abs (to_z-of_z w128 c.args.carried c.ranges.carried)) kept.read in
+    let read =
+    subst (λ sum. AreRead reading absolute sum files (take i texts) v bases)
+    (c.in_ok-intake.ensures.sum ∙ ap unsigned_abs (to_z-of_z w128 c.args.carried c.ranges.carried)) kept.read in
     read_all reading absolute (unsigned_abs c.args.carried) files (g.F.Files.state c.loop-name.files) texts v bases
     (subst (λ done. AreRead reading absolute (unsigned_abs c.args.carried) files done v bases) (take_all i texts over) read) kept.same

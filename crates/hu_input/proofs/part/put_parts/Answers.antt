@@ -13,4 +13,5 @@ returns-in_err-put_part g c =
     let i = c.loop-part.part-index in
     PutsAll-Broke old new c.from_residual.result (flat_map part_text parts) c.from_residual.ensures.0
     (subst (Broke old new) (flat_map-split part_text parts i _ c.loop-part-test.true)
-    (Appended-Broke old (g.S.Sink.state c.loop-part.sink) new (flat_map part_text (take i parts)) _ (flat_map part_text (drop (i + 1) parts)) c.loop-part.invariant c.in_err-put_part.ensures))
+    (Appended-Broke old (g.S.Sink.state c.loop-part.sink) new (flat_map part_text (take i parts)) _
+    (flat_map part_text (drop (i + 1) parts)) c.loop-part.invariant c.in_err-put_part.ensures))

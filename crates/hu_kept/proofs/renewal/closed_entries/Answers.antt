@@ -20,5 +20,6 @@ returns g c =
     let all : AllByRecursion IsRecord records = subst (AllByRecursion IsRecord) (c.sets.view_is ∙ c.in_ok-sets.ensures) c.sets.invariant.rules in
     let is = made-closed_around (option_copied c.args.batch) c.args.collect (inner_of around) records (records_in around) (table_of around)
     (content_in (inner_of c.in_ok-found.found)) (content_in c.into_inner.result) all
-    c.new-collect.ensures.inner (c.new-collect.ensures.records ∙ c.in_ok-sets.ensures) (c.in_ok-found.ensures records c.requires.patterns) (sym (ap (λ s. s.content) c.into_inner.ensures.state)) in
+    c.new-collect.ensures.inner (c.new-collect.ensures.records ∙ c.in_ok-sets.ensures)
+    (c.in_ok-found.ensures records c.requires.patterns) (sym (ap (λ s. s.content) c.into_inner.ensures.state)) in
     subst (λ content. IfOk c.into_entries.result (λ entries. entries.items ≡ content)) is c.into_entries.ensures

@@ -15,4 +15,5 @@ returns g c =
     let by : rule_in collect ≡ r = c.in_ok-collect.ensures.rule in
     let is : content_in collect ≡ made r [] (untouched c.args.batch.now old) = c.in_ok-collect.ensures.content in
     subst (λ content. IfOk c.entries_of.result (λ entries. entries.items ≡ content))
-    (continued-answer c.args.aim (records_of c.args.base.now) c.args.batch.now old (rule_in collect) (content_in collect) c.requires.continues by is) c.entries_of.ensures
+    (continued-answer c.args.aim (records_of c.args.base.now) c.args.batch.now old (rule_in collect)
+    (content_in collect) c.requires.continues by is) c.entries_of.ensures

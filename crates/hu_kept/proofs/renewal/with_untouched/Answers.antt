@@ -13,5 +13,6 @@ loop-key-preserved c =
     let next = c.offer_untouched.new.collect in
     let step : c.loop-key.key-iterator ≡ (c.in-Some.key.now, c.in-Some.held.now) ∷ c.next.new.self = search rules in
     let before = subst (λ es. Offers r c.args.batch.now old (rule_in collect) (content_in collect) (entries_from es)) step c.loop-key.invariant in
-    Offers-next r c.args.batch.now old (rule_in collect) (rule_in next) (content_in collect) (content_in next) (entry_from (c.in-Some.key.now, c.in-Some.held.now)) (entries_from c.next.new.self)
+    Offers-next r c.args.batch.now old (rule_in collect) (rule_in next) (content_in collect) (content_in next)
+    (entry_from (c.in-Some.key.now, c.in-Some.held.now)) (entries_from c.next.new.self)
     before c.in_ok-offer_untouched.ensures.rule c.in_ok-offer_untouched.ensures.ok

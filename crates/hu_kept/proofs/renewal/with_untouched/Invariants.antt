@@ -5,4 +5,6 @@ use Rattle.hu_kept.proofs.RenewalLemmas.{Offers}
 use Rattle.hu_kept.proofs.renewal.with_untouched.Given as goal
 
 abbrev pub invariant-loop-key : goal.invariant-loop-key
-invariant-loop-key l = Offers (rule_of l.fn.aim.least l.fn.aim.top) l.batch (entries_from l.old.entries) (rule_in l.collect) (content_in l.collect) (entries_from l.key-iterator)
+invariant-loop-key l =
+    Offers (rule_of l.fn.aim.least l.fn.aim.top) l.batch (entries_from l.old.entries) (rule_in l.collect)
+    (content_in l.collect) (entries_from l.key-iterator)

@@ -6,7 +6,9 @@ pub overflow_mul-value : goal.overflow_mul-value
 overflow_mul-value c =
     let small = front-small c.args.text.now c.loop-count.count 18 c.loop-count.invariant.digits c.loop-count.invariant.within c.loop-count.invariant.few in
     let next = next_digit c.args.text.now c.loop-count.count c.if-count-text.true c.loop-count.invariant.digits (sym c.if-is_ascii_digit.ensures.value) in
-    let more = front-small c.args.text.now (c.loop-count.count + 1) 18 next.digits (omega (arith, c.if-count-text.true)) (omega (arith, c.loop-count-test.true)) in
+    let more =
+    front-small c.args.text.now (c.loop-count.count + 1) 18 next.digits (omega (arith, c.if-count-text.true))
+    (omega (arith, c.loop-count-test.true)) in
     omega (arith, next.value)
 
 pub overflow_sub-text : goal.overflow_sub-text
@@ -17,7 +19,9 @@ overflow_sub-text c =
 pub overflow_add-value : goal.overflow_add-value
 overflow_add-value c =
     let next = next_digit c.args.text.now c.loop-count.count c.if-count-text.true c.loop-count.invariant.digits (sym c.if-is_ascii_digit.ensures.value) in
-    let more = front-small c.args.text.now (c.loop-count.count + 1) 18 next.digits (omega (arith, c.if-count-text.true)) (omega (arith, c.loop-count-test.true)) in
+    let more =
+    front-small c.args.text.now (c.loop-count.count + 1) 18 next.digits (omega (arith, c.if-count-text.true))
+    (omega (arith, c.loop-count-test.true)) in
     omega (arith, next.value)
 
 pub loop-count-preserved : goal.loop-count-preserved

@@ -4,7 +4,8 @@ use Rattle.std.proofs.lemmas.Bool.Decides.{nat_tests}
 use Rattle.std.proofs.lemmas.List.{take_all}
 use Rattle.hu_kind.proofs.lemmas.Numerals.{digit_at, next_digit, digits_from-fault, digits_from-value, digits_value-front}
 use Rattle.hu_kind.proofs.number.read_rest.Goals as goal
-use Rattle.hu_kind.proofs.number.read_rest.Goals.{then-not-is_ascii_digit-via-then-not-is_ascii_digit, then-not-is_ascii_digit-via-else-not-is_ascii_digit+then-is_past}
+use Rattle.hu_kind.proofs.number.read_rest.Goals.{then-not-is_ascii_digit-via-then-not-is_ascii_digit}
+use Rattle.hu_kind.proofs.number.read_rest.Goals.{then-not-is_ascii_digit-via-else-not-is_ascii_digit+then-is_past}
 
 pub returns-then-not-is_ascii_digit-clause-value : goal.returns-then-not-is_ascii_digit-clause-value
 returns-then-not-is_ascii_digit-clause-value c =
@@ -39,5 +40,6 @@ pub returns-clause-value : goal.returns-clause-value
 returns-clause-value c =
     let text = c.args.text.now in
     let whole = take_all c.loop-i.i text (omega (arith, c.loop-i-test.false)) in
-    sym (digits_from-value c.args.at c.loop-i.value text (omega (arith, c.requires.within)) (rw whole at c.loop-i.invariant.digits) (omega (arith, c.if-text-gt39.false))
+    sym (digits_from-value c.args.at c.loop-i.value text (omega (arith, c.requires.within))
+    (rw whole at c.loop-i.invariant.digits) (omega (arith, c.if-text-gt39.false))
     (ap (digits_value 10) (sym whole) ∙ sym c.loop-i.invariant.value) c.loop-i.invariant.small)

@@ -17,7 +17,12 @@ pub add_kept-requires-clause-within : goal.add_kept-requires-clause-within
 add_kept-requires-clause-within c =
     let none : Dense = record { rank = 0; value = pos 0 } in
     let room = c.args.found.now.room in
-    omega (arith, c.loop-cell.invariant.room, rank-at (λ rank. rank < room) c.args.tail.now.cells.now c.loop-cell.cell-index none c.requires.rules.in_range c.loop-cell-test.true)
+    omega (
+      arith,
+      c.loop-cell.invariant.room,
+      rank-at (λ rank. rank < room) c.args.tail.now.cells.now
+          c.loop-cell.cell-index none c.requires.rules.in_range c.loop-cell-test.true,
+    )
 
 pub add_kept-requires-clause-fits : goal.add_kept-requires-clause-fits
 add_kept-requires-clause-fits c =
@@ -27,7 +32,8 @@ add_kept-requires-clause-fits c =
     let tail = tail_of c.args.tail.now in
     let keep = c.args.kept.now.ranks in
     let room = c.loop-cell.invariant.fits (get_or cells i none).rank (has-here cells i none c.requires.rules.ascending c.loop-cell-test.true) in
-    let shared : to_z w128 (of_z w128 c.share-share.result) ≡ share keep tail = omega (arith, ints, c.share-share.ensures, share-within keep tail, c.requires.fits 0) in
+    let shared : to_z w128 (of_z w128 c.share-share.result) ≡ share keep tail =
+    omega (arith, ints, c.share-share.ensures, share-within keep tail, c.requires.fits 0) in
     omega (arith, room, ap unsigned_abs shared, share-within keep tail)
 
 pub loop-cell-preserved : goal.loop-cell-preserved
@@ -39,7 +45,8 @@ loop-cell-preserved c =
     let keep = c.args.kept.now.ranks in
     let up = c.requires.rules.ascending in
     let within = c.loop-cell-test.true in
-    let shared : to_z w128 (of_z w128 c.share-share.result) ≡ share keep tail = omega (arith, ints, c.share-share.ensures, share-within keep tail, c.requires.fits 0) in
+    let shared : to_z w128 (of_z w128 c.share-share.result) ≡ share keep tail =
+    omega (arith, ints, c.share-share.ensures, share-within keep tail, c.requires.fits 0) in
     let old : ℕ → ℤ = λ z. at (pos 0) c.loop-cell.found.ranks c.loop-cell.gains.items z in
     let new : ℕ → ℤ = λ z. at (pos 0) c.add_kept.new.found.ranks c.add_kept.new.gains.items z in
     let rank = (get_or cells i none).rank in
@@ -49,7 +56,9 @@ loop-cell-preserved c =
       room = c.in_ok-add_kept.ensures.room ∙ c.loop-cell.invariant.room;
       len = c.in_ok-add_kept.ensures.len;
       fits = λ z h.
-          let same : new z ≡ old z = added z ∙ ap (λ b. cond b (cond (among rank keep) (old z +ℤ share keep tail) (old z)) (old z)) (apart-later cells i none up within z h) in
+          let same : new z ≡ old z =
+          added z ∙ ap (λ b. cond b (cond (among rank keep) (old z +ℤ share keep tail) (old z)) (old z))
+          (apart-later cells i none up within z h) in
           let room = c.loop-cell.invariant.fits z (has-later cells i none up within z h) in
           omega (arith, ap unsigned_abs same, room);
       gains = λ z. pass-next cells i none up within (gaining keep tail) z (old z) (new z) (added z) ∙ c.loop-cell.invariant.gains z;

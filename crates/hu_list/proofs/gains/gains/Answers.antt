@@ -37,5 +37,6 @@ loop-tail-preserved c =
         c.loop-tail.invariant.fits z,
         sizes-split tails i none c.loop-tail-test.true,
       );
-      gains = λ z. tails-next tails i none c.loop-tail-test.true (gaining keep) z (old z) (new z) (c.in_ok-add_gains.ensures.gains z) ∙ c.loop-tail.invariant.gains z;
+      gains = λ z. tails-next tails i none c.loop-tail-test.true (gaining keep) z (old z) (new z)
+          (c.in_ok-add_gains.ensures.gains z) ∙ c.loop-tail.invariant.gains z;
     }

@@ -1,4 +1,5 @@
-use Rattle.std.proofs.Common.{◌≡◌, ◌++◌, ◌∷◌, [], ℕ, List, pos, cond, get_or, length, drop, nat_lt, ◌&&◌, sym, ap, ◌∙◌, arith, ◌+ℤ◌, ◌+◌, ◌-◌, to_z, of_z, eqb, take}
+use Rattle.std.proofs.Common.{◌≡◌, ◌++◌, ◌∷◌, [], ℕ, List, pos, cond, get_or, length, drop, nat_lt, ◌&&◌, sym, ap, ◌∙◌}
+use Rattle.std.proofs.Common.{arith, ◌+ℤ◌, ◌+◌, ◌-◌, to_z, of_z, eqb, take}
 use Rattle.std.specs.Int.{w128}
 use Rattle.std.proofs.lemmas.List.{take_all, length-drop, length-map}
 use Rattle.hu_totals.specs.View.{dense_pair}
@@ -36,7 +37,8 @@ loop-at-preserved c =
     let new : ℕ → List TailOf = λ z. at [] keep (lists_of c.add_tail.new.lists.items) z in
     let added : (z : ℕ) → new z ≡ cond (eqb z cell.rank) (growing keep tail (dense_pair cell) (cells_of rest) (old z)) (old z) =
     λ z. c.in_ok-add_tail.ensures.lists z
-    ∙ (λ j. cond (eqb z cell.rank) (cond (among cell.rank keep && nat_lt 0 (size j)) (old z ++ (record { own = own j; cells = cells_of (same j) }) ∷ []) (old z)) (old z)) in
+    ∙ (λ j. cond (eqb z cell.rank) (cond (among cell.rank keep && nat_lt 0 (size j))
+    (old z ++ (record { own = own j; cells = cells_of (same j) }) ∷ []) (old z)) (old z)) in
     record {
       len = c.in_ok-add_tail.ensures.len;
       lists = λ z. pass-next cells i none up within (growing keep tail) z (old z) (new z) (added z) ∙ c.loop-at.invariant.lists z;

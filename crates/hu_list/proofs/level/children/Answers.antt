@@ -21,7 +21,8 @@ keep_reaching-requires-clause-later g c z high =
     let found = c.gains.new.found.ranks in
     let gained : at (pos 0) found c.deref.result.now z ≡ met_in (gaining keep) z (tails_of c.args.tails.now) (pos 0) =
     ap (λ gs. at (pos 0) found gs z) c.deref.ensures.value ∙ c.in_ok-gains.ensures.gains z in
-    below-last set c.last_of.result z c.last_of.ensures (rank-later c.args.ranked.now set (tails_of c.args.tails.now) c.requires.left keep z (subst (λ v. pos 1 ≤ℤ v) gained high))
+    below-last set c.last_of.result z c.last_of.ensures (rank-later c.args.ranked.now set
+    (tails_of c.args.tails.now) c.requires.left keep z (subst (λ v. pos 1 ≤ℤ v) gained high))
 
 pub returns-clause-level : goal.returns-clause-level
 returns-clause-level g c =
@@ -39,14 +40,17 @@ returns-clause-level g c =
     let floor : to_z w128 (of_z w128 c.floor-floor.result) ≡ floor_in s = to_z-of_z w128 c.floor-floor.result (search rules) ∙ c.floor-floor.ensures.value in
     let are : AreKept Right gate (floor_in s) c.last_of.result (at (pos 0) found gains) found kept =
     subst (λ f. AreKept Right gate f c.last_of.result (at (pos 0) found gains) found kept) floor
-    (subst (λ gs. AreKept Right gate (to_z w128 (of_z w128 c.floor-floor.result)) c.last_of.result (at (pos 0) found gs) found kept) c.deref.ensures.value c.in_ok-keep_reaching.ensures.kept) in
+    (subst (λ gs. AreKept Right gate (to_z w128 (of_z w128 c.floor-floor.result)) c.last_of.result
+    (at (pos 0) found gs) found kept) c.deref.ensures.value c.in_ok-keep_reaching.ensures.kept) in
     let least : pos 1 ≤ℤ floor_in s = subst (λ f. pos 1 ≤ℤ f) c.floor-floor.ensures.value c.floor-floor.ensures.least in
     let ranks = c.ranks.ensures.ranks in
     both_ok c.children_of.result
     (λ (children : Vec Child Global). ranks_of children.items ≡ c.ranks.result.now)
-    (λ (children : Vec Child Global). AllByRecursion (λ (child : Child). sum_of child ≡ at no_sum c.ranks.result.now c.deref-2.result.now child.rank) children.items)
+    (λ (children : Vec Child Global). AllByRecursion (λ (child : Child). sum_of child
+    ≡ at no_sum c.ranks.result.now c.deref-2.result.now child.rank) children.items)
     (λ (children : Vec Child Global). IsLevel s r set children.items)
-    (λ children is each. level-is r set tails s Right gate c.last_of.result keep found kept gains sums children.items c.requires.left c.requires.table c.requires.enough c.requires.floor c.requires.right
+    (λ children is each. level-is r set tails s Right gate c.last_of.result keep found kept gains sums children.items
+    c.requires.left c.requires.table c.requires.enough c.requires.floor c.requires.right
     c.last_of.ensures least c.in_ok-gains.ensures.gains are c.ranks.ensures.once c.in_ok-sums.ensures.sums (is ∙ ranks)
     (subst (λ ss. AllByRecursion (λ (child : Child). sum_of child ≡ at no_sum kept ss child.rank) children.items) c.deref-2.ensures.value
     (subst (λ rs. AllByRecursion (λ (child : Child). sum_of child ≡ at no_sum rs c.deref-2.result.now child.rank) children.items) ranks each)))

@@ -18,7 +18,9 @@ loop-slot-preserved c =
     let child = c.child.result in
     let within : i < length ranks = c.loop-slot-test.true in
     let here : at no_sum ranks sums (get_or ranks i 0) ≡ get_or sums i no_sum =
-    at-place no_sum ranks sums (get_or ranks i 0) i (record { within = within; here = refl; first = distinct-before ranks i 0 c.requires.once within }) (omega (arith, within, c.requires.len)) in
+    at-place no_sum ranks sums (get_or ranks i 0) i
+    (record { within = within; here = refl; first = distinct-before ranks i 0 c.requires.once within })
+    (omega (arith, within, c.requires.len)) in
     let same : sum_of child ≡ at no_sum ranks sums child.rank = c.child.ensures.sum ∙ sym here ∙ ap (at no_sum ranks sums) (sym c.child.ensures.rank) in
     record {
       ranks = ap ranks_of c.in_ok-push.ensures.items
@@ -26,5 +28,6 @@ loop-slot-preserved c =
           ∙ (λ j. c.loop-slot.invariant.ranks j ++ c.child.ensures.rank j ∷ [])
           ∙ sym (take_more ranks i 0 within);
       sums = subst (AllByRecursion (λ (one : Child). sum_of one ≡ at no_sum ranks sums one.rank)) (sym c.in_ok-push.ensures.items)
-          (each-append (λ (one : Child). sum_of one ≡ at no_sum ranks sums one.rank) c.loop-slot.children.items (child ∷ []) c.loop-slot.invariant.sums (same, tt));
+          (each-append (λ (one : Child). sum_of one ≡ at no_sum ranks sums one.rank) c.loop-slot.children.items
+          (child ∷ []) c.loop-slot.invariant.sums (same, tt));
     }

@@ -16,7 +16,8 @@ use Rattle.hu_list.proofs.level.grown_by.Goals as goal
 pub fill-requires-clause-within : goal.fill-requires-clause-within
 fill-requires-clause-within c =
     subst (λ ranks. AllByRecursion (λ rank. rank < c.args.found.now.room) ranks) (sym (c.deref.ensures.value ∙ c.in_ok-ranks.ensures))
-    (subst (λ n. AllByRecursion (λ rank. rank < n) (ranks_of c.args.chosen.now)) (sym c.requires.room) (ranks-within c.args.ranked.now c.args.ranks.now c.args.chosen.now c.requires.children))
+    (subst (λ n. AllByRecursion (λ rank. rank < n) (ranks_of c.args.chosen.now)) (sym c.requires.room)
+    (ranks-within c.args.ranked.now c.args.ranks.now c.args.chosen.now c.requires.children))
 
 pub returns-clause-lists : goal.returns-clause-lists
 returns-clause-lists c =
@@ -26,6 +27,7 @@ returns-clause-lists c =
     (λ (lists : Vec (Vec Tail Global) Global). length lists.items ≡ length ranks)
     (λ (lists : Vec (Vec Tail Global) Global). (z : ℕ) → at [] ranks (lists_of lists.items) z ≡ met_in (growing ranks) z (tails_of c.args.tails.now) [])
     (λ (lists : Vec (Vec Tail Global) Global). AreGrown c.args.ranked.now c.args.ranks.now c.args.chosen.now (lists_of lists.items))
-    (λ lists len all. are-grown c.args.ranked.now c.args.ranks.now (tails_of c.args.tails.now) c.args.chosen.now ranks (lists_of lists.items) c.requires.left is c.requires.once
+    (λ lists len all. are-grown c.args.ranked.now c.args.ranks.now (tails_of c.args.tails.now) c.args.chosen.now ranks
+    (lists_of lists.items) c.requires.left is c.requires.once
     (length-map lists.items (λ (list : Vec Tail Global). tails_of list.items) ∙ len) all)
     c.grown.ensures.len c.grown.ensures.lists

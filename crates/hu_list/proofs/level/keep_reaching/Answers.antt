@@ -17,8 +17,10 @@ loop-slot-init g c =
     record {
       room = c.clear.ensures.room;
       before = λ z m. absurd (false≢true (ap (among z) (sym none) ∙ m));
-      kept = subst (AreKept (g.G.Gate.IsRightFor c.args.gate.now) (g.G.Gate.floor c.args.gate.now) floor c.args.last (at (pos 0) c.args.found.now.ranks c.args.gains.now) []) (sym none)
-          (kept-none (g.G.Gate.IsRightFor c.args.gate.now) (g.G.Gate.floor c.args.gate.now) floor c.args.last (at (pos 0) c.args.found.now.ranks c.args.gains.now));
+      kept = subst (AreKept (g.G.Gate.IsRightFor c.args.gate.now) (g.G.Gate.floor c.args.gate.now) floor c.args.last
+          (at (pos 0) c.args.found.now.ranks c.args.gains.now) []) (sym none)
+          (kept-none (g.G.Gate.IsRightFor c.args.gate.now) (g.G.Gate.floor c.args.gate.now) floor c.args.last
+          (at (pos 0) c.args.found.now.ranks c.args.gains.now));
     }
 
 pub stays-stays-requires : goal.stays-stays-requires
@@ -30,7 +32,10 @@ stays-stays-requires g c =
     let within : i < length ranks = subst (λ rs. i < length rs) is c.loop-slot-test.true in
     let here = value-at ranks gains i c.ranks-ranks.ensures.once within c.requires.len in
     let same : get_or c.ranks-ranks.result.now i 0 ≡ get_or ranks i 0 = ap (λ rs. get_or rs i 0) is in
-    record { later = λ high. subst (λ z. MatchOption c.args.last ⊤ (λ a. a < z)) (sym same) (c.requires.later (get_or ranks i 0) (omega (arith, ints, here, high, c.requires.least))) }
+    record {
+      later = λ high. subst (λ z. MatchOption c.args.last ⊤ (λ a. a < z)) (sym same)
+          (c.requires.later (get_or ranks i 0) (omega (arith, ints, here, high, c.requires.least)));
+    }
 
 pub push_if-requires-clause-within : goal.push_if-requires-clause-within
 push_if-requires-clause-within g c =
@@ -49,7 +54,8 @@ push_if-requires-clause-fresh g c =
     let i = c.loop-slot.slot in
     let is = c.ranks-ranks.ensures.ranks in
     let within : i < length ranks = subst (λ rs. i < length rs) is c.loop-slot-test.true in
-    ap (λ rs. among (get_or rs i 0) c.loop-slot.kept.ranks) is ∙ kept-fresh ranks c.loop-slot.kept.ranks i c.ranks-ranks.ensures.once within c.loop-slot.invariant.before
+    ap (λ rs. among (get_or rs i 0) c.loop-slot.kept.ranks) is
+    ∙ kept-fresh ranks c.loop-slot.kept.ranks i c.ranks-ranks.ensures.once within c.loop-slot.invariant.before
 
 pub returns-in_err-push_if-clause-room : goal.returns-in_err-push_if-clause-room
 returns-in_err-push_if-clause-room g c = c.in_err-push_if.ensures.room ∙ c.loop-slot.invariant.room
@@ -70,7 +76,8 @@ loop-slot-preserved g c =
     record {
       room = c.in_ok-push_if.ensures.room ∙ c.loop-slot.invariant.room;
       before = before-more ranks c.loop-slot.kept.ranks c.push_if.new.slots.ranks i c.stays-stays.result within pushed c.loop-slot.invariant.before;
-      kept = kept-more ranks c.loop-slot.kept.ranks c.push_if.new.slots.ranks i c.stays-stays.result within pushed Right gate (to_z w128 (of_z w128 c.args.floor)) c.args.last (at (pos 0) ranks gains) c.loop-slot.invariant.kept
+      kept = kept-more ranks c.loop-slot.kept.ranks c.push_if.new.slots.ranks i c.stays-stays.result within pushed Right
+          gate (to_z w128 (of_z w128 c.args.floor)) c.args.last (at (pos 0) ranks gains) c.loop-slot.invariant.kept
           (λ stays. let high = c.stays-stays.ensures.yes stays in omega (arith, ints, here, high))
           (λ goes. elim (c.stays-stays.ensures.no goes) [
             | inl under ↦ inl (omega (arith, ints, here, under))

@@ -7,5 +7,6 @@ abbrev pub invariant-loop-slot : goal.invariant-loop-slot
 invariant-loop-slot g l = record {
   room : l.kept.room ≡ l.fn.kept.room;
   before : (z : ℕ) → among z l.kept.ranks ≡ true → among z (take l.slot l.found.ranks) ≡ true;
-  kept : AreKept (g.G.Gate.IsRightFor l.gate) (g.G.Gate.floor l.gate) l.floor l.last (at (pos 0) l.found.ranks l.gains) (take l.slot l.found.ranks) l.kept.ranks;
+  kept : AreKept (g.G.Gate.IsRightFor l.gate) (g.G.Gate.floor l.gate) l.floor l.last (at (pos 0) l.found.ranks l.gains)
+      (take l.slot l.found.ranks) l.kept.ranks;
 }

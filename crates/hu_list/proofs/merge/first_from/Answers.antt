@@ -11,5 +11,6 @@ returns-clause-value c =
 pub returns-clause-within : goal.returns-clause-within
 returns-clause-within c =
     let nodes = c.args.nodes.now in
-    let value = c.unwrap_or.ensures ∙ ap (λ o. unwrap_or o (length nodes)) c.place_of.ensures ∙ unwrap_or-position (λ (node : Node). leb c.args.place node.place) nodes in
+    let value = c.unwrap_or.ensures ∙ ap (λ o. unwrap_or o (length nodes)) c.place_of.ensures
+    ∙ unwrap_or-position (λ (node : Node). leb c.args.place node.place) nodes in
     subst (λ n. n ≤ length nodes) (sym value) (position_or_len-le (λ (node : Node). leb c.args.place node.place) nodes)

@@ -1,4 +1,5 @@
-use Rattle.std.proofs.Common.{rules, ◌≡◌, ◌<◌, ◌≤◌, ◌+◌, ◌-◌, ◌*◌, ◌≤ℤ◌, pos, [], ◌∷◌, ◌++◌, List, length, nat_eq, to_z, of_z, slice_index_or, inl, inr, refl, sym, ap, ◌∙◌, subst, arith}
+use Rattle.std.proofs.Common.{rules, ◌≡◌, ◌<◌, ◌≤◌, ◌+◌, ◌-◌, ◌*◌, ◌≤ℤ◌, pos, [], ◌∷◌, ◌++◌, List, length, nat_eq, to_z}
+use Rattle.std.proofs.Common.{of_z, slice_index_or, inl, inr, refl, sym, ap, ◌∙◌, subst, arith}
 use Rattle.std.specs.List.{AllByRecursion, IsDistinct}
 use Rattle.std.specs.Int.{w128}
 use Rattle.std.proofs.lemmas.Bool.{eqb-true}
@@ -18,8 +19,12 @@ use Rattle.hu_list.specs.Board.{HasRoom}
 use Rattle.hu_list.specs.Level.{IsLeft, IsLevel, AreChosen, AreGrown}
 use Rattle.hu_list.proofs.SearchLemmas.{next, next-push, next-below, last-in, barren-reached, empty-barren, chosen-children}
 use Rattle.hu_list.proofs.LengthLemmas.{longest-reached}
-use Rattle.hu_list.proofs.TurnLemmas.{offers-as, offered-stopped, so_far-ordered, so_far-rule, so_far-rises, so_far-once, so_far-within, so_far-all, so_far-child, so_far-enough, so_far-left, so_far-next, so_far-some}
-use Rattle.hu_list.proofs.search.+search.Goals.{enter-then-is_empty-via-then-is_empty, enter-then-is_empty-via-else-is_empty+in_ok-opens+then-not-branch, search-else-chosen-test, search-then-chosen-test+then-child-floor}
+use Rattle.hu_list.proofs.TurnLemmas.{offers-as, offered-stopped, so_far-ordered, so_far-rule, so_far-rises}
+use Rattle.hu_list.proofs.TurnLemmas.{so_far-once, so_far-within, so_far-all, so_far-child, so_far-enough, so_far-left}
+use Rattle.hu_list.proofs.TurnLemmas.{so_far-next, so_far-some}
+use Rattle.hu_list.proofs.search.+search.Goals.{enter-then-is_empty-via-then-is_empty}
+use Rattle.hu_list.proofs.search.+search.Goals.{enter-then-is_empty-via-else-is_empty+in_ok-opens+then-not-branch}
+use Rattle.hu_list.proofs.search.+search.Goals.{search-else-chosen-test, search-then-chosen-test+then-child-floor}
 use Rattle.hu_list.proofs.search.+search.Goals as goal
 
 -- ---- enter
@@ -48,7 +53,8 @@ enter-search-requires g t c κs within =
     let n = length r.items in
     let pushed : c.push.new.self.items ≡ c.args.ranks.now.items ++ c.args.child.now.rank ∷ [] = c.in_ok-push.ensures.items in
     let table : InTable r c.push.new.self.items = subst (InTable r) (sym pushed) c.requires.table in
-    let left : IsLeft r c.push.new.self.items (tails_of c.args.tails.now) = subst (λ set. IsLeft r set (tails_of c.args.tails.now)) (sym pushed) c.requires.left in
+    let left : IsLeft r c.push.new.self.items (tails_of c.args.tails.now) =
+    subst (λ set. IsLeft r set (tails_of c.args.tails.now)) (sym pushed) c.requires.left in
     let filled : c.fill.new.self.ranks ≡ c.args.later.now = c.in_ok-fill.ensures.ranks in
     let enough : AreEnough s r c.push.new.self.items c.fill.new.self.ranks =
     subst (λ set. AreEnough s r set c.fill.new.self.ranks) (sym pushed)
@@ -63,7 +69,8 @@ enter-search-requires g t c κs within =
 
 pub search-children-requires-clause-enough : goal.search-children-requires-clause-enough
 search-children-requires-clause-enough g t c =
-    subst (λ set. AreEnough (g.C.Collect.state c.args.collect.now) c.args.ranked.now set c.args.board.now.kept.ranks) (sym c.deref.ensures.value) c.requires.enough
+    subst (λ set. AreEnough (g.C.Collect.state c.args.collect.now) c.args.ranked.now set c.args.board.now.kept.ranks)
+    (sym c.deref.ensures.value) c.requires.enough
 
 pub search-returns-in_err-offer_children-clause-searches : goal.search-returns-in_err-offer_children-clause-searches
 search-returns-in_err-offer_children-clause-searches g t c =
@@ -176,7 +183,8 @@ search-enter-requires g t c κs within =
     subst (AreEnough s r (c.chosen.ranks.items ++ rank ∷ [])) later
     (subst (λ set. AreEnough s r (set ++ rank ∷ []) c.in_ok-later.later.items) same (so_far-enough so_far c.requires.ordered c.chosen-test.true none)) in
     let once : IsDistinct nat_eq c.deref-in-chosen-2.result.now = subst (IsDistinct nat_eq) later (so_far-once so_far c.requires.ordered) in
-    let inside : AllByRecursion (λ z. z < n) c.deref-in-chosen-2.result.now = subst (AllByRecursion (λ z. z < n)) later (so_far-within so_far c.requires.ordered) in
+    let inside : AllByRecursion (λ z. z < n) c.deref-in-chosen-2.result.now =
+    subst (AllByRecursion (λ z. z < n)) later (so_far-within so_far c.requires.ordered) in
     let ordered : IsInOrder s = so_far-ordered so_far c.requires.ordered in
     let before = c.requires.floor in
     let rises : floor_in (g.C.Collect.state c.args.collect.now) ≤ℤ floor_in s = so_far-rises so_far c.requires.ordered in
@@ -216,5 +224,6 @@ search-returns-clause-searches g t c =
     let none : Child = record { rank = 0; utility = pos 0; support = 0; bound = pos 0 } in
     so_far-all c.chosen.invariant.so_far c.requires.ordered none (elim c.chosen-test.branch [
       | search-else-chosen-test w ↦ inl (omega (arith, w.chosen-test.false))
-      | search-then-chosen-test+then-child-floor w ↦ inr (omega (arith, ints, w.floor-in-chosen.ensures.value, w.if-child-floor.true, w.floor-in-chosen.type_inv))
+      | search-then-chosen-test+then-child-floor w ↦ inr (omega
+          (arith, ints, w.floor-in-chosen.ensures.value, w.if-child-floor.true, w.floor-in-chosen.type_inv))
     ])

@@ -12,6 +12,7 @@ search-requires-clause-enough g c =
 
 pub returns : goal.returns
 returns g c =
-    mined-patterns c.args.ranked.now c.record_tails.ensures.rules (g.C.Collect.state c.args.collect.now) (g.C.Collect.state c.search.new.collect) c.search.result
+    mined-patterns c.args.ranked.now c.record_tails.ensures.rules (g.C.Collect.state c.args.collect.now)
+    (g.C.Collect.state c.search.new.collect) c.search.result
     (subst (λ set. Searches (g.C.Collect.state c.args.collect.now) (Grows c.args.ranked.now set) (g.C.Collect.state c.search.new.collect) c.search.result)
     c.new-2.ensures.items c.search.ensures.searches)

@@ -12,7 +12,8 @@ no_cell : Dense
 no_cell = record { rank = 0; value = pos 0 }
 
 pub returns-in_err-at : goal.returns-in_err-at
-returns-in_err-at c = ap option_to_list c.from_residual.ensures ∙ sym (node_in-none c.args.place c.args.rank c.args.cells.now (sym c.place_of.ensures ∙ c.in_err-at.was))
+returns-in_err-at c = ap option_to_list c.from_residual.ensures
+    ∙ sym (node_in-none c.args.place c.args.rank c.args.cells.now (sym c.place_of.ensures ∙ c.in_err-at.was))
 
 pub gain-requires : goal.gain-requires
 gain-requires c =
@@ -26,5 +27,7 @@ returns c =
     let cells = c.args.cells.now in
     let at = c.in_ok-at.at in
     let found = node_in-at c.args.place c.args.rank at cells no_cell (sym c.place_of.ensures ∙ c.in_ok-at.was) in
-    let rest : c.gain.result ≡ gain (map dense_pair (drop (suc at) cells)) = c.gain.ensures ∙ ap (λ cs. gain (map dense_pair cs)) (take_rest cells (at + 1) ∙ ap (λ n. drop n cells) (add-one at)) in
-    same_single c.args.place _ (get_or cells at no_cell).value _ (gain (map dense_pair (drop (suc at) cells))) _ (omega (arith, ints)) (omega (arith, ints, rest, c.gain.type_inv)) found
+    let rest : c.gain.result ≡ gain (map dense_pair (drop (suc at) cells)) = c.gain.ensures
+    ∙ ap (λ cs. gain (map dense_pair cs)) (take_rest cells (at + 1) ∙ ap (λ n. drop n cells) (add-one at)) in
+    same_single c.args.place _ (get_or cells at no_cell).value _ (gain (map dense_pair (drop (suc at) cells))) _
+    (omega (arith, ints)) (omega (arith, ints, rest, c.gain.type_inv)) found

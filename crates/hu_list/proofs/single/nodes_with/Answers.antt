@@ -24,7 +24,9 @@ loop-place-preserved c =
     let cells = pairs_in (get_or records i r) in
     let up = at-records (λ cells. Ascend (items_in cells)) records i r (each-ascending (map pairs_in records) c.requires.ascending) c.loop-place-test.true in
     let size = length-map (take i records) pairs_in ∙ length-take-le i records (omega arith) in
-    let node : option_to_list c.node_in.result ≡ node_in i c.args.rank cells = c.node_in.ensures ∙ ap (λ ds. node_in i c.args.rank (map dense_pair ds)) c.deref.ensures.value ∙ ap (λ v. node_in i c.args.rank (pairs_in v)) c.index-records-place.is in
+    let node : option_to_list c.node_in.result ≡ node_in i c.args.rank cells = c.node_in.ensures
+    ∙ ap (λ ds. node_in i c.args.rank (map dense_pair ds)) c.deref.ensures.value
+    ∙ ap (λ v. node_in i c.args.rank (pairs_in v)) c.index-records-place.is in
     c.in_ok-push_some.ensures
     ∙ (λ j. c.loop-place.invariant j ++ node j)
     ∙ sym (list_of-more (map pairs_in (take i records)) cells i c.args.rank size up)

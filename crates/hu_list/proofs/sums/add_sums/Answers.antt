@@ -21,12 +21,16 @@ add_cell-rest-requires-clause-fits c =
     let next : length cells - c.loop-back.back ≡ i + 1 = omega (arith, c.loop-back-test.true) in
     let within : i < length cells = omega (arith, c.loop-back-test.true) in
     let cell = get_or cells i none in
-    let rest : to_z w128 c.loop-back.rest-bits ≡ kept_gain keep (cells_of (drop (i + 1) cells)) = c.loop-back.invariant.rest ∙ ap (λ n. kept_gain keep (cells_of (drop n cells))) next in
+    let rest : to_z w128 c.loop-back.rest-bits ≡ kept_gain keep (cells_of (drop (i + 1) cells)) =
+    c.loop-back.invariant.rest ∙ ap (λ n. kept_gain keep (cells_of (drop n cells))) next in
     let same : at no_sum keep c.loop-back.sums.items cell.rank ≡ at no_sum keep c.args.sums.now.items cell.rank =
     c.loop-back.invariant.sums cell.rank
     ∙ ap (λ n. met (summing keep tail) cell.rank (cells_of (drop n cells)) (at no_sum keep c.args.sums.now.items cell.rank)) next
-    ∙ met-below (summing keep tail) cell.rank (cells_of (drop (i + 1) cells)) (at no_sum keep c.args.sums.now.items cell.rank) (rank-below cells i none c.requires.rules.ascending within) in
-    subst (λ sum. SumsFit sum (unsigned_abs (to_z w128 (of_z w128 c.args.tail.now.own)) + unsigned_abs cell.value + unsigned_abs (to_z w128 c.loop-back.rest-bits))) (sym same)
+    ∙ met-below (summing keep tail) cell.rank (cells_of (drop (i + 1) cells))
+    (at no_sum keep c.args.sums.now.items cell.rank) (rank-below cells i none c.requires.rules.ascending within) in
+    subst (λ sum. SumsFit sum
+    (unsigned_abs (to_z w128 (of_z w128 c.args.tail.now.own)) + unsigned_abs cell.value + unsigned_abs
+    (to_z w128 c.loop-back.rest-bits))) (sym same)
     (fits-less (at no_sum keep c.args.sums.now.items cell.rank) (size_of tail) _
     (let fits = c.requires.fits cell.rank in omega (arith, ints, ap unsigned_abs rest, place-within keep cells i none within, fits.utility))
     (c.requires.fits cell.rank))
@@ -39,7 +43,8 @@ overflow_add-rest c =
     let i = length cells - 1 - c.loop-back.back in
     let next : length cells - c.loop-back.back ≡ i + 1 = omega (arith, c.loop-back-test.true) in
     let within : i < length cells = omega (arith, c.loop-back-test.true) in
-    let rest : to_z w128 c.loop-back.rest-bits ≡ kept_gain keep (cells_of (drop (i + 1) cells)) = c.loop-back.invariant.rest ∙ ap (λ n. kept_gain keep (cells_of (drop n cells))) next in
+    let rest : to_z w128 c.loop-back.rest-bits ≡ kept_gain keep (cells_of (drop (i + 1) cells)) =
+    c.loop-back.invariant.rest ∙ ap (λ n. kept_gain keep (cells_of (drop n cells))) next in
     let fits = c.requires.fits 0 in
     omega (arith, ints, rest, c.add_cell-rest.ensures.part, kept_gain-rest keep cells i none within, rest-within keep cells i, fits.utility)
 
@@ -55,8 +60,10 @@ loop-back-preserved c =
     let within : i < length cells = omega (arith, c.loop-back-test.true) in
     let cell = get_or cells i none in
     let fits = c.requires.fits 0 in
-    let rest : to_z w128 c.loop-back.rest-bits ≡ kept_gain keep (cells_of (drop (i + 1) cells)) = c.loop-back.invariant.rest ∙ ap (λ n. kept_gain keep (cells_of (drop n cells))) next in
-    let more : to_z w128 (of_z w128 (to_z w128 c.loop-back.rest-bits +ℤ to_z w128 (of_z w128 c.add_cell-rest.result))) ≡ kept_gain keep (cells_of (drop i cells)) =
+    let rest : to_z w128 c.loop-back.rest-bits ≡ kept_gain keep (cells_of (drop (i + 1) cells)) =
+    c.loop-back.invariant.rest ∙ ap (λ n. kept_gain keep (cells_of (drop n cells))) next in
+    let more : to_z w128 (of_z w128 (to_z w128 c.loop-back.rest-bits +ℤ to_z w128 (of_z w128 c.add_cell-rest.result)))
+    ≡ kept_gain keep (cells_of (drop i cells)) =
     omega (arith, ints, rest, c.add_cell-rest.ensures.part, kept_gain-rest keep cells i none within, rest-within keep cells i, fits.utility) in
     let own : to_z w128 (of_z w128 c.args.tail.now.own) ≡ tail.own = omega (arith, ints, fits.utility) in
     let first : ℕ → Sum = λ z. at no_sum keep c.args.sums.now.items z in
@@ -64,8 +71,12 @@ loop-back-preserved c =
     let new : ℕ → Sum = λ z. at no_sum keep c.add_cell-rest.new.sums.items z in
     let before : (z : ℕ) → old z ≡ met (summing keep tail) z (cells_of (drop (i + 1) cells)) (first z) =
     λ z. c.loop-back.invariant.sums z ∙ ap (λ n. met (summing keep tail) z (cells_of (drop n cells)) (first z)) next in
-    let added : (z : ℕ) → new z ≡ cond (eqb z cell.rank) (cond (among cell.rank keep) (sum_with (old z) (tail.own +ℤ cell.value) (kept_gain keep (cells_of (drop (i + 1) cells)))) (old z)) (old z) =
-    λ z. c.add_cell-rest.ensures.sums z ∙ (λ j. cond (eqb z cell.rank) (cond (among cell.rank keep) (sum_with (old z) (own j +ℤ cell.value) (rest j)) (old z)) (old z)) in
+    let added : (z : ℕ) → new z
+    ≡ cond (eqb z cell.rank) (cond (among cell.rank keep)
+    (sum_with (old z) (tail.own +ℤ cell.value) (kept_gain keep (cells_of (drop (i + 1) cells)))) (old z)) (old z) =
+    λ z. c.add_cell-rest.ensures.sums z
+    ∙ (λ j. cond (eqb z cell.rank) (cond (among cell.rank keep) (sum_with (old z) (own j +ℤ cell.value) (rest j))
+    (old z)) (old z)) in
     record {
       len = c.add_cell-rest.ensures.len;
       rest = more ∙ sym (ap (λ n. kept_gain keep (cells_of (drop n cells))) here);

@@ -10,5 +10,6 @@ invariant-loop-back l = record {
   len : length l.sums.items ≡ length l.slots.ranks;
   rest : l.rest ≡ kept_gain l.slots.ranks (cells_of (drop (length l.tail.cells.now - l.back) l.tail.cells.now));
   sums : (z : ℕ) → at no_sum l.slots.ranks l.sums.items z
-      ≡ met (summing l.slots.ranks (tail_of l.tail)) z (cells_of (drop (length l.tail.cells.now - l.back) l.tail.cells.now)) (at no_sum l.slots.ranks l.fn.sums.items z);
+      ≡ met (summing l.slots.ranks (tail_of l.tail)) z (cells_of
+      (drop (length l.tail.cells.now - l.back) l.tail.cells.now)) (at no_sum l.slots.ranks l.fn.sums.items z);
 }

@@ -14,9 +14,11 @@ pub loop-tail-init : goal.loop-tail-init
 loop-tail-init c =
     let ranks = c.args.slots.now.ranks in
     let none : (z : ℕ) → at no_sum ranks c.in_ok-sums.sums.items z ≡ no_sum =
-    λ z. ap (λ sums. at no_sum ranks sums z) (c.in_ok-sums.ensures.items_if_clones_equal (λ sum same. same)) ∙ at-replicate no_sum ranks (length c.ranks.result.now) z in
+    λ z. ap (λ sums. at no_sum ranks sums z) (c.in_ok-sums.ensures.items_if_clones_equal (λ sum same. same))
+    ∙ at-replicate no_sum ranks (length c.ranks.result.now) z in
     record {
-      len = ap length (c.in_ok-sums.ensures.items_if_clones_equal (λ sum same. same)) ∙ length-replicate (length c.ranks.result.now) no_sum ∙ ap length c.ranks.ensures.ranks;
+      len = ap length (c.in_ok-sums.ensures.items_if_clones_equal (λ sum same. same))
+          ∙ length-replicate (length c.ranks.result.now) no_sum ∙ ap length c.ranks.ensures.ranks;
       support = λ z. let n = ap (λ (s : Sum). s.support) (none z) in omega (arith, n);
       utility = λ z. omega (arith, ap (λ (s : Sum). unsigned_abs s.utility) (none z), c.requires.rules.sizes);
       bound = λ z. omega (arith, ap (λ (s : Sum). unsigned_abs s.bound) (none z), c.requires.rules.sizes);
@@ -38,7 +40,9 @@ loop-tail-preserved c =
     let old : ℕ → Sum = λ z. at no_sum keep c.loop-tail.sums.items z in
     let new : ℕ → Sum = λ z. at no_sum keep c.add_sums.new.sums.items z in
     let split = sizes-split tails i none c.loop-tail-test.true in
-    let near : (z : ℕ) → Sums (old z) (new z) (size_of tail) = λ z. subst (λ s. Sums (old z) s (size_of tail)) (sym (c.add_sums.ensures.sums z)) (summing-within keep tail z tail.cells (old z) (omega arith)) in
+    let near : (z : ℕ) → Sums (old z) (new z) (size_of tail) =
+    λ z. subst (λ s. Sums (old z) s (size_of tail)) (sym (c.add_sums.ensures.sums z))
+    (summing-within keep tail z tail.cells (old z) (omega arith)) in
     record {
       len = c.add_sums.ensures.len;
       support = λ z. let n = near z in let more = n.support in omega (arith, more, c.loop-tail.invariant.support z);

@@ -10,7 +10,15 @@ overflow_add-gain c =
     let keep = c.args.kept.now.ranks in
     let cells = c.args.cells.now in
     let i = c.loop-cell.cell-index in
-    omega (arith, ints, kept_gain-more keep cells i none c.loop-cell-test.true, kept_gain-take keep cells (i + 1), c.kept_part-gain.ensures, c.loop-cell.invariant, c.requires)
+    omega (
+      arith,
+      ints,
+      kept_gain-more keep cells i none c.loop-cell-test.true,
+      kept_gain-take keep cells (i + 1),
+      c.kept_part-gain.ensures,
+      c.loop-cell.invariant,
+      c.requires,
+    )
 
 pub loop-cell-preserved : goal.loop-cell-preserved
 loop-cell-preserved c =
@@ -18,4 +26,12 @@ loop-cell-preserved c =
     let keep = c.args.kept.now.ranks in
     let cells = c.args.cells.now in
     let i = c.loop-cell.cell-index in
-    omega (arith, ints, kept_gain-more keep cells i none c.loop-cell-test.true, kept_gain-take keep cells (i + 1), c.kept_part-gain.ensures, c.loop-cell.invariant, c.requires)
+    omega (
+      arith,
+      ints,
+      kept_gain-more keep cells i none c.loop-cell-test.true,
+      kept_gain-take keep cells (i + 1),
+      c.kept_part-gain.ensures,
+      c.loop-cell.invariant,
+      c.requires,
+    )

@@ -13,7 +13,8 @@ pub returns : goal.returns
 returns c =
     let records = records_of c.args.base.now in
     let inner = c.new.result in
-    let began : limited_state inner ≡ fresh c.args.start c.args.top = c.new.ensures ∙ ap (λ n. fresh n c.args.top) (to_z-of_z w128 c.args.start c.ranges.start) in
+    let began : limited_state inner ≡ fresh c.args.start c.args.top = c.new.ensures
+    ∙ ap (λ n. fresh n c.args.top) (to_z-of_z w128 c.args.start c.ranges.start) in
     let first = c.new-collect.ensures.state in
     let sets = c.requires.sets in
     let last = c.into_inner.result in

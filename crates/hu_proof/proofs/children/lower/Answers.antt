@@ -2,7 +2,9 @@ use Rattle.std.proofs.Common.{sym, inl, inr}
 use Rattle.hu_proof.proofs.Ranks.{StandsAt-position}
 use Rattle.hu_proof.proofs.Lowest.{lower-no, lower-none, at-stands, named-none, named-some}
 use Rattle.hu_proof.proofs.children.lower.Goals as goal
-use Rattle.hu_proof.proofs.children.lower.Goals.{else-from-rank-via-then-from-rank+then-rank-low+else-is_none, else-from-rank-via-then-from-rank+else-rank-low, else-from-rank-via-else-from-rank}
+use Rattle.hu_proof.proofs.children.lower.Goals.{else-from-rank-via-then-from-rank+then-rank-low+else-is_none}
+use Rattle.hu_proof.proofs.children.lower.Goals.{else-from-rank-via-then-from-rank+else-rank-low}
+use Rattle.hu_proof.proofs.children.lower.Goals.{else-from-rank-via-else-from-rank}
 
 pub returns-in_err-rank-clause-none : goal.returns-in_err-rank-clause-none
 returns-in_err-rank-clause-none c =

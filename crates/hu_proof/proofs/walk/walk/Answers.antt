@@ -1,4 +1,5 @@
-use Rattle.std.proofs.Common.{◌≡◌, ◌+◌, ◌<◌, ◌^◌, ◌++◌, ◌∷◌, [], pos, List, None, Some, refl, sym, ap, ◌∙◌, subst, arith, drop, length, map, inr, ◌⊎◌, sum_by, append_assoc}
+use Rattle.std.proofs.Common.{◌≡◌, ◌+◌, ◌<◌, ◌^◌, ◌++◌, ◌∷◌, [], pos, List, None, Some, refl, sym, ap, ◌∙◌, subst}
+use Rattle.std.proofs.Common.{arith, drop, length, map, inr, ◌⊎◌, sum_by, append_assoc}
 use Rattle.std.specs.Int.{w128}
 use mir.Val.{to_z, of_z}
 use Rattle.std.proofs.lemmas.Bool.{eqb-false}
@@ -17,7 +18,8 @@ use Rattle.hu_proof.specs.Text.{pieces, said_of}
 use Rattle.hu_proof.specs.Waiting.{stack_of, nodes_of, nodes_now, entry_at, Stands, IsNode, Fits, PushesChildren}
 use Rattle.hu_proof.specs.Words.{numbers_of}
 use Rattle.hu_proof.proofs.LineLemmas.{judged-same}
-use Rattle.hu_proof.proofs.TurnLemmas.{root-node, room-node, walk-end, walk-fault, judges-err, some-pieces, length-numbers, passed, turned, entry-held, offered-more}
+use Rattle.hu_proof.proofs.TurnLemmas.{root-node, room-node, walk-end, walk-fault, judges-err, some-pieces}
+use Rattle.hu_proof.proofs.TurnLemmas.{length-numbers, passed, turned, entry-held, offered-more}
 use Rattle.hu_proof.proofs.walk.walk.Goals as goal
 
 pub lines-init : goal.lines-init

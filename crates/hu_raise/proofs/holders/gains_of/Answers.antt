@@ -23,5 +23,6 @@ loop-record-preserved c =
     let fits : FitsSigned w128 c.gain_of.result = search rules in
     let gained : to_z w128 (of_z w128 c.gain_of.result) ≡ gain (pairs_in c.record-item.result) =
     to_z-of_z w128 c.gain_of.result fits ∙ c.gain_of.ensures ∙ ap (λ cells. gain (map dense_pair cells)) c.deref.ensures.value in
-    gains-step records c.loop-record.record-index c.record-item.result before c.push.new.self.items c.loop-record-test.true c.record-item.is c.loop-record.invariant
+    gains-step records c.loop-record.record-index c.record-item.result before c.push.new.self.items
+    c.loop-record-test.true c.record-item.is c.loop-record.invariant
     (c.in_ok-push.ensures.items ∙ ap (λ g. before ++ g ∷ []) gained)

@@ -28,7 +28,14 @@ loop-cell-preserved c =
     let within : i < length (map dense_pair cells) = omega (arith, length-map cells dense_pair) in
     let is = pair-at cells i no_cell c.loop-cell-test.true in
     let same = ap (λ p. p.0) is in
-    let below : cell.rank < length lists = omega (arith, c.loop-cell.auto.holders, rank-within (length c.args.holders.now) (map dense_pair cells) i (0, pos 0) c.requires.in_range within) in
+    let below : cell.rank < length lists =
+    omega (
+      arith,
+      c.loop-cell.auto.holders,
+      rank-within (length c.args.holders.now) (map dense_pair cells) i
+          (0, pos 0) c.requires.in_range within,
+    ) in
     let below' : cell.rank < length (lists_in lists) = omega (arith, length-map lists (λ v. v.items)) in
     let put = lists-set lists cell.rank c.args.place c.index-holders-cell.result c.push.new.self below c.in_ok-push.ensures.items in
-    hold-step_at (lists_in c.args.holders.now) (lists_in lists) _ (map dense_pair cells) i (dense_pair cell) c.args.place c.requires.ascending within is c.loop-cell.invariant below' put
+    hold-step_at (lists_in c.args.holders.now) (lists_in lists) _ (map dense_pair cells) i
+    (dense_pair cell) c.args.place c.requires.ascending within is c.loop-cell.invariant below' put

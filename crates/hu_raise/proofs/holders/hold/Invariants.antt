@@ -6,4 +6,5 @@ use Rattle.hu_raise.proofs.holders.hold.Given as goal
 
 abbrev pub invariant-loop-cell : goal.invariant-loop-cell
 invariant-loop-cell l =
-    (rank : ℕ) → get_or (lists_in l.holders) rank [] ≡ get_or (lists_in l.initial.holders) rank [] ++ cond (has rank (take l.cell-index (map dense_pair l.cells))) (l.place ∷ []) []
+    (rank : ℕ) → get_or (lists_in l.holders) rank [] ≡ get_or (lists_in l.initial.holders) rank []
+    ++ cond (has rank (take l.cell-index (map dense_pair l.cells))) (l.place ∷ []) []

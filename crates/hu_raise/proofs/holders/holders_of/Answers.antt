@@ -37,7 +37,9 @@ loop-place-preserved c =
           ∙ c.in_ok-hold.ensures rank
           ∙ (λ j. get_or (lists_in (c.deref_mut.ensures.value j)) rank [] ++ cond (has rank (here j)) (i ∷ []) [])
           ∙ ap (λ places. places ++ cond (has rank (get_or pairs i [])) (i ∷ []) []) (c.loop-place.invariant.places rank below)
-          ∙ sym (rw add-one (places-more 0 rank pairs i within ∙ ap (λ p. places_from 0 rank (take i pairs) ++ cond (has rank (get_or pairs i [])) (p ∷ []) []) (let from_0 : 0 + i ≡ i = omega arith in from_0)));
+          ∙ sym (rw add-one (places-more 0 rank pairs i within
+          ∙ ap (λ p. places_from 0 rank (take i pairs) ++ cond (has rank (get_or pairs i [])) (p ∷ []) [])
+          (let from_0 : 0 + i ≡ i = omega arith in from_0)));
     }
 
 pub returns : goal.returns

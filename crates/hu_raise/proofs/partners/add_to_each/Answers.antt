@@ -28,7 +28,10 @@ add-requires-clause-fits c =
     let gain = to_z w128 (of_z w128 c.args.gain) in
     let cell = get_or cells i no_cell in
     let within : i < length (map dense_pair cells) = omega (arith, length-map cells dense_pair) in
-    let old = add-before c.args.sums.now c.loop-cell.sums (map dense_pair cells) i (dense_pair cell) gain c.requires.rules.ascending within (pair-at cells i no_cell c.loop-cell-test.true) c.loop-cell.invariant.added in
+    let old =
+    add-before c.args.sums.now c.loop-cell.sums (map dense_pair cells) i
+    (dense_pair cell) gain c.requires.rules.ascending within
+    (pair-at cells i no_cell c.loop-cell-test.true) c.loop-cell.invariant.added in
     let same = to_z-of_z w128 c.args.gain c.ranges.gain in
     subst (λ s. s <ℤ pos (2 ^ 127)) (λ j. sym old j +ℤ sym same j) (c.requires.fits cell.rank)
 
@@ -42,8 +45,16 @@ loop-cell-preserved c =
     let within : i < length (map dense_pair cells) = omega (arith, length-map cells dense_pair) in
     let is = pair-at cells i no_cell c.loop-cell-test.true in
     let same = ap (λ p. p.0) is in
-    let below : cell.rank < length sums = omega (arith, c.loop-cell.invariant.long, rank-within (length c.args.sums.now) (map dense_pair cells) i (0, pos 0) c.requires.rules.in_range within) in
+    let below : cell.rank < length sums =
+    omega (
+      arith,
+      c.loop-cell.invariant.long,
+      rank-within (length c.args.sums.now) (map dense_pair cells) i
+          (0, pos 0) c.requires.rules.in_range within,
+    ) in
     record {
       long = ap length c.in_ok-add.ensures ∙ length-set sums cell.rank (sum_at sums cell.rank +ℤ gain) ∙ c.loop-cell.invariant.long;
-      added = add-step_at c.args.sums.now sums c.add.new.self (map dense_pair cells) i (dense_pair cell) gain c.requires.rules.ascending within is c.loop-cell.invariant.added below c.in_ok-add.ensures;
+      added = add-step_at c.args.sums.now sums c.add.new.self (map dense_pair cells) i
+          (dense_pair cell) gain c.requires.rules.ascending within is c.loop-cell.invariant.added below
+          c.in_ok-add.ensures;
     }

@@ -32,5 +32,9 @@ returns c =
     ap (map dense_pair) (take_all (length cells - start) (drop start cells) (omega (arith, length-drop start cells)))
     ∙ sym (drop-map dense_pair start cells)
     ∙ drop-filter (λ cell. nat_lt rank cell.0) pairs start (0, pos 0) (omega (arith, length-map cells dense_pair, c.partition_point-start.ensures.bound))
-    (λ k below. let within : k < length cells = omega (arith, c.partition_point-start.ensures.bound) in let low = parted.0 k no_cell (omega arith) below in let same = ap (λ p. p.0) (pair-at cells k no_cell within) in grind (arith, nat_tests))
-    (λ k above below. let within : k < length cells = omega (arith, length-map cells dense_pair) in let high = parted.1 k no_cell above within in let same = ap (λ p. p.0) (pair-at cells k no_cell within) in grind (arith, nat_tests))
+    (λ k below. let within : k < length cells = omega (arith, c.partition_point-start.ensures.bound) in let low =
+    parted.0 k no_cell (omega arith) below in let same =
+    ap (λ p. p.0) (pair-at cells k no_cell within) in grind (arith, nat_tests))
+    (λ k above below. let within : k < length cells = omega (arith, length-map cells dense_pair) in let high =
+    parted.1 k no_cell above within in let same =
+    ap (λ p. p.0) (pair-at cells k no_cell within) in grind (arith, nat_tests))

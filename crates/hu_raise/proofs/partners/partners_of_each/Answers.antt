@@ -51,7 +51,8 @@ loop-rank-preserved c =
     let new = c.in_ok-reaching.field-0 in
     let least : pos 1 ≤ℤ floor = subst (λ f. pos 1 ≤ℤ f) (sym same) c.requires.floor in
     let row : new.items ≡ partners pairs floor c.args.ranks rank =
-    c.in_ok-reaching.ensures ∙ reaching-partners pairs floor rank c.sum_pairs.new.sums least c.in_ok-sum_pairs.ensures.sums ∙ ap (λ n. partners pairs floor n rank) long in
+    c.in_ok-reaching.ensures ∙ reaching-partners pairs floor rank c.sum_pairs.new.sums least
+    c.in_ok-sum_pairs.ensures.sums ∙ ap (λ n. partners pairs floor n rank) long in
     record {
       long = long;
       found = ap lists_in c.in_ok-push.ensures.items

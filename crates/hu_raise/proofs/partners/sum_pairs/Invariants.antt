@@ -8,5 +8,6 @@ use Rattle.hu_raise.proofs.partners.sum_pairs.Given as goal
 abbrev pub invariant-loop-place : goal.invariant-loop-place
 invariant-loop-place l = record {
   long : length l.sums ≡ length l.initial.sums;
-  summed : (later : ℕ) → sum_at l.sums later ≡ cond (nat_lt l.rank later) (pair_twu (take l.place-index (held l.rank (map pairs_in l.records))) l.rank later) (pos 0);
+  summed : (later : ℕ) → sum_at l.sums later ≡ cond (nat_lt l.rank later)
+      (pair_twu (take l.place-index (held l.rank (map pairs_in l.records))) l.rank later) (pos 0);
 }

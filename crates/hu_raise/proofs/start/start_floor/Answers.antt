@@ -14,8 +14,11 @@ pub returns-clause-value : goal.returns-clause-value
 returns-clause-value c =
     let sorted = c.sort_unstable_by.new.self.items in
     let down = Descend-from_sorted sorted
-    (c.sort_unstable_by.ensures.sorted (λ x y. is_lt (int_cmp y x)) (IsStrictWeakOrder-flip _ (ranks_by int_cmp_total (λ x. x))) (answers_always _ _ _ (λ f a r f' k. search rules))) in
-    let made : descending (earned c.args.totals.now) ≡ sorted = ap descending (sym c.in_ok-utilities.ensures) ∙ descending-permutation c.in_ok-utilities.utilities.items sorted c.sort_unstable_by.ensures.permutation down in
+    (c.sort_unstable_by.ensures.sorted (λ x y. is_lt (int_cmp y x))
+    (IsStrictWeakOrder-flip _ (ranks_by int_cmp_total (λ x. x)))
+    (answers_always _ _ _ (λ f a r f' k. search rules))) in
+    let made : descending (earned c.args.totals.now) ≡ sorted = ap descending (sym c.in_ok-utilities.ensures)
+    ∙ descending-permutation c.in_ok-utilities.utilities.items sorted c.sort_unstable_by.ensures.permutation down in
     let fits : FitsSigned w128 c.unwrap_or.result = search rules in
     let place = c.args.k - 1 in
     to_z-of_z w128 c.unwrap_or.result fits

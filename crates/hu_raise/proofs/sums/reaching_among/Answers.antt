@@ -17,6 +17,9 @@ loop-rank-preserved c =
     let fits : FitsSigned w128 sum = search rules in
     elim c.if-sums-rank.branch [
       | then-sums-rank+in_ok-push w ↦ let test = rw (to_z-of_z w128 sum fits) at w.if-sums-rank.true in
-          filter-more_yes reaches ranks i before _ c.loop-rank-test.true c.loop-rank.invariant test (ap (λ v. v.items) w.reaching-is ∙ w.in_ok-push.ensures.items)
-      | else-sums-rank w ↦ let test = rw (to_z-of_z w128 sum fits) at w.if-sums-rank.false in filter-more_no reaches ranks i before _ c.loop-rank-test.true c.loop-rank.invariant test (ap (λ v. v.items) w.reaching-is)
+          filter-more_yes reaches ranks i before _ c.loop-rank-test.true c.loop-rank.invariant test
+          (ap (λ v. v.items) w.reaching-is ∙ w.in_ok-push.ensures.items)
+      | else-sums-rank w ↦ let test =
+          rw (to_z-of_z w128 sum fits) at w.if-sums-rank.false in filter-more_no reaches ranks i before _
+          c.loop-rank-test.true c.loop-rank.invariant test (ap (λ v. v.items) w.reaching-is)
     ]

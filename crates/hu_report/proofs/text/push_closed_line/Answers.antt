@@ -11,4 +11,5 @@ returns-in_err-push_field g c =
 
 pub returns : goal.returns
 returns g c =
-    Passes-append _ _ _ c.push_utility.result (Forwards-append c.in_ok-push_key.ensures c.in_ok-push_field.ensures) c.push_utility.ensures (search (rules, to_z-of_z))
+    Passes-append _ _ _ c.push_utility.result (Forwards-append c.in_ok-push_key.ensures c.in_ok-push_field.ensures)
+    c.push_utility.ensures (search (rules, to_z-of_z))

@@ -7,7 +7,8 @@ use Rattle.hu_report.proofs.text.push_key.Goals as goal
 pub returns-in_err-push_number : goal.returns-in_err-push_number
 returns-in_err-push_number g c =
     let whole : c.args.numbers.now ≡ c.in-Some.first.now ∷ c.in-Some.others.now = search rules in
-    Passes-longer _ _ _ (spaced_text c.in-Some.others.now) c.from_residual.result c.from_residual.ensures.0 c.in_err-push_number.ensures (rw whole (search (rules, to_z-of_z)))
+    Passes-longer _ _ _ (spaced_text c.in-Some.others.now) c.from_residual.result c.from_residual.ensures.0
+    c.in_err-push_number.ensures (rw whole (search (rules, to_z-of_z)))
 
 pub returns : goal.returns
 returns g c =

@@ -17,5 +17,6 @@ returns-in-Err-clause-runs g c =
     let files = g.F.Files.state c.attempt.new.files in
     let out = g.O.Sink.state c.attempt.new.out in
     let err = g.E.Sink.state c.args.err.now in
-    let s = streams (texts_of c.args.words.now) (g.F.Files.state c.args.files.now) files (g.O.Sink.state c.args.out.now) out err (g.E.Sink.state c.tell.new.err) in
+    let s = streams (texts_of c.args.words.now) (g.F.Files.state c.args.files.now) files
+    (g.O.Sink.state c.args.out.now) out err (g.E.Sink.state c.tell.new.err) in
     rw c.status.ensures (stopped s c.in-Err.stop c.in-Err.ensures.ends c.tell.ensures)

@@ -18,7 +18,9 @@ returns c =
     ∙ (λ j. c.in_ok-items.ensures j ++ sym (slice_get-index table last c.item_of.result.0 c.item_of.ensures.value) j ∷ [])
     ∙ sym (map-append (λ rank. slice_index table rank) ranks (last ∷ [])) in
     let sorted = c.sort_unstable.ensures in
-    let key = key-sorted c.args.ranked.now c.requires.rules (ranks ++ last ∷ []) c.push.new.self.items c.sort_unstable.new.self.items c.requires.ascending c.requires.table numbered sorted.permutation
+    let key =
+    key-sorted c.args.ranked.now c.requires.rules (ranks ++ last ∷ []) c.push.new.self.items
+    c.sort_unstable.new.self.items c.requires.ascending c.requires.table numbered sorted.permutation
     (IsNonDecreasingBy-from_sort (λ (item : Item). item.0) c.sort_unstable.new.self.items sorted.sorted) in
     IfOk-weaker c.key_with.result (λ found. found ≡ map (λ (item : Item). pos item.0) c.deref.result.now) (λ found. found ≡ key_of table (ranks ++ last ∷ []))
     (λ found e. e ∙ ap (λ (items : List Item). map (λ (item : Item). pos item.0) items) c.deref.ensures.value ∙ key) c.key_with.ensures

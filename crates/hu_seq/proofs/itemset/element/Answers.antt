@@ -15,9 +15,12 @@ of-requires c =
 pub returns-in-Ok-clause-ok : goal.returns-in-Ok-clause-ok
 returns-in-Ok-clause-ok c =
     let some : 0 < length (pairs_of c.in_ok-cells.cells.items) = rw c.in_ok-cells.ensures.value c.requires.some in
-    let rules = IsItemset-ordered c.in_ok-cells.cells.items c.in-Ok.cells.items c.in-Ok.ensures.permutation c.in-Ok.ensures.ascending some c.in_ok-cells.ensures.in_range in
+    let rules =
+    IsItemset-ordered c.in_ok-cells.cells.items c.in-Ok.cells.items c.in-Ok.ensures.permutation
+    c.in-Ok.ensures.ascending some c.in_ok-cells.ensures.in_range in
     let is : c.of.result ≡ pairs_of c.in-Ok.cells.items = c.of.ensures in
-    let same : IsPermutation (pairs_of c.in_ok-cells.cells.items) (pairs_of c.in-Ok.cells.items) = IsPermutation-map pair_of c.in_ok-cells.cells.items c.in-Ok.cells.items c.in-Ok.ensures.permutation in
+    let same : IsPermutation (pairs_of c.in_ok-cells.cells.items) (pairs_of c.in-Ok.cells.items) =
+    IsPermutation-map pair_of c.in_ok-cells.cells.items c.in-Ok.cells.items c.in-Ok.ensures.permutation in
     record {
       value = is ∙ c.in-Ok.ensures.value ∙ ap by_item c.in_ok-cells.ensures.value;
       permutation = rw (is, ← c.in_ok-cells.ensures.value) same;

@@ -14,15 +14,22 @@ loop-token-preserved c =
           record {
             value =
                 ap pairs_of items
-                ∙ cells-push c.loop-token.cells.items c.args.itemset.now c.loop-token.token-index _ w.in-Some.cell c.loop-token-test.true (sym (ap (option_map pair_of) w.in-Some.is) ∙ c.cell.ensures.value) c.loop-token.invariant.value;
-            in_range = rw items (All-push (λ cell. cell.item.0 ≤ 2147483647) c.loop-token.cells.items w.in-Some.cell c.loop-token.invariant.in_range w.in-Some.ensures.in_range);
+                ∙ cells-push c.loop-token.cells.items c.args.itemset.now c.loop-token.token-index _ w.in-Some.cell
+                c.loop-token-test.true (sym (ap (option_map pair_of) w.in-Some.is) ∙ c.cell.ensures.value)
+                c.loop-token.invariant.value;
+            in_range =
+                rw items
+                (All-push (λ cell. cell.item.0 ≤ 2147483647) c.loop-token.cells.items w.in-Some.cell
+                c.loop-token.invariant.in_range w.in-Some.ensures.in_range);
           }
       | in_default w ↦
           let items = ap (λ v. v.items) w.cells-is in
           record {
             value =
                 ap pairs_of items
-                ∙ cells-skip c.loop-token.cells.items c.args.itemset.now c.loop-token.token-index _ c.loop-token-test.true (sym (ap (option_map pair_of) w.in_default.is) ∙ c.cell.ensures.value) c.loop-token.invariant.value;
+                ∙ cells-skip c.loop-token.cells.items c.args.itemset.now c.loop-token.token-index _
+                c.loop-token-test.true (sym (ap (option_map pair_of) w.in_default.is) ∙ c.cell.ensures.value)
+                c.loop-token.invariant.value;
             in_range = rw items c.loop-token.invariant.in_range;
           }
     ]

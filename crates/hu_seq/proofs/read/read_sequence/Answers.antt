@@ -17,11 +17,13 @@ returns-in_err-tokens-clause-always c = reading-memory c.args.line.now
 
 pub returns-clause-ok : goal.returns-clause-ok
 returns-clause-ok c =
-    reading-ok c.args.line.now c.deref.result.now (c.deref.ensures.value ∙ c.in_ok-tokens.ensures.told) c.in_ok-tokens.ensures.ok c.sequence.result c.sequence.ensures.value c.sequence.ensures.ok
+    reading-ok c.args.line.now c.deref.result.now (c.deref.ensures.value ∙ c.in_ok-tokens.ensures.told)
+    c.in_ok-tokens.ensures.ok c.sequence.result c.sequence.ensures.value c.sequence.ensures.ok
 
 pub returns-clause-err : goal.returns-clause-err
 returns-clause-err c =
-    reading-err c.args.line.now c.deref.result.now (c.deref.ensures.value ∙ c.in_ok-tokens.ensures.told) c.in_ok-tokens.ensures.ok c.sequence.result c.sequence.ensures.err
+    reading-err c.args.line.now c.deref.result.now (c.deref.ensures.value ∙ c.in_ok-tokens.ensures.told)
+    c.in_ok-tokens.ensures.ok c.sequence.result c.sequence.ensures.err
 
 pub returns-clause-always : goal.returns-clause-always
 returns-clause-always c = reading-memory c.args.line.now

@@ -28,7 +28,9 @@ push_later-requires-clause-places c =
     let left = subst (λ (ms : List Mark). AreRowsLeft records keep p ms c.rows.grown.items) c.in-Some.ensures.cases.0
     (c.rows.invariant p c.requires.places.1 c.requires.places.2) in
     let within = rows-within records keep p first later c.rows.grown.items left in
-    let seen = seen-row keep c.args.records.now first.row c.elements.result.now c.index-records-first.result within c.elements.ensures.value c.index-records-first.is in
+    let seen =
+    seen-row keep c.args.records.now first.row c.elements.result.now c.index-records-first.result within
+    c.elements.ensures.value c.index-records-first.is in
     let row = c.split_at.ensures.front ∙ ap (λ k. take k later) c.row_len.ensures in
     let all = rows-places records keep p first later c.rows.grown.items left (Ends-reached p c.requires.places.1) in
     let here = subst (λ r. AllByRecursion (IsPlaceOf r last) (places_of (first ∷ take (front_of first.row later) later))) (sym seen) all in
@@ -56,7 +58,9 @@ rows-preserved c p is places =
     let more = c.push_later.new.marks.items in
     let left = subst (λ (ms : List Mark). AreRowsLeft records keep p ms grown) c.in-Some.ensures.cases.0 (c.rows.invariant p is places) in
     let within = rows-within records keep p first later grown left in
-    let seen = seen-row keep c.args.records.now first.row c.elements.result.now c.index-records-first.result within c.elements.ensures.value c.index-records-first.is in
+    let seen =
+    seen-row keep c.args.records.now first.row c.elements.result.now c.index-records-first.result within
+    c.elements.ensures.value c.index-records-first.is in
     let row = c.split_at.ensures.front ∙ ap (λ k. take k later) c.row_len.ensures in
     let back = c.split_at.ensures.back ∙ ap (λ k. drop k later) c.row_len.ensures in
     let made = c.in_ok-push_later.ensures.marks ∙ (λ j. grown ++ filter (takes keep) (later_marks (seen j) first.row (places_of (first ∷ row j)))) in

@@ -25,7 +25,21 @@ overflow_sub-rest c =
     let stored = kept-z c.counted-value.result (omega (arith, ints, value, left.low))
     (omega (arith, ints, value, sum, left.later, left.front, c.requires.holds, c.requires.fits, c.requires.best)) in
     let best = kept-z tail.best c.requires.best (omega (arith, ints, sum, left.low, left.later, left.front, c.requires.holds, c.requires.fits)) in
-    omega (arith, ints, sum, value, stored, left.low, left.later, left.front, c.cells.invariant.left, c.cells.rest-is, c.requires.holds, c.requires.fits, c.requires.best)
+    omega (
+      arith,
+      ints,
+      sum,
+      value,
+      stored,
+      left.low,
+      left.later,
+      left.front,
+      c.cells.invariant.left,
+      c.cells.rest-is,
+      c.requires.holds,
+      c.requires.fits,
+      c.requires.best,
+    )
 
 pub overflow_add-mark-in-cells : goal.overflow_add-mark-in-cells
 overflow_add-mark-in-cells c =

@@ -5,4 +5,6 @@ use Rattle.hu_totals.proofs.lemmas.RecordCells.{Ascend-record}
 use Rattle.hu_totals.proofs.ranked.ranked_records.Goals as goal
 
 pub ranked_cells-requires-clause-ascending : goal.ranked_cells-requires-clause-ascending
-ranked_cells-requires-clause-ascending c = subst (λ cells. Ascend (items_in cells)) (sym c.cells.ensures.value) (Ascend-record c.record-item.result c.cells.ensures.rules)
+ranked_cells-requires-clause-ascending c =
+    subst (λ cells. Ascend (items_in cells)) (sym c.cells.ensures.value)
+    (Ascend-record c.record-item.result c.cells.ensures.rules)

@@ -20,7 +20,8 @@ add_cell-requires c =
     let cell = get_or cells i no_cell in
     let totals = pairs_with c.args.totals.now.entries in
     let gained = to_z w128 (of_z w128 c.gain_of-gain.result) in
-    let same = ap (λ t. total_in t cell.item.0) c.loop-cell.invariant ∙ total_in-before gained totals cells i no_cell c.requires.ascending c.loop-cell-test.true in
+    let same = ap (λ t. total_in t cell.item.0) c.loop-cell.invariant
+    ∙ total_in-before gained totals cells i no_cell c.requires.ascending c.loop-cell-test.true in
     let value = value-within cells i no_cell c.loop-cell-test.true in
     let gain = gain-within (pairs_of cells) in
     let is = c.gain_of-gain.ensures in
@@ -28,5 +29,6 @@ add_cell-requires c =
     let less : max (unsigned_abs cell.value) (unsigned_abs gained) ≤ absolute_of (pairs_of cells) = omega (arith, ints) in
     record {
       room = subst (λ t. HasRoom t (max (unsigned_abs cell.value) (unsigned_abs gained))) (sym same)
-          (HasRoom-less (total_in totals cell.item.0) (absolute_of (pairs_of cells)) (max (unsigned_abs cell.value) (unsigned_abs gained)) less (c.requires.room cell.item.0));
+          (HasRoom-less (total_in totals cell.item.0) (absolute_of (pairs_of cells))
+          (max (unsigned_abs cell.value) (unsigned_abs gained)) less (c.requires.room cell.item.0));
     }

@@ -15,7 +15,8 @@ loop-item-preserved c =
     let fits : FitsSigned w128 c.in-Some.value.now = search rules in
     let same_value = to_z-of_z w128 c.in-Some.value.now fits in
     let rest = zip (iter_rest (zip_first c.next.new.self)) (iter_rest (zip_second c.next.new.self)) in
-    let left : zip (iter_rest (zip_first c.loop-item.item-iterator)) (iter_rest (zip_second c.loop-item.item-iterator)) ≡ (c.in-Some.item.now, c.in-Some.value.now) ∷ rest = rw (more.0, more.1) refl in
+    let left : zip (iter_rest (zip_first c.loop-item.item-iterator)) (iter_rest (zip_second c.loop-item.item-iterator))
+    ≡ (c.in-Some.item.now, c.in-Some.value.now) ∷ rest = rw (more.0, more.1) refl in
     let push = c.in_ok-push.ensures.items in
     record {
       ready = (tt, tt);

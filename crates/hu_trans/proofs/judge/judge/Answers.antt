@@ -26,7 +26,8 @@ with_sum-requires-clause-rules c =
     let same = to_z-of_z w128 c.args.stated c.ranges.stated in
     let cells = ap pairs_of c.deref.ensures.value in
     let small = small_from_none c.args.stated (pairs_of c.deref.result.now) (rw same at (sym c.in-Ok-sum.ensures.fault)) in
-    IsRecord-ordered c.in_ok-cells.cells.items c.in-Ok.cells.items c.args.items.now c.args.utilities.now c.in_ok-cells.ensures fine c.in-Ok.ensures.permutation c.in-Ok.ensures.ascending (rw cells at small)
+    IsRecord-ordered c.in_ok-cells.cells.items c.in-Ok.cells.items c.args.items.now c.args.utilities.now
+    c.in_ok-cells.ensures fine c.in-Ok.ensures.permutation c.in-Ok.ensures.ascending (rw cells at small)
 
 pub with_sum-requires-clause-sum : goal.with_sum-requires-clause-sum
 with_sum-requires-clause-sum c =

@@ -10,8 +10,12 @@ pub returns-in-Err-clause-bad : goal.returns-in-Err-clause-bad
 returns-in-Err-clause-bad c =
     let found = c.in-Some.ensures.found in
     let place = c.loop-said.invariant.place in
-    let first = bad_token-some number (tokens c.args.part.now) (tokens c.loop-said.rest.now) c.loop-said.at found.token _ _ place found.first (found.value ∙ c.in-Err.is) in
+    let first =
+    bad_token-some number (tokens c.args.part.now) (tokens c.loop-said.rest.now) c.loop-said.at found.token _ _
+    place found.first (found.value ∙ c.in-Err.is) in
     inr (ap (option_map (BadNumber 1)) first)
 
 pub returns-clause-good : goal.returns-clause-good
-returns-clause-good c = bad_token-none number (tokens c.args.part.now) (tokens c.loop-said.rest.now) c.loop-said.at c.loop-said.invariant.place c.in_default.ensures.none
+returns-clause-good c =
+    bad_token-none number (tokens c.args.part.now) (tokens c.loop-said.rest.now) c.loop-said.at
+    c.loop-said.invariant.place c.in_default.ensures.none

@@ -11,4 +11,5 @@ loop-at-preserved c =
     let none : Cell = record { item = record { 0 = 0 }; value = pos 0 } in
     let value = (get_or c.args.cells.now c.loop-at.at none).value in
     let fits : FitsSigned w128 value = search rules in
-    written-more (λ cell. signed_decimal cell.1) c.args.cells.now c.loop-at.at none _ _ _ _ c.loop-at-test.true c.loop-at.invariant (ap signed_decimal (to_z-of_z w128 value fits)) c.in_ok-push_next.ensures
+    written-more (λ cell. signed_decimal cell.1) c.args.cells.now c.loop-at.at none _ _ _ _ c.loop-at-test.true
+    c.loop-at.invariant (ap signed_decimal (to_z-of_z w128 value fits)) c.in_ok-push_next.ensures

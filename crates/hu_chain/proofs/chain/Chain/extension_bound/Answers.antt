@@ -20,7 +20,8 @@ returns-clause-bound c pattern other elements rules ends is from =
     let value = c.unwrap_or.ensures ∙ ap (λ o. unwrap_or o (pos 0)) (c.greatest_reach.ensures ∙ ap (greatest reach) (c.deref.ensures.value ∙ c.self.view_is)) in
     let fits = c.unwrap_or.type_inv in
     let stored : to_z w128 (of_z w128 c.unwrap_or.result) ≡ c.unwrap_or.result = omega (arith, ints) in
-    subst (λ bound. IsAtMost (best_utility other elements) bound) (sym (stored ∙ value ∙ ap extension_bound is)) (extension-holds pattern other elements rules ends from)
+    subst (λ bound. IsAtMost (best_utility other elements) bound) (sym (stored ∙ value ∙ ap extension_bound is))
+    (extension-holds pattern other elements rules ends from)
 
 pub returns-clause-within : goal.returns-clause-within
 returns-clause-within c item pattern elements rules from is =

@@ -14,8 +14,11 @@ use Rattle.hu_chain.proofs.chain.Chain.reduced_bound.Goals as goal
 pub occurs-requires-clause-places : goal.occurs-requires-clause-places
 occurs-requires-clause-places c =
     let pattern = c.requires.0 in
-    let ends = Ends-can_grow c.args.growth pattern c.args.item.0 c.requires.1 in
-    (last_item pattern, may_follow c.args.growth pattern c.args.item.0 c.requires.1, rules-seen pattern _ _ _ ends (c.deref.ensures.value ∙ c.self.view_is ∙ c.requires.2) c.elements.ensures.value)
+    let ends = Ends-can_grow c.args.growth pattern c.args.item.0 c.requires.1 in (
+      last_item pattern,
+      may_follow c.args.growth pattern c.args.item.0 c.requires.1,
+      rules-seen pattern _ _ _ ends (c.deref.ensures.value ∙ c.self.view_is ∙ c.requires.2) c.elements.ensures.value,
+    )
 
 pub returns-then-occurs-clause-value : goal.returns-then-occurs-clause-value
 returns-then-occurs-clause-value c pattern can is =
@@ -23,7 +26,9 @@ returns-then-occurs-clause-value c pattern can is =
     let elements = c.args.seq.now in
     let growth = c.args.growth in
     let item = c.args.item.0 in
-    let tested = ap (λ es. occurs growth item es places) (sym c.elements.ensures.value) ∙ ap (occurs growth item c.elements.result.now) (sym (c.deref.ensures.value ∙ c.self.view_is)) ∙ sym c.occurs.ensures ∙ c.if-occurs.true in
+    let tested = ap (λ es. occurs growth item es places) (sym c.elements.ensures.value)
+    ∙ ap (occurs growth item c.elements.result.now) (sym (c.deref.ensures.value ∙ c.self.view_is))
+    ∙ sym c.occurs.ensures ∙ c.if-occurs.true in
     let value = reduced-seen growth pattern item elements places true can is tested in
     let fits = c.extension_bound.type_inv in
     let stored : to_z w128 (of_z w128 c.extension_bound.result) ≡ c.extension_bound.result = omega (arith, ints) in
@@ -35,12 +40,16 @@ returns-then-occurs-clause-bound c pattern other can is from =
     let elements = c.args.seq.now in
     let growth = c.args.growth in
     let item = c.args.item.0 in
-    let tested = ap (λ es. occurs growth item es places) (sym c.elements.ensures.value) ∙ ap (occurs growth item c.elements.result.now) (sym (c.deref.ensures.value ∙ c.self.view_is)) ∙ sym c.occurs.ensures ∙ c.if-occurs.true in
+    let tested = ap (λ es. occurs growth item es places) (sym c.elements.ensures.value)
+    ∙ ap (occurs growth item c.elements.result.now) (sym (c.deref.ensures.value ∙ c.self.view_is))
+    ∙ sym c.occurs.ensures ∙ c.if-occurs.true in
     let value = reduced-seen growth pattern item elements places true can is tested in
     let fits = c.extension_bound.type_inv in
     let stored : to_z w128 (of_z w128 c.extension_bound.result) ≡ c.extension_bound.result = omega (arith, ints) in
     let holds = reduced-holds growth pattern other item elements c.elements.ensures.rules can from in
-    subst (λ bound. IsAtMost (best_utility other elements) bound) (sym (ap (λ ps. reduced_bound ps (grown growth pattern item) elements) is) ∙ value ∙ sym (stored ∙ c.extension_bound.ensures.value)) holds
+    subst (λ bound. IsAtMost (best_utility other elements) bound)
+    (sym (ap (λ ps. reduced_bound ps (grown growth pattern item) elements) is) ∙ value
+    ∙ sym (stored ∙ c.extension_bound.ensures.value)) holds
 
 pub returns-else-occurs-clause-value : goal.returns-else-occurs-clause-value
 returns-else-occurs-clause-value c pattern can is =
@@ -48,7 +57,9 @@ returns-else-occurs-clause-value c pattern can is =
     let elements = c.args.seq.now in
     let growth = c.args.growth in
     let item = c.args.item.0 in
-    let tested = ap (λ es. occurs growth item es places) (sym c.elements.ensures.value) ∙ ap (occurs growth item c.elements.result.now) (sym (c.deref.ensures.value ∙ c.self.view_is)) ∙ sym c.occurs.ensures ∙ c.if-occurs.false in
+    let tested = ap (λ es. occurs growth item es places) (sym c.elements.ensures.value)
+    ∙ ap (occurs growth item c.elements.result.now) (sym (c.deref.ensures.value ∙ c.self.view_is))
+    ∙ sym c.occurs.ensures ∙ c.if-occurs.false in
     let value = reduced-seen growth pattern item elements places false can is tested in
     sym value
 
@@ -58,7 +69,9 @@ returns-else-occurs-clause-bound c pattern other can is from =
     let elements = c.args.seq.now in
     let growth = c.args.growth in
     let item = c.args.item.0 in
-    let tested = ap (λ es. occurs growth item es places) (sym c.elements.ensures.value) ∙ ap (occurs growth item c.elements.result.now) (sym (c.deref.ensures.value ∙ c.self.view_is)) ∙ sym c.occurs.ensures ∙ c.if-occurs.false in
+    let tested = ap (λ es. occurs growth item es places) (sym c.elements.ensures.value)
+    ∙ ap (occurs growth item c.elements.result.now) (sym (c.deref.ensures.value ∙ c.self.view_is))
+    ∙ sym c.occurs.ensures ∙ c.if-occurs.false in
     let value = reduced-seen growth pattern item elements places false can is tested in
     let holds = reduced-holds growth pattern other item elements c.elements.ensures.rules can from in
     subst (λ bound. IsAtMost (best_utility other elements) bound) (sym (ap (λ ps. reduced_bound ps (grown growth pattern item) elements) is) ∙ value) holds

@@ -9,4 +9,5 @@ returns-clause-none c =
     subst (λ o. IsNone o ↔ (c.args.self.now ≡ [])) (sym value) (best_of-none c.args.self.now)
 
 pub returns-clause-best : goal.returns-clause-best
-returns-clause-best c pattern elements ends is = c.best_of.ensures ∙ ap best_of (c.deref.ensures.value ∙ c.self.view_is ∙ is) ∙ best_of-chain_of pattern elements ends
+returns-clause-best c pattern elements ends is = c.best_of.ensures
+    ∙ ap best_of (c.deref.ensures.value ∙ c.self.view_is ∙ is) ∙ best_of-chain_of pattern elements ends

@@ -31,7 +31,8 @@ returns-clause-value c =
     record {
       element = refl;
       first = next;
-      cells = c.cells_from.ensures ∙ ap (λ k. drop k (pairs_of c.cells_at-cells.result.now)) next ∙ ap (drop (suc c.args.self.now.cell)) c.cells_at-cells.ensures.value;
+      cells = c.cells_from.ensures ∙ ap (λ k. drop k (pairs_of c.cells_at-cells.result.now)) next
+          ∙ ap (drop (suc c.args.self.now.cell)) c.cells_at-cells.ensures.value;
       best = omega (arith, ints);
       ahead = omega (arith, ints);
     }
@@ -47,7 +48,8 @@ returns-clause-rules c =
     (record {
       element = refl;
       first = next;
-      cells = c.cells_from.ensures ∙ ap (λ k. drop k (pairs_of c.cells_at-cells.result.now)) next ∙ ap (drop (suc c.args.self.now.cell)) c.cells_at-cells.ensures.value;
+      cells = c.cells_from.ensures ∙ ap (λ k. drop k (pairs_of c.cells_at-cells.result.now)) next
+          ∙ ap (drop (suc c.args.self.now.cell)) c.cells_at-cells.ensures.value;
       best = omega (arith, ints);
       ahead = omega (arith, ints);
     })

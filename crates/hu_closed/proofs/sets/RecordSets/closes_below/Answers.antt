@@ -12,7 +12,9 @@ use Rattle.hu_closed.proofs.sets.RecordSets.closes_below.Goals as goal
 pub rarest-places-requires-clause-some : goal.rarest-places-requires-clause-some
 rarest-places-requires-clause-some c =
     let rules = subst (AllByRecursion IsRecord) c.self.view_is c.self.invariant.rules in
-    let set = ap is_set_key c.numbers-numbers.ensures ∙ set_key-open c.args.self.now c.args.ranked.now c.args.key.now c.args.last rules c.requires.base c.requires.key in
+    let set =
+    ap is_set_key c.numbers-numbers.ensures ∙ set_key-open c.args.self.now c.args.ranked.now c.args.key.now
+    c.args.last rules c.requires.base c.requires.key in
     set_key-some c.numbers-numbers.result.now set
 
 pub first-requires-clause-lists : goal.first-requires-clause-lists
@@ -80,7 +82,8 @@ returns-in-Some-clause-value c =
     c.self.invariant c.self.view_is c.as_slice-lists.ensures.value c.as_slice-holders.ensures.value c.rarest-places.ensures in
     let table = c.args.ranked.now.items in
     c.any_closes_below.ensures
-    ∙ below-some c.args.self.now lists holders numbers places table c.args.last f (numbers_of c.in-Some.items.now) c.in-Some.ensures.some c.in-Some.ensures.holds
+    ∙ below-some c.args.self.now lists holders numbers places table c.args.last f
+    (numbers_of c.in-Some.items.now) c.in-Some.ensures.some c.in-Some.ensures.holds
     ∙ ap (λ key. closes_below c.args.self.now table key c.args.last) c.numbers-numbers.ensures
 
 pub returns-in-None-clause-value : goal.returns-in-None-clause-value

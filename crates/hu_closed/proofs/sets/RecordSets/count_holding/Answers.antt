@@ -7,7 +7,8 @@ use Rattle.hu_closed.proofs.sets.RecordSets.count_holding.Goals as goal
 pub returns-then-is_empty : goal.returns-then-is_empty
 returns-then-is_empty c =
     let are = subst (λ records. AreSets records c.self.inside.lists.items c.self.inside.holders.items) c.self.view_is c.self.invariant in
-    ap length c.as_slice-lists.ensures.value ∙ support-empty c.args.self.now c.self.inside.lists.items c.self.inside.holders.items c.args.numbers.now are c.if-is_empty.ensures
+    ap length c.as_slice-lists.ensures.value ∙ support-empty c.args.self.now c.self.inside.lists.items
+    c.self.inside.holders.items c.args.numbers.now are c.if-is_empty.ensures
 
 pub count-requires-clause-lists : goal.count-requires-clause-lists
 count-requires-clause-lists c =

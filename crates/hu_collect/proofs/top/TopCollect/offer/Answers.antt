@@ -15,14 +15,17 @@ pub invariant_of-self-2 : goal.invariant_of-self-2
 invariant_of-self-2 c =
     let s = c.self.inside in
     let least : s.floor ≤ℤ c.args.entry.utility = search rules in
-    let keys : c.trim.new.entries.keys ≡ take s.limit (insert_key entry_cmp s.entries.keys c.args.entry) = c.trim.ensures ∙ ap (take s.limit) c.in_ok-insert.ensures.keys in
+    let keys : c.trim.new.entries.keys ≡ take s.limit (insert_key entry_cmp s.entries.keys c.args.entry) =
+    c.trim.ensures ∙ ap (take s.limit) c.in_ok-insert.ensures.keys in
     let floor : c.floor_over-self-inside.result ≡ floor_by (Some s.limit) s.start c.trim.new.entries.keys = search rules in
-    let value : c.floor_over-self-inside.result ≡ floor_by (Some s.limit) s.start (take s.limit (insert_key entry_cmp s.entries.keys c.args.entry)) = rw (← keys) floor in
+    let value : c.floor_over-self-inside.result ≡ floor_by (Some s.limit) s.start
+    (take s.limit (insert_key entry_cmp s.entries.keys c.args.entry)) = rw (← keys) floor in
     rw keys (top-put s.limit s.start s.floor _ s.entries.keys c.args.entry c.self.invariant least (search rules))
 
 pub returns : goal.returns
 returns c =
     let s = c.self.inside in
     let least : s.floor ≤ℤ c.args.entry.utility = search rules in
-    let keys : c.trim.new.entries.keys ≡ take s.limit (insert_key entry_cmp s.entries.keys c.args.entry) = c.trim.ensures ∙ ap (take s.limit) c.in_ok-insert.ensures.keys in
+    let keys : c.trim.new.entries.keys ≡ take s.limit (insert_key entry_cmp s.entries.keys c.args.entry) =
+    c.trim.ensures ∙ ap (take s.limit) c.in_ok-insert.ensures.keys in
     rw (← c.self.view_is) (same_state s.start (Some s.limit) (keys ∙ sym (made-put s.limit s.start s.floor s.entries.keys c.args.entry c.self.invariant least)))

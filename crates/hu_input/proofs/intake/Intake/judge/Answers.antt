@@ -21,7 +21,11 @@ returns-clause-judged g c =
     let IsJudged = Judges reading absolute inside.lines inside.base c.add.new.self in
     subst (λ v. Judges reading absolute v.lines v.base c.add.new.self c.match-add.result) c.self.view_is
     (elim c.match-add.branch [
-      | in-Ok-add w ↦ subst IsJudged (sym w.result-is) (Some one, line_accepted reading absolute _ line one held read w.in-Ok-add.ensures.within, w.in-Ok-add.ensures.ok)
+      | in-Ok-add w ↦ subst IsJudged (sym w.result-is) (
+        Some one,
+        line_accepted reading absolute _ line one held read w.in-Ok-add.ensures.within,
+        w.in-Ok-add.ensures.ok,
+      )
       | in-Err-SumTooLarge w ↦
           subst IsJudged (sym w.result-is)
           (elim (cases_lt (sum_of absolute inside.base + absolute one) (2 ^ 127)) [

@@ -17,5 +17,6 @@ returns-in-Ok-take g c =
 
 pub returns-in-Err-take : goal.returns-in-Err-take
 returns-in-Err-take g c =
-    piece_stopped g.T.Format.reading g.T.Record.Absolute.absolute c.args.self.now (g.F.Files.state c.args.files.now) (g.F.Files.state c.get.new.self) c.args.name.now c.args.at c.in-Ok.count
+    piece_stopped g.T.Format.reading g.T.Record.Absolute.absolute c.args.self.now (g.F.Files.state c.args.files.now)
+    (g.F.Files.state c.get.new.self) c.args.name.now c.args.at c.in-Ok.count
     c.get.new.into c.in-Err-take.stop c.in_file.result c.in-Ok.ensures.gets c.in-Ok.ensures.bound.0 c.in-Err-take.ensures.err c.in_file.ensures

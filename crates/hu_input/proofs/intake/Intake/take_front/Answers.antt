@@ -16,7 +16,9 @@ returns-in_err-fed-clause-err g c =
     let piece = c.args.piece.now in
     subst (λ u. IfErr c.from_residual.result (Refuses reading absolute u piece)) c.self.view_is
     (subst (λ r. IfErr r (Refuses reading absolute v piece)) (sym (err_is _ _ c.from_residual.ensures.1))
-    (front_limited reading absolute v piece c.in_err-fed.field-0.0 (subst (λ u. IsOpen u.lines) (sym c.self.view_is) c.requires.open) c.requires.some (sym c.in_err-fed.ensures.refusal)))
+    (front_limited reading absolute v piece c.in_err-fed.field-0.0
+    (subst (λ u. IsOpen u.lines) (sym c.self.view_is) c.requires.open) c.requires.some
+    (sym c.in_err-fed.ensures.refusal)))
 
 pub returns-in_err-judge-clause-err : goal.returns-in_err-judge-clause-err
 returns-in_err-judge-clause-err g c =
@@ -37,7 +39,8 @@ returns-in_err-judge-clause-err g c =
     let ended : has_line_feed (first_piece piece) ≡ true = sym e.whole ∙ c.if-fed.true in
     subst (λ u. IfErr c.from_residual-in_err-judge.result (Refuses reading absolute u piece)) c.self.view_is
     (subst (λ r. IfErr r (Refuses reading absolute v piece)) (sym (err_is _ _ c.from_residual-in_err-judge.ensures.1))
-    (front_stopped reading absolute v c.feed.new.self c.judge.new.self.base c.in_ok-fed.fed.taken piece c.in_err-judge.field-0.0 fed ended c.in_err-judge.ensures.judged))
+    (front_stopped reading absolute v c.feed.new.self c.judge.new.self.base c.in_ok-fed.fed.taken piece
+    c.in_err-judge.field-0.0 fed ended c.in_err-judge.ensures.judged))
 
 pub returns-in_ok-judge-clause-ok : goal.returns-in_ok-judge-clause-ok
 returns-in_ok-judge-clause-ok g c =
@@ -57,7 +60,8 @@ returns-in_ok-judge-clause-ok g c =
     } in
     let ended : has_line_feed (first_piece piece) ≡ true = sym e.whole ∙ c.if-fed.true in
     subst (λ u. Took reading absolute u c.judge.new.self piece c.in_ok-fed.fed.taken) c.self.view_is
-    (front_joined reading absolute v c.judge.new.self c.feed.new.self c.in_ok-fed.fed.taken piece fed ended c.in_ok-judge.ensures.lines c.in_ok-judge.ensures.judged)
+    (front_joined reading absolute v c.judge.new.self c.feed.new.self c.in_ok-fed.fed.taken piece fed ended
+    c.in_ok-judge.ensures.lines c.in_ok-judge.ensures.judged)
 
 pub returns-else-fed-clause-ok : goal.returns-else-fed-clause-ok
 returns-else-fed-clause-ok g c =

@@ -6,8 +6,10 @@ use Rattle.hu_kind.proofs.lemmas.RecordLemmas.{IsRecord-from_cells, IsRecord-to_
 use Rattle.hu_kind.proofs.record.Record.new.Goals as goal
 
 pub returns-in_err-absolute-clause-valid : goal.returns-in_err-absolute-clause-valid
-returns-in_err-absolute-clause-valid c =
-    (λ never. let none = rw c.from_residual.ensures at never in absurd (cc), λ h. absurd (c.in_err-absolute.ensures (subst AreRecord (sym c.deref.ensures.value) (IsRecord-to_cells _ h))))
+returns-in_err-absolute-clause-valid c = (
+  λ never. let none = rw c.from_residual.ensures at never in absurd (cc),
+  λ h. absurd (c.in_err-absolute.ensures (subst AreRecord (sym c.deref.ensures.value) (IsRecord-to_cells _ h))),
+)
 
 pub invariant_of-result : goal.invariant_of-result
 invariant_of-result c =

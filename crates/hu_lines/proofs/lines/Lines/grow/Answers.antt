@@ -10,7 +10,8 @@ invariant_of-self c =
     let within = rw (← c.self.view_is) at c.requires.within in
     let accepted = rw (← c.self.view_is) at c.requires.accepted in
     record {
-      held = held_grown _ inside.bytes.items c.args.taken.now c.in-Ok.ensures.items (sym held.whole ∙ begun) c.requires.one c.requires.whole within held.counted held.numbered accepted;
+      held = held_grown _ inside.bytes.items c.args.taken.now c.in-Ok.ensures.items
+          (sym held.whole ∙ begun) c.requires.one c.requires.whole within held.counted held.numbered accepted;
       room = omega (arith, c.in-Ok.ensures.capacity);
     }
 

@@ -14,6 +14,9 @@ returns c =
     let taken = c.args.taken.now in
     let begun = sym c.self.invariant.held.whole ∙ (rw (← c.self.view_is) at c.requires.begun) in
     let from : c.from.result ≡ cond (has_line_feed taken) 1 0 = c.from.ensures ∙ (as_number c.args.whole ∙ ap (λ t. cond {A = ℕ} t 1 0) c.requires.whole) in
-    let body : ((c.len.result + length taken) - c.from.result) + cond (has_line_feed taken) 1 0 ≡ c.len.result + length taken = omega (arith, line_feed-le taken) in
+    let body : ((c.len.result + length taken) - c.from.result) + cond (has_line_feed taken) 1 0
+    ≡ c.len.result + length taken = omega (arith, line_feed-le taken) in
     rw (← c.self.view_is)
-    (c.limit_passed.ensures ∙ sym (refusal_by_length inside.number inside.before _ _ inside.bytes.items taken c.self.invariant.held.counted begun c.requires.one (omega arith) body))
+    (c.limit_passed.ensures
+    ∙ sym (refusal_by_length inside.number inside.before _ _ inside.bytes.items taken c.self.invariant.held.counted
+    begun c.requires.one (omega arith) body))

@@ -13,7 +13,8 @@ merged-requires c =
 
 pub invariant_of-result : goal.invariant_of-result
 invariant_of-result c =
-    weight-joins (option_copied c.args.prefix) c.args.x.now c.args.y.now c.requires.0 c.requires.1 c.requires.2 c.requires.3 c.requires.4 c.in_ok-nodes.nodes.items
+    weight-joins (option_copied c.args.prefix) c.args.x.now c.args.y.now c.requires.0 c.requires.1 c.requires.2
+    c.requires.3 c.requires.4 c.in_ok-nodes.nodes.items
     (c.in_ok-nodes.ensures ∙ (λ j. merged (c.nodes_before.ensures j) (c.nodes.ensures.value j) (c.nodes-2.ensures.value j)))
 
 pub returns : goal.returns

@@ -20,7 +20,9 @@ returns-in-Some c =
     let ranks = c.self.inside.ranks.items in
     let place = c.in_ok-place.field-0.now in
     let is : get_or places c.args.rank 0 ≡ place = sym (c.in_ok-place.ensures.lookup.3.1 0 ∙ ap (λ ps. get_or ps c.args.rank 0) c.deref.ensures.value) in
-    let here : get_or ranks place 0 ≡ c.args.rank = sym (c.in-Some.ensures.lookup.3.1 0 ∙ ap (λ rs. get_or rs place 0) c.deref-2.ensures.value) ∙ c.if-found-rank.true in
+    let here : get_or ranks place 0 ≡ c.args.rank =
+    sym (c.in-Some.ensures.lookup.3.1 0 ∙ ap (λ rs. get_or rs place 0) c.deref-2.ensures.value)
+    ∙ c.if-found-rank.true in
     let low = c.in-Some.ensures.lookup.3.0 in
     let size = ap length c.deref-2.ensures.value in
     subst (λ (s : SlotsOf). IsPlace s.ranks c.args.rank place) c.self.view_is
@@ -45,4 +47,6 @@ returns-in_default-2 c =
     let is : get_or places c.args.rank 0 ≡ place = sym (c.in_ok-place.ensures.lookup.3.1 0 ∙ ap (λ ps. get_or ps c.args.rank 0) c.deref.ensures.value) in
     let size = ap length c.deref-2.ensures.value in
     subst (λ (s : SlotsOf). among c.args.rank s.ranks ≡ false) c.self.view_is
-    (missing places ranks c.args.rank c.self.invariant (λ below within here. let low : place < length ranks = subst (λ k. k < length ranks) is within in let some = c.get-2.ensures.lookup.2 (omega (arith, low, size)) in false≢true (subst IsSome c.in_default.is some)))
+    (missing places ranks c.args.rank c.self.invariant (λ below within here. let low : place < length ranks =
+    subst (λ k. k < length ranks) is within in let some =
+    c.get-2.ensures.lookup.2 (omega (arith, low, size)) in false≢true (subst IsSome c.in_default.is some)))

@@ -10,4 +10,5 @@ returns-clause-once c =
 
 pub returns-clause-within : goal.returns-clause-within
 returns-clause-within c =
-    subst (λ (s : SlotsOf). AllByRecursion (λ rank. rank < s.room) s.ranks) c.self.view_is (slots-below c.self.inside.places.items c.self.inside.ranks.items c.self.invariant)
+    subst (λ (s : SlotsOf). AllByRecursion (λ rank. rank < s.room) s.ranks) c.self.view_is
+    (slots-below c.self.inside.places.items c.self.inside.ranks.items c.self.invariant)

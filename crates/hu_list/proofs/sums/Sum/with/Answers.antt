@@ -12,7 +12,8 @@ returns c =
     let rest = c.args.rest in
     let both : to_z w128 (of_z w128 (to_z w128 (of_z w128 own) +ℤ to_z w128 (of_z w128 rest))) ≡ own +ℤ rest = omega (arith, ints, c.requires.bound) in
     let most : c.positive.result ≡ positive_part (own +ℤ rest) = c.positive.ensures ∙ ap positive_part both in
-    let utility : to_z w128 (of_z w128 (to_z w128 (of_z w128 sum.utility) +ℤ to_z w128 (of_z w128 own))) ≡ sum.utility +ℤ own = omega (arith, ints, c.requires.utility) in
+    let utility : to_z w128 (of_z w128 (to_z w128 (of_z w128 sum.utility) +ℤ to_z w128 (of_z w128 own)))
+    ≡ sum.utility +ℤ own = omega (arith, ints, c.requires.utility) in
     let bound : to_z w128 (of_z w128 (to_z w128 (of_z w128 sum.bound) +ℤ to_z w128 (of_z w128 c.positive.result))) ≡ sum.bound +ℤ positive_part (own +ℤ rest) =
     omega (arith, ints, c.requires.bound, most, positive_part-within (own +ℤ rest)) in
     λ j. record { support = sum.support + 1; utility = utility j; bound = bound j }

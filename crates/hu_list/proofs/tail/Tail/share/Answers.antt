@@ -16,7 +16,9 @@ pub returns : goal.returns
 returns c =
     let tail = tail_of c.args.self.now in
     let keep = c.args.kept.now.ranks in
-    let sum : to_z w128 (of_z w128 (to_z w128 (of_z w128 c.args.self.now.own) +ℤ to_z w128 (of_z w128 c.kept_gain.result))) ≡ tail.own +ℤ kept_gain keep tail.cells =
+    let sum : to_z w128
+    (of_z w128 (to_z w128 (of_z w128 c.args.self.now.own) +ℤ to_z w128 (of_z w128 c.kept_gain.result)))
+    ≡ tail.own +ℤ kept_gain keep tail.cells =
     omega (arith, ints, kept_gain-within keep tail.cells, c.kept_gain.ensures, c.requires) in
     let worth : c.positive.result ≡ share keep tail = c.positive.ensures ∙ ap positive_part sum in
     omega (arith, ints, worth, share-within keep tail, c.requires)

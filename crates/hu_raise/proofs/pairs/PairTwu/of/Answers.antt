@@ -23,7 +23,8 @@ returns-clause-value c =
 
 pub invariant_of-result : goal.invariant_of-result
 invariant_of-result c =
-    subst IsTable (sym (returns-clause-value c)) (record { ascending = ascending-table c.args.ranked.now.records c.args.floor (length c.args.ranked.now.items) })
+    subst IsTable (sym (returns-clause-value c))
+    (record { ascending = ascending-table c.args.ranked.now.records c.args.floor (length c.args.ranked.now.items) })
 
 pub returns-clause-exact : goal.returns-clause-exact
 returns-clause-exact c =

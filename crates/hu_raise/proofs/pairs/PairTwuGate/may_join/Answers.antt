@@ -18,7 +18,9 @@ returns-in-Some c =
     ∙ sym (get_or-map (λ v. v.items) vectors a c.in-Some.partners.now [] within) in
     let up : IsStrictlyIncreasing (get_or (lists_in vectors) a []) = c.self.invariant.ascending a [] (omega (arith, length-map vectors (λ v. v.items))) in
     let there : c.deref-in-Some.result.now ≡ get_or (lists_in vectors) a [] = c.deref-in-Some.ensures.value ∙ here in
-    let answer = found-list_any c.deref-in-Some.result.now c.args.b c.binary_search.result (subst IsStrictlyIncreasing (sym there) up) c.binary_search.ensures.position in
+    let answer =
+    found-list_any c.deref-in-Some.result.now c.args.b c.binary_search.result
+    (subst IsStrictlyIncreasing (sym there) up) c.binary_search.ensures.position in
     record {
       exact = c.is_ok.ensures.value ∙ answer
           ∙ ap (list_any (λ later. later == c.args.b)) (there ∙ ap (λ (table : PairTable). get_or table.partners a []) c.self.view_is);

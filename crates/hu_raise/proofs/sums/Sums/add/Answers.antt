@@ -16,7 +16,8 @@ invariant_of-self-2 c =
     let within : rank < length sums = omega (arith, c.requires.within, ap length c.self.view_is) in
     let least : pos 0 ≤ℤ gain = c.requires.least in
     let fits : FitsSigned w128 value = search rules in
-    let old : to_z w128 (of_z w128 value) ≡ sum_at sums rank = to_z-of_z w128 value fits ∙ c.index-sum.ensures ∙ get_or_default sums rank value (pos 0) within in
+    let old : to_z w128 (of_z w128 value) ≡ sum_at sums rank = to_z-of_z w128 value fits ∙ c.index-sum.ensures
+    ∙ get_or_default sums rank value (pos 0) within in
     let more = to_z-of_z w128 gain c.ranges.gain in
     let low : pos 0 ≤ℤ sum_at sums rank = c.self.invariant.least rank in
     let same = ap (λ all. sum_at all rank) c.self.view_is in

@@ -8,7 +8,8 @@ use Rattle.hu_raise.proofs.sums.Sums.clear.Goals as goal
 pub set_to_0-requires : goal.set_to_0-requires
 set_to_0-requires c =
     subst (λ sums. All (λ rank. rank < length sums) c.deref.result.now) (sym c.deref_mut.ensures.value)
-    (subst (All (λ rank. rank < length c.self.inside.sums.items)) (sym c.deref.ensures.value) (All-listed_below c.self.inside.sums.items c.self.inside.touched.items c.self.invariant))
+    (subst (All (λ rank. rank < length c.self.inside.sums.items)) (sym c.deref.ensures.value)
+    (All-listed_below c.self.inside.sums.items c.self.inside.touched.items c.self.invariant))
 
 pub returns : goal.returns
 returns c =

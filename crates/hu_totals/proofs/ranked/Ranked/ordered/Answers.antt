@@ -19,7 +19,11 @@ use Rattle.hu_totals.proofs.LawLemmas.{KeepsSets-ranked, RanksHigh-ranked, Keeps
 use Rattle.hu_totals.proofs.ranked.Ranked.ordered.Goals as goal
 
 pub items_by_weight-requires : goal.items_by_weight-requires
-items_by_weight-requires c = record { apart = subst (λ t. IsDistinct nat_eq (keys_of t)) (sym c.requires.totals) (apart-item_totals (records_of c.args.base.now)) }
+items_by_weight-requires c =
+    record {
+      apart = subst (λ t. IsDistinct nat_eq (keys_of t)) (sym c.requires.totals)
+          (apart-item_totals (records_of c.args.base.now));
+    }
 
 -- the set has the items that have a rank
 ranked_set : (order : RankOrder) (floor : ℤ) (records : List (List (ℕ × ℤ))) (keys : List Item) (totals : List (ℕ × ItemTotal))
@@ -31,27 +35,39 @@ ranked_set order floor records keys totals fits is same =
 pub ranked_records-requires-clause-apart : goal.ranked_records-requires-clause-apart
 ranked_records-requires-clause-apart c =
     let records = records_of c.args.base.now in
-    let items = ranked_set c.args.order c.args.floor records c.in_ok-items.items.keys c.args.totals.now c.ranges.floor c.in_ok-items.ensures.value c.requires.totals in
-    subst (IsDistinct nat_eq) (sym items) (IsDistinct-from_once (ordered_items c.args.order c.args.floor records) (Once-ordered_items records c.args.order c.args.floor))
+    let items =
+    ranked_set c.args.order c.args.floor records c.in_ok-items.items.keys c.args.totals.now c.ranges.floor
+    c.in_ok-items.ensures.value c.requires.totals in
+    subst (IsDistinct nat_eq) (sym items) (IsDistinct-from_once (ordered_items c.args.order c.args.floor records)
+    (Once-ordered_items records c.args.order c.args.floor))
 
 pub returns-clause-value : goal.returns-clause-value
 returns-clause-value c =
     let records = records_of c.args.base.now in
-    let items = ranked_set c.args.order c.args.floor records c.in_ok-items.items.keys c.args.totals.now c.ranges.floor c.in_ok-items.ensures.value c.requires.totals in
+    let items =
+    ranked_set c.args.order c.args.floor records c.in_ok-items.items.keys c.args.totals.now c.ranges.floor
+    c.in_ok-items.ensures.value c.requires.totals in
     let over = c.in_ok-records.ensures.value ∙ ap (over_ranks (numbers_of c.in_ok-items.items.keys)) c.records.ensures in
-    ranking-is c.args.order c.args.floor _ c.in_ok-items.items.keys c.in_ok-records.records.items records (to_z-of_z w128 c.args.floor c.ranges.floor) items over
+    ranking-is c.args.order c.args.floor _ c.in_ok-items.items.keys c.in_ok-records.records.items records
+    (to_z-of_z w128 c.args.floor c.ranges.floor) items over
 
 pub invariant_of-result : goal.invariant_of-result
 invariant_of-result c =
     let records = records_of c.args.base.now in
     let rules = subst (AllByRecursion IsRecord) c.records.ensures c.in_ok-records.ensures.rules in
-    subst IsRanking (sym (returns-clause-value c)) (IsRanking-ranked c.args.order c.args.floor records c.requires.floor rules (omega (arith, c.sum-sum.ensures.fits)))
+    subst IsRanking (sym (returns-clause-value c))
+    (IsRanking-ranked c.args.order c.args.floor records c.requires.floor rules
+    (omega (arith, c.sum-sum.ensures.fits)))
 
 pub returns-clause-sets : goal.returns-clause-sets
-returns-clause-sets c = let records = records_of c.args.base.now in subst (KeepsSets records) (sym (returns-clause-value c)) (KeepsSets-ranked c.args.order c.args.floor records)
+returns-clause-sets c = let records =
+    records_of c.args.base.now in subst (KeepsSets records) (sym (returns-clause-value c))
+    (KeepsSets-ranked c.args.order c.args.floor records)
 
 pub returns-clause-high : goal.returns-clause-high
-returns-clause-high c = let records = records_of c.args.base.now in subst (RanksHigh records) (sym (returns-clause-value c)) (RanksHigh-ranked c.args.order c.args.floor records c.requires.floor)
+returns-clause-high c = let records =
+    records_of c.args.base.now in subst (RanksHigh records) (sym (returns-clause-value c))
+    (RanksHigh-ranked c.args.order c.args.floor records c.requires.floor)
 
 pub returns-clause-patterns : goal.returns-clause-patterns
 returns-clause-patterns c =

@@ -12,7 +12,9 @@ use Rattle.hu_totals.proofs.lemmas.RoomLemmas.{HasRoom-total_of}
 use Rattle.hu_totals.proofs.totals.Totals.of.Goals as goal
 
 pub add_record-requires-clause-ascending : goal.add_record-requires-clause-ascending
-add_record-requires-clause-ascending c = subst (λ cells. Ascend (items_in cells)) (sym c.cells.ensures.value) (Ascend-record c.record-item.result c.cells.ensures.rules)
+add_record-requires-clause-ascending c =
+    subst (λ cells. Ascend (items_in cells)) (sym c.cells.ensures.value)
+    (Ascend-record c.record-item.result c.cells.ensures.rules)
 
 pub add_record-requires-clause-room : goal.add_record-requires-clause-room
 add_record-requires-clause-room c item =
