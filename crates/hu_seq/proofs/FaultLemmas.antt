@@ -96,7 +96,7 @@ none_passes test told none =
     let past : length told ≤ position_or_len test told = grind (arith, nat_tests) in
     list_any_none test told (λ k d within. fails_before_first test told k d (omega arith))
 
-map_none : {A B : Type 0} (f : A → B) (o : Option A) → option_map f o ≡ None → o ≡ None
+pub map_none : {A B : Type 0} (f : A → B) (o : Option A) → option_map f o ≡ None → o ≡ None
 map_none f None h = refl
 map_none f (Some x) h = cc
 
@@ -173,7 +173,7 @@ AreTold-from told elements shape items ordered above =
       sum = total-absolute (cells told) below ∙ ap (λ pairs. pos (absolute_of pairs)) (sym same) ∙ ap pos (sym (ordered-absolute (body told) elements ordered));
     }
 
-IsSequence-from : (told : List Token) (elements : List (List (ℕ × ℤ))) → AreTold told elements → sum_by absolute_of elements < 2 ^ 127 → IsSequence elements
+pub IsSequence-from : (told : List Token) (elements : List (List (ℕ × ℤ))) → AreTold told elements → sum_by absolute_of elements < 2 ^ 127 → IsSequence elements
 IsSequence-from told elements kept fits = record { itemsets = kept.itemsets; some = kept.some; few = kept.few; none_below = kept.none_below; sum_fits = fits }
 
 large : (sum : ℕ) → 2 ^ 127 ≤ sum → int_lt (pos (2 ^ 127 - 1)) (pos sum) ≡ true
@@ -182,7 +182,7 @@ large sum h = grind (arith, nat_tests)
 small : (sum : ℕ) → sum < 2 ^ 127 → int_lt (pos (2 ^ 127 - 1)) (pos sum) ≡ false
 small sum h = grind (arith, nat_tests)
 
-sum_too_large-yes : (told : List Token) (elements : List (List (ℕ × ℤ))) → AreTold told elements
+pub sum_too_large-yes : (told : List Token) (elements : List (List (ℕ × ℤ))) → AreTold told elements
     → 2 ^ 127 ≤ sum_by absolute_of elements → sum_too_large (cells told) ≡ Some SumTooLarge
 sum_too_large-yes told elements kept h =
     ap (λ test. then_some test SumTooLarge) (ap (int_lt (pos (2 ^ 127 - 1))) kept.sum ∙ large (sum_by absolute_of elements) h)

@@ -10,3 +10,4 @@ mod ItemsetLemmas
 mod ShapeLemmas
 mod SumLemmas
 mod FaultLemmas
+mod ByItemLemmas

@@ -3,3 +3,4 @@ pub mod Numerals
 pub mod Cuts
 pub mod Firsts
 pub mod Written
+pub mod Lawful
