@@ -1,3 +1,4 @@
+pub mod lemmas
 mod PartLemmas
 mod InputLemmas
 mod IntakeLemmas
