@@ -90,7 +90,7 @@ module _ {R : Type 0} (reading : List ℕ → Result R Reason) (absolute : R →
       let parts = front-parts first (later total) records h in
       subst (AllByRecursion P) parts.2 (each-append P first parts.0 (front first refl) (more total parts.0 parts.1))
 
-  files-lawful : (contents : List ℕ → Option (List ℕ)) (before sum : ℕ) (names : List (List ℕ)) (records : List R)
+  pub files-lawful : (contents : List ℕ → Option (List ℕ)) (before sum : ℕ) (names : List (List ℕ)) (records : List R)
       → input_from reading absolute contents before sum names ≡ Ok records → AllByRecursion P records
   files-lawful contents before sum [] records h = let none : [] ≡ records = cc in subst (AllByRecursion P) none tt
   files-lawful contents before sum (name ∷ names) records h =
