@@ -7,6 +7,7 @@ use Rattle.std.specs.Prelude.{
   ℤ,
   pos,
   Bool,
+  true,
   false,
   not,
   ◌&&◌,
@@ -26,7 +27,7 @@ use Rattle.std.specs.Prelude.{
   refl,
 }
 use Rattle.std.specs.Ordering.{int_eq}
-use Rattle.std.specs.List.{All, AllByRecursion, filter, list_all}
+use Rattle.std.specs.List.{All, AllByRecursion, Contains, filter, list_all}
 use Rattle.std.specs.List.Sorted.{IsNonDecreasingBy}
 use Rattle.std.specs.declared.vec.Vec.{Vec}
 use Rattle.std.specs.declared.alloc.Global.{Global}
@@ -70,11 +71,19 @@ AreWithin n holders = All (λ holder. holder.place < n) holders
 abbrev pub found_at : List (List ℕ) → List Holder → List (List ℕ)
 found_at lists holders = map (λ holder. slice_index_or lists holder.place []) holders
 
--- whether an item is outside a key and one of the items of each of these records that hold it
+-- the items of a record found that holds a key
+pub record IsHolding (found : List (List ℕ)) (key : List ℤ) (items : List ℕ) : Type 0 where
+  pub ascending : Ascend items
+  pub at : Contains found items
+  pub whole : are_among items key ≡ true
+
+-- whether an item stands in each of these records that hold a key
+abbrev pub stands_in : List (List ℕ) → List ℤ → ℕ → Bool
+stands_in found key item = list_all (λ items. not (are_among items key) || is_among items (pos item)) found
+
+-- whether an item is outside a key and stands in each of these records that hold it
 abbrev pub closes_at : List (List ℕ) → List ℤ → ℕ → Bool
-closes_at found key item =
-    is_outside key item && list_all (λ items. not (are_among items key)
-    || is_among items (pos item)) found
+closes_at found key item = is_outside key item && stands_in found key item
 
 -- whether there is a rank and it is below `last`
 abbrev pub is_below : Option ℕ → ℕ → Bool

@@ -1,18 +1,19 @@
 //! Which items close a key: they are outside it, and stand in every record that holds it.
 
-ghost use Rattle.std.specs.Prelude.{◌≡◌, ◌≤◌, ◌||◌, ◌&&◌, pos, not, true, take, length};
-ghost use Rattle.std.specs.List.{list_all, list_any};
+ghost use Rattle.std.specs.Prelude.{◌≡◌, ◌≤◌, ◌||◌, ◌&&◌, pos, not, true, take, length, is_some, IfSome};
+ghost use Rattle.std.specs.List.{list_any};
 ghost use Rattle.hu_kind.specs.Order.{Ascend};
 ghost use Rattle.hu_totals.specs.Weights.{numbers_of};
 ghost use Rattle.hu_closed.specs.Keys.{are_among, is_among, is_outside, is_set_key};
-ghost use Rattle.hu_closed.specs.Holders.{closes_at, found_at, has_rank_below, lists_of, AreLists, AreWithin};
+ghost use Rattle.hu_closed.specs.Holders.{closes_at, found_at, has_rank_below, lists_of, stands_in, AreLists, AreWithin, IsHolding};
 
 use crate::holders::{Holder, list_at};
 use crate::keys::{are_among, is_among, is_outside};
 use hu_kind::Item;
 use hu_totals::Ranked;
 
-/// Whether one of these items is outside a key and stands at each of these places that holds it.
+/// Whether one of these items is outside a key and stands at each of these places that holds it. The items are those of
+/// such a place. The last place that was found to lack an item is looked at first for the next one.
 pub(crate) fn any_closes(
     lists: &[Vec<Item>],
     places: &[Holder],
@@ -22,19 +23,23 @@ pub(crate) fn any_closes(
     requires lists { AreLists (lists_of lists.now) }
     requires within { AreWithin (length lists.now) places.now }
     requires key { is_set_key key.now ≡ true }
+    requires holding { IsHolding (found_at (lists_of lists.now) places.now) key.now
+        (numbers_of items.now) }
     ensures { result ≡ list_any (closes_at (found_at (lists_of lists.now) places.now) key.now)
         (numbers_of items.now) }
 {
+    let mut witness = items;
     for item in items {
-        if closes(lists, places, key, *item) {
+        let Some(next) = witness_against(lists, places, key, *item, witness) else {
             return true;
-        }
+        };
+        witness = next;
     }
     false
 }
 
 /// Whether one of these items that has a rank below `last` is outside a key and stands at each of these places that
-/// holds it.
+/// holds it. The items are those of such a place.
 pub(crate) fn any_closes_below(
     lists: &[Vec<Item>],
     places: &[Holder],
@@ -46,34 +51,47 @@ pub(crate) fn any_closes_below(
     requires lists { AreLists (lists_of lists.now) }
     requires within { AreWithin (length lists.now) places.now }
     requires key { is_set_key key.now ≡ true }
+    requires holding { IsHolding (found_at (lists_of lists.now) places.now) key.now
+        (numbers_of items.now) }
     ensures { result ≡ list_any (λ item. has_rank_below ranked.now.items last item
         && closes_at (found_at (lists_of lists.now) places.now) key.now item)
         (numbers_of items.now) }
 {
+    let mut witness = items;
     for item in items {
-        if closes_below(lists, places, key, *item, ranked, last) {
+        let Some(next) = witness_below(lists, places, key, *item, witness, ranked, last) else {
             return true;
-        }
+        };
+        witness = next;
     }
     false
 }
 
-/// Whether an item has a rank below `last`, is outside a key and stands at each of these places that holds it.
-fn closes_below(
-    lists: &[Vec<Item>],
+/// A record at these places that holds a key: the witness that is given, where the item has no rank below `last` or the
+/// witness shows that it doesn't close the key, else another one that shows it; none where it closes the key.
+fn witness_below<'a>(
+    lists: &'a [Vec<Item>],
     places: &[Holder],
     key: &[i64],
     item: Item,
+    witness: &'a [Item],
     ranked: &Ranked,
     last: u32,
-) -> bool
+) -> Option<&'a [Item]>
     requires lists { AreLists (lists_of lists.now) }
     requires within { AreWithin (length lists.now) places.now }
     requires key { is_set_key key.now ≡ true }
-    ensures { result ≡ (has_rank_below ranked.now.items last item.0
+    requires holding { IsHolding (found_at (lists_of lists.now) places.now) key.now
+        (numbers_of witness.now) }
+    ensures holding { IfSome result (λ items. IsHolding (found_at (lists_of lists.now) places.now)
+        key.now (numbers_of items.now)) }
+    ensures value { is_some result ≡ not (has_rank_below ranked.now.items last item.0
         && closes_at (found_at (lists_of lists.now) places.now) key.now item.0) }
 {
-    has_rank_below(ranked, item, last) && closes(lists, places, key, item)
+    if is_settled(key, item, witness) || !has_rank_below(ranked, item, last) {
+        return Some(witness);
+    }
+    refuter(lists, places, key, item)
 }
 
 /// Whether an item has a rank below `last`.
@@ -86,29 +104,62 @@ fn has_rank_below(ranked: &Ranked, item: Item, last: u32) -> bool
     }
 }
 
-/// Whether an item is outside a key and stands at each of these places that holds it.
-fn closes(lists: &[Vec<Item>], places: &[Holder], key: &[i64], item: Item) -> bool
+/// A record at these places that holds a key: the witness that is given, where it shows that the item doesn't close the
+/// key, else another one that shows it; none where the item closes the key.
+fn witness_against<'a>(
+    lists: &'a [Vec<Item>],
+    places: &[Holder],
+    key: &[i64],
+    item: Item,
+    witness: &'a [Item],
+) -> Option<&'a [Item]>
     requires lists { AreLists (lists_of lists.now) }
     requires within { AreWithin (length lists.now) places.now }
     requires key { is_set_key key.now ≡ true }
-    ensures { result ≡ closes_at (found_at (lists_of lists.now) places.now) key.now item.0 }
+    requires holding { IsHolding (found_at (lists_of lists.now) places.now) key.now
+        (numbers_of witness.now) }
+    ensures holding { IfSome result (λ items. IsHolding (found_at (lists_of lists.now) places.now)
+        key.now (numbers_of items.now)) }
+    ensures value { is_some result
+        ≡ not (closes_at (found_at (lists_of lists.now) places.now) key.now item.0) }
 {
-    is_outside(key, item) && stands_at_all(lists, places, key, item)
+    if is_settled(key, item, witness) {
+        return Some(witness);
+    }
+    refuter(lists, places, key, item)
 }
 
-/// Whether an item stands at each of these places that holds a key.
-fn stands_at_all(lists: &[Vec<Item>], places: &[Holder], key: &[i64], item: Item) -> bool
+/// Whether an item is in a key, or is none of these items.
+fn is_settled(key: &[i64], item: Item, items: &[Item]) -> bool
+    requires key { is_set_key key.now ≡ true }
+    requires ascending { Ascend (numbers_of items.now) }
+    ensures { result ≡ (not (is_outside key.now item.0)
+        || not (is_among (numbers_of items.now) (pos item.0))) }
+{
+    !is_outside(key, item) || !is_among(items, i64::from(item.0))
+}
+
+/// The first of these places that holds a key and lacks an item; none where the item stands at each that holds the key.
+fn refuter<'a>(
+    lists: &'a [Vec<Item>],
+    places: &[Holder],
+    key: &[i64],
+    item: Item,
+) -> Option<&'a [Item]>
     requires lists { AreLists (lists_of lists.now) }
     requires within { AreWithin (length lists.now) places.now }
-    ensures { result ≡ list_all (λ items. not (are_among items key.now) || is_among items (pos item.0))
-        (found_at (lists_of lists.now) places.now) }
+    ensures holding { IfSome result (λ items. IsHolding (found_at (lists_of lists.now) places.now)
+        key.now (numbers_of items.now)) }
+    ensures value { is_some result
+        ≡ not (stands_in (found_at (lists_of lists.now) places.now) key.now item.0) }
 {
     for holder in places {
-        if lacks(list_at(lists, holder.place), key, item) {
-            return false;
+        let items = list_at(lists, holder.place);
+        if lacks(items, key, item) {
+            return Some(items);
         }
     }
-    true
+    None
 }
 
 /// Whether a record holds a key and not an item.

@@ -6,7 +6,7 @@ ghost use Rattle.std.specs.List.Sorted.{IsNonDecreasingBy, IsPartitionPoint};
 ghost use Rattle.hu_kind.specs.Order.{Ascend};
 ghost use Rattle.hu_totals.specs.Weights.{numbers_of};
 ghost use Rattle.hu_closed.specs.Keys.{are_among};
-ghost use Rattle.hu_closed.specs.Holders.{found_at, lists_of, pair_of, pairs_from, pairs_with, stands_at, AreLists, AreWithin};
+ghost use Rattle.hu_closed.specs.Holders.{found_at, lists_of, pair_of, pairs_from, pairs_with, stands_at, AreLists, AreWithin, IsHolding};
 
 use crate::keys::are_among;
 use hu_kind::{Item, NoMemory};
@@ -113,9 +113,8 @@ pub(crate) fn first<'a>(
 ) -> Option<&'a [Item]>
     requires lists { AreLists (lists_of lists.now) }
     requires within { AreWithin (length lists.now) places.now }
-    ensures some { IfSome result (λ items. Contains (found_at (lists_of lists.now) places.now)
-        (numbers_of items.now)) }
-    ensures holds { IfSome result (λ items. are_among (numbers_of items.now) key.now ≡ true) }
+    ensures holding { IfSome result (λ items. IsHolding (found_at (lists_of lists.now) places.now)
+        key.now (numbers_of items.now)) }
     ensures none { IfNone result (list_all (λ items. not (are_among items key.now))
         (found_at (lists_of lists.now) places.now) ≡ true) }
 {

@@ -138,7 +138,7 @@ fn item_lists(alloc: Global, records: &[Record]) -> Result<Vec<Vec<Item>>, NoMem
     ensures value { IfOk result (λ lists. lists_of lists.items ≡ map items_in records.now) }
     ensures rules { OnOk result (AllByRecursion IsRecord records.now) }
 {
-    let mut lists = Vec::new(alloc);
+    let mut lists = Vec::with_capacity(alloc, records.len())?;
     for record in records {
         lists.push(items_of(alloc, record.cells())?)?;
     }
@@ -149,7 +149,7 @@ fn item_lists(alloc: Global, records: &[Record]) -> Result<Vec<Vec<Item>>, NoMem
 fn items_of(alloc: Global, cells: &[Cell]) -> Result<Vec<Item>, NoMemory>
     ensures { IfOk result (λ items. numbers_of items.items ≡ items_in (pairs_of cells.now)) }
 {
-    let mut items = Vec::new(alloc);
+    let mut items = Vec::with_capacity(alloc, cells.len())?;
     for cell in cells {
         items.push(cell.item)?;
     }

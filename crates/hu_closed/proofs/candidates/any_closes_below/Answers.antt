@@ -1,4 +1,5 @@
 use Rattle.std.proofs.Common.{ℕ, sym, ◌&&◌}
+use Rattle.std.proofs.lemmas.Bool.{not-false, not-true}
 use Rattle.hu_kind.specs.declared.item.Item.{Item}
 use Rattle.hu_closed.specs.Holders.{closes_at, found_at, has_rank_below, lists_of}
 use Rattle.hu_closed.proofs.Tries.{any_number-at, any_number-more}
@@ -7,13 +8,14 @@ use Rattle.hu_closed.proofs.candidates.any_closes_below.Goals as goal
 no_item : Item
 no_item = record { 0 = 0 }
 
-pub returns-then-closes_below : goal.returns-then-closes_below
+pub returns-in_default : goal.returns-in_default
 unfolding no_item
-returns-then-closes_below c =
+returns-in_default c =
     let test =
     λ (item : ℕ). has_rank_below c.args.ranked.now.items c.args.last item
     && closes_at (found_at (lists_of c.args.lists.now) c.args.places.now) c.args.key.now item in
-    sym (any_number-at test c.args.items.now c.loop-item.item-index no_item c.loop-item-test.true (sym c.if-closes_below.ensures))
+    let closes = not-false _ (sym c.in_default.ensures.value) in
+    sym (any_number-at test c.args.items.now c.loop-item.item-index no_item c.loop-item-test.true closes)
 
 pub loop-item-preserved : goal.loop-item-preserved
 unfolding no_item
@@ -21,4 +23,8 @@ loop-item-preserved c =
     let test =
     λ (item : ℕ). has_rank_below c.args.ranked.now.items c.args.last item
     && closes_at (found_at (lists_of c.args.lists.now) c.args.places.now) c.args.key.now item in
-    any_number-more test c.args.items.now c.loop-item.item-index no_item c.loop-item-test.true c.loop-item.invariant (sym c.if-closes_below.ensures)
+    let fails = not-true _ (sym c.in-Some.ensures.value) in
+    record {
+      none = any_number-more test c.args.items.now c.loop-item.item-index no_item c.loop-item-test.true c.loop-item.invariant.none fails;
+      witness = c.in-Some.ensures.holding;
+    }

@@ -83,7 +83,7 @@ returns-in-Some-clause-value c =
     let table = c.args.ranked.now.items in
     c.any_closes_below.ensures
     ∙ below-some c.args.self.now lists holders numbers places table c.args.last f
-    (numbers_of c.in-Some.items.now) c.in-Some.ensures.some c.in-Some.ensures.holds
+    (numbers_of c.in-Some.items.now) c.in-Some.ensures.holding.at c.in-Some.ensures.holding.whole
     ∙ ap (λ key. closes_below c.args.self.now table key c.args.last) c.numbers-numbers.ensures
 
 pub returns-in-None-clause-value : goal.returns-in-None-clause-value

@@ -53,8 +53,8 @@ returns-in-Some c =
     let f = Finds-from (records_of c.self.inside.seen.value) c.args.self.now c.self.inside.lists.items lists c.self.inside.holders.items holders numbers places
     c.self.invariant c.self.view_is c.as_slice-lists.ensures.value c.as_slice-holders.ensures.value c.rarest-places.ensures in
     ap not c.any_closes.ensures ∙ closed-some c.args.self.now lists holders numbers places f
-    (sym c.if-not-is_set_key.ensures) (numbers_of c.in-Some.items.now) c.in-Some.ensures.some
-    c.in-Some.ensures.holds
+    (sym c.if-not-is_set_key.ensures) (numbers_of c.in-Some.items.now) c.in-Some.ensures.holding.at
+    c.in-Some.ensures.holding.whole
 
 pub returns-in-None : goal.returns-in-None
 returns-in-None c =
