@@ -1,21 +1,24 @@
 -- What a run of mining wrote.
-use Rattle.std.proofs.Common.{◌≡◌, ℕ, ℤ, List, Result, Ok, Err, Option, None, Some, refl, sym, subst}
+use Rattle.std.proofs.Common.{◌≡◌, ℕ, ℤ, List, Result, Ok, Err, Option, None, refl, ap, sym, subst}
 use Rattle.std.specs.Prelude.{IfSome, IsOkAnd}
-use Rattle.hu_kind.specs.declared.entry.Entry.{Entry}
+use Rattle.std.specs.List.Sorted.{IsPermutation}
 use Rattle.hu_kind.specs.declared.task.Task.{Task}
 use Rattle.hu_kind.specs.declared.task.Task.TheVariants.{Items, Closed, Sequences}
-use Rattle.hu_kind.specs.Answer.{answer, item_answer, closed_answer, sequence_answer}
+use Rattle.hu_kind.specs.Answer.{item_answer, closed_answer, sequence_answer}
 use Rattle.hu_kind.specs.Itemsets.{item_patterns, closed_patterns}
 use Rattle.hu_kind.specs.Sequence.{sequence_patterns}
 use Rattle.hu_answer.specs.Laws.{IsItemAnswer, IsClosedAnswer, IsSequenceAnswer, AnswerAscends}
+use Rattle.hu_answer.specs.Laws.{ItemsInAnyOrder, ClosedInAnyOrder, SequencesInAnyOrder}
 use Rattle.hu_io.specs.State.{Appended}
 use Rattle.hu_input.specs.Input.{Unread, refused_line, missing_file}
+use Rattle.hu_input.proofs.lemmas.Lawful.{sequences-lawful}
 use Rattle.hu_mine.specs.declared.engine.Engine.{Engine}
 use Rattle.hu_report.specs.Text.{answer_text}
-use Rattle.hu_run.specs.Job.{Asked, job, mining, names_of}
+use Rattle.hu_run.specs.Job.{mining, names_of}
 use Rattle.hu_run.specs.Ending.{Ending, writes, ending, ending_by, transactions, sequences, mining_ending}
-use Rattle.hu_run.specs.Run.{Streams, Runs, Writing}
-use Rattle.hu_run.specs.Summary.{ListsFound, WritesFound, HasMined, ItemRunsWriteFound, ClosedRunsWriteFound, SequenceRunsWriteFound}
+use Rattle.hu_run.specs.Run.{Streams, Writing}
+use Rattle.hu_run.specs.Summary.{HasMined, ItemRunsWriteFound, ClosedRunsWriteFound}
+use Rattle.hu_run.specs.Summary.{SequenceRunsWriteFound, Reads, HasMinedRecords, SameRecordsWriteSame}
 
 -- what was appended is the text of the ending
 mined-text : (s : Streams) (task : Task) (engine : Engine) (least : ℤ) (top : Option ℕ)
@@ -80,14 +83,61 @@ sequence-runs is ascends s engine least top told mined =
     (mined-text s Sequences engine least top told mined) in (
       wrote.0,
       wrote.1,
-      λ lawful. (
+      (
         sequence_answer wrote.0 least top,
         record {
           whole = sequence_answer wrote.0 least None;
-          each = is wrote.0 lawful least;
+          each = is wrote.0 (sequences-lawful told names wrote.0 wrote.1) least;
           ascends = ascends least None (sequence_patterns wrote.0);
           first = refl;
         },
         wrote.2,
       ),
     )
+
+-- a task writes this text of the records that it reads
+abbrev WritesTextOf : {R : Type 0} → Task → Reads R → (ℤ → Option ℕ → List R → List ℕ) → Type 0
+WritesTextOf task reads text =
+    (engine : Engine) (least : ℤ) (top : Option ℕ) (told : List ℕ → Option (List ℕ)) (names : List (List ℕ))
+    → mining_ending (record { task = task; engine = engine; least = least; top = top }) told names
+    ≡ ending_by (λ records. writes (text least top records)) (reads told names)
+
+module _ {R : Type 0} (task : Task) (reads : Reads R) (text : ℤ → Option ℕ → List R → List ℕ)
+    (is : WritesTextOf task reads text) where
+  -- it was appended
+  text-appended : (s : Streams) (least : ℤ) (top : Option ℕ) (records : List R)
+      → HasMinedRecords task least top reads records s → Appended s.out s.out_after (text least top records)
+  text-appended s least top records run =
+      let names = names_of (mining task run.engine least top) s.words in
+      let fact : Ending → Type 0 = Writing (Appended s.out s.out_after) in
+      let wrote =
+      subst fact (is run.engine least top run.told names) (mined-text s task run.engine least top run.told run.mined) in
+      subst (λ input. fact (ending_by (λ rs. writes (text least top rs)) input)) run.holds wrote
+
+  -- where it doesn't mind the order of the records, two runs whose files hold the same ones wrote the same
+  same-runs : ((records others : List R) (least : ℤ) (top : Option ℕ) → IsPermutation records others
+      → text least top records ≡ text least top others) → SameRecordsWriteSame task reads
+  same-runs same s other least top records others run another moved = (
+    text least top records,
+    text-appended s least top records run,
+    subst (Appended other.out other.out_after) (sym (same records others least top moved))
+        (text-appended other least top others another),
+  )
+
+pub same_items : ItemsInAnyOrder → SameRecordsWriteSame Items transactions
+same_items same =
+    same-runs Items transactions (λ least top records. answer_text Items (item_answer records least top))
+    (λ engine least top told names. refl)
+    (λ records others least top moved. ap (answer_text Items) (same records others least top moved))
+
+pub same_closed : ClosedInAnyOrder → SameRecordsWriteSame Closed transactions
+same_closed same =
+    same-runs Closed transactions (λ least top records. answer_text Closed (closed_answer records least top))
+    (λ engine least top told names. refl)
+    (λ records others least top moved. ap (answer_text Closed) (same records others least top moved))
+
+pub same_sequences : SequencesInAnyOrder → SameRecordsWriteSame Sequences sequences
+same_sequences same =
+    same-runs Sequences sequences (λ least top records. answer_text Sequences (sequence_answer records least top))
+    (λ engine least top told names. refl)
+    (λ records others least top moved. ap (answer_text Sequences) (same records others least top moved))

@@ -1,14 +1,15 @@
 -- What a run of mining wrote, in the words of its reader: without an answer's definition and without a ranking.
-use Rattle.std.specs.Prelude.{◌≡◌, ◌↔◌, ℕ, ◌<◌, ℤ, Option, Some, Ok, List, length, get_or}
-use Rattle.std.specs.List.{AllByRecursion, Contains}
+use Rattle.std.specs.Prelude.{◌≡◌, ◌↔◌, ℕ, ◌<◌, ℤ, Option, Some, Result, Ok, List, length, get_or}
+use Rattle.std.specs.List.{Contains}
+use Rattle.std.specs.List.Sorted.{IsPermutation}
 use Rattle.hu_kind.specs.declared.entry.Entry.{Entry}
 use Rattle.hu_kind.specs.declared.task.Task.{Task}
 use Rattle.hu_kind.specs.declared.task.Task.TheVariants.{Items, Closed, Sequences}
 use Rattle.hu_kind.specs.Order.{Before, cut}
-use Rattle.hu_kind.specs.Sequence.{IsSequence}
 use Rattle.hu_answer.specs.Entries.{IsEntryOf, IsFoundSet, IsSequenceEntryOf, IsFoundSequence}
 use Rattle.hu_answer.specs.Supersets.{IsClosedSet}
 use Rattle.hu_io.specs.State.{Appended}
+use Rattle.hu_input.specs.Input.{Unread}
 use Rattle.hu_mine.specs.declared.engine.Engine.{Engine}
 use Rattle.hu_report.specs.Text.{answer_text}
 use Rattle.hu_run.specs.Job.{job, mining, names_of}
@@ -71,11 +72,34 @@ ClosedRunsWriteFound =
     × (transactions told (names_of (mining Closed engine least top) s.words) ≡ Ok records)
     × WritesFound s Closed (IsFoundClosed records least) top
 
--- a run of `seq` wrote all sequences, the records being lawful sequences
+-- a run of `seq` wrote all sequences
 abbrev pub SequenceRunsWriteFound : Type 0
 SequenceRunsWriteFound =
     (s : Streams) (engine : Engine) (least : ℤ) (top : Option ℕ) (told : List ℕ → Option (List ℕ)) →
     HasMined s Sequences engine least top told →
     (records : List (List (List (ℕ × ℤ))))
     × (sequences told (names_of (mining Sequences engine least top) s.words) ≡ Ok records)
-    × (AllByRecursion IsSequence records → WritesFound s Sequences (IsFoundPattern records least) top)
+    × WritesFound s Sequences (IsFoundPattern records least) top
+
+-- how the records of named files are read of contents
+abbrev pub Reads : Type 0 → Type 0
+Reads R = (List ℕ → Option (List ℕ)) → List (List ℕ) → Result (List R) Unread
+
+-- a run of a task that ended with status 0, by some engine and over some told contents: its files
+-- hold these records
+pub record HasMinedRecords {R : Type 0} (task : Task) (least : ℤ) (top : Option ℕ) (reads : Reads R)
+    (records : List R) (s : Streams) : Type 0 where
+  pub engine : Engine
+  pub told : List ℕ → Option (List ℕ)
+  pub mined : HasMined s task engine least top told
+  pub holds : reads told (names_of (mining task engine least top) s.words) ≡ Ok records
+
+-- two runs of a task, with one minimum and one k, whose files hold the same records in whatever
+-- order appended the same text
+abbrev pub SameRecordsWriteSame : {R : Type 0} → Task → Reads R → Type 0
+SameRecordsWriteSame {R} task reads =
+    (s other : Streams) (least : ℤ) (top : Option ℕ) (records others : List R) →
+    HasMinedRecords task least top reads records s →
+    HasMinedRecords task least top reads others other →
+    IsPermutation records others →
+    (text : List ℕ) × Appended s.out s.out_after text × Appended other.out other.out_after text

@@ -3,8 +3,13 @@
 
 ghost use Rattle.hu_run.specs.Laws.{IsSurelyDone, IsDoneInMemory};
 ghost use Rattle.hu_run.specs.Summary.{ItemRunsWriteFound, ClosedRunsWriteFound, SequenceRunsWriteFound};
+ghost use Rattle.hu_run.specs.Summary.{SameRecordsWriteSame};
+ghost use Rattle.hu_run.specs.Ending.{transactions, sequences};
+ghost use Rattle.hu_kind.specs.declared.task.Task.TheVariants.{Items, Closed, Sequences};
 
-use hu_answer::{law_of_closed_itemsets, law_of_itemsets, law_of_order, law_of_sequences};
+use hu_answer::{
+    law_of_any_order, law_of_closed_itemsets, law_of_itemsets, law_of_order, law_of_sequences,
+};
 use hu_io::{named_files_never_fail, roomy_sinks_never_fail};
 
 /// Over files and a sink that never fail, a run of a job ends as its contents say, or for want of memory.
@@ -33,4 +38,15 @@ pub fn law_of_written_answers()
     law_of_closed_itemsets();
     law_of_sequences();
     law_of_order();
+}
+
+/// Two runs of mining of one task, minimum and k that ended with status 0 and whose files hold the same records appended the
+/// same text: in whatever order the records stand, however they are cut into files and named, and whatever the engines.
+#[tactic(auto, using(crate::proofs::SummaryLemmas::same_items, crate::proofs::SummaryLemmas::same_closed, crate::proofs::SummaryLemmas::same_sequences))]
+pub fn law_of_same_records()
+    ensures items { SameRecordsWriteSame Items transactions }
+    ensures closed { SameRecordsWriteSame Closed transactions }
+    ensures sequences { SameRecordsWriteSame Sequences sequences }
+{
+    law_of_any_order();
 }
