@@ -2,6 +2,7 @@
 use Rattle.std.proofs.Common.{◌≡◌, ℕ, ◌<◌, Bool, true, false, ◌&&◌, Option, None, Some, MatchOption, Result, Ok, Err}
 use Rattle.std.proofs.Common.{Vec, List, [], ◌∷◌, length, refl, ap, sym, subst, ◌∙◌, arith, ◌⊎◌, inl, inr, nat_le}
 use Rattle.std.specs.Bool.{then_some}
+use Rattle.std.specs.Prelude.{MatchBool, ⊤}
 use Rattle.std.specs.Result.{IfOk, IfErr}
 use Rattle.std.specs.Str.{bytes_eq}
 use Rattle.std.proofs.lemmas.Bool.{lt-leb}
@@ -9,9 +10,9 @@ use Rattle.std.specs.Prelude.{IfSome, ℤ}
 use Rattle.hu_base.specs.Base.{records_of}
 use Rattle.hu_kept.specs.Kept.{Keeping, with_batch}
 use Rattle.hu_shelf.specs.declared.fault.ShelfFault.{ShelfFault}
-use Rattle.hu_shelf.specs.declared.fault.ShelfFault.TheVariants.{Damaged, NoMemory}
+use Rattle.hu_shelf.specs.declared.fault.ShelfFault.TheVariants.{Absent, Damaged, NoMemory, Present}
 use Rattle.hu_shelf.specs.Keeper.{KeeperState, Stays, Told}
-use Rattle.hu_shelf.specs.Shelf.{IsCause, IsFaultOf, Refuses, find_fault}
+use Rattle.hu_shelf.specs.Shelf.{IsCause, IsFaultOf, Refuses, create_fault, find_fault}
 use Rattle.hu_shelf.specs.Store.{after_byte, before_byte, is_lawful, records_in, settings_in, store_of, store_text, told_by}
 use Rattle.hu_shelf.proofs.ContentLemmas.{Told-map}
 use Rattle.hu_shelf.proofs.lemmas.StoreLemmas.{text_of-store}
@@ -39,13 +40,46 @@ damaged : (text : List ℕ) → 0 < length text → store_of text ≡ None → f
 damaged [] some none = absurd (omega (arith, some))
 damaged (b ∷ bs) some none = rw none refl
 
+-- a fault that the name's text has, where it is told, and otherwise any other one
+pub fault_found : (state : KeeperState) (name : List ℕ) (told : List ℕ → Option ShelfFault) (fault : ShelfFault) (other : List ℕ)
+    → told other ≡ Some fault → Told state name (λ t. told t ≡ Some fault) → IsFaultOf state name told fault
+fault_found state name told fault other here found = by state.texts found
+  where
+    by : (texts : Option (List ℕ → List ℕ)) → MatchOption texts ⊤ (λ t. told (t name) ≡ Some fault)
+        → (text : List ℕ) × MatchOption texts ⊤ (λ t. t name ≡ text) × (told text ≡ Some fault)
+    by None h = (other, tt, here)
+    by (Some t) h = (t name, refl, h)
+
+present : (text : List ℕ) → 0 < length text → create_fault text ≡ Some Present
+present [] some = absurd (omega (arith, some))
+present (b ∷ bs) some = refl
+
+pub found_present : (state : KeeperState) (name : List ℕ) → Told state name (λ t. 0 < length t) → IsFaultOf state name create_fault Present
+found_present state name told =
+    fault_found state name create_fault Present (0 ∷ []) refl
+    (Told-map state name (λ t. 0 < length t) (λ t. create_fault t ≡ Some Present) present told)
+
+-- a text that is there, by a test
+pub found_there : (state : KeeperState) (name : List ℕ) (empty : Bool) → Told state name (λ t. MatchBool empty (t ≡ []) (0 < length t))
+    → empty ≡ false → IsFaultOf state name create_fault Present
+found_there state name true told is = absurd (cc)
+found_there state name false told is = found_present state name told
+
+pub found_absent : (state : KeeperState) (name : List ℕ) → Told state name (λ t. t ≡ []) → IsFaultOf state name find_fault Absent
+found_absent state name told =
+    fault_found state name find_fault Absent [] refl
+    (Told-map state name (λ t. t ≡ []) (λ t. find_fault t ≡ Some Absent) (λ t none. ap find_fault none) told)
+
+found_damaged : (state : KeeperState) (name : List ℕ) → Told state name (λ t. find_fault t ≡ Some Damaged) → IsFaultOf state name find_fault Damaged
+found_damaged state name told = fault_found state name find_fault Damaged (0 ∷ []) refl told
+
 -- a text that is too long to be read is damaged
 pub long_damaged : {A : Type 0} (state : KeeperState) (name : List ℕ) (found : Option (Vec ℕ A))
     → Told state name (λ text. MatchOption found (268435456 < length text) (λ bytes. bytes.items ≡ text))
     → found ≡ None → IsFaultOf state name find_fault Damaged
 long_damaged state name None told none =
-    Told-map state name (λ text. 268435456 < length text) (λ text. find_fault text ≡ Some Damaged)
-    (λ text long. damaged text (omega (arith, long)) (none_by_length text long)) told
+    found_damaged state name (Told-map state name (λ text. 268435456 < length text) (λ text. find_fault text ≡ Some Damaged)
+    (λ text long. damaged text (omega (arith, long)) (none_by_length text long)) told)
 long_damaged state name (Some v) told none = absurd (cc)
 
 -- the text that was read is that of the name
@@ -85,8 +119,8 @@ found_none state now name items text (Err fault) told is some same cause = recor
     by : (fault ≡ NoMemory) ⊎ ((fault ≡ Damaged) × (store_of text ≡ None)) → IsCause state now name (IsFaultOf state name find_fault) fault
     by (inl memory) = subst (IsCause state now name (IsFaultOf state name find_fault)) (sym memory) tt
     by (inr bad) = subst (IsCause state now name (IsFaultOf state name find_fault)) (sym bad.0)
-        (Told-map state name (λ t. items ≡ t) (λ t. find_fault t ≡ Some Damaged)
-        (λ t same'. damaged t (omega (arith, some, ap length same')) (ap store_of (sym (is ∙ same')) ∙ bad.1)) told)
+        (found_damaged state name (Told-map state name (λ t. items ≡ t) (λ t. find_fault t ≡ Some Damaged)
+        (λ t same'. damaged t (omega (arith, some, ap length same')) (ap store_of (sym (is ∙ same')) ∙ bad.1)) told))
 
 -- what a text tells, by its parts
 pub told_by-parts : (text after line rest : List ℕ) (settings : Keeping) (found : Option (ℕ × List (List (ℕ × ℤ))))

@@ -87,9 +87,10 @@ pub record Refuses (old new : KeeperState) (name : List ℕ) (IsSuch : ShelfFaul
   pub cause : IsCause old new name IsSuch fault
   pub stays : Stays old new
 
--- the fault that the text of a name has, where the texts are told
+-- a text has this fault, which is that of the name where the texts are told
 abbrev pub IsFaultOf : KeeperState → List ℕ → (List ℕ → Option ShelfFault) → ShelfFault → Type 0
-IsFaultOf state name told fault = Told state name (λ text. told text ≡ Some fault)
+IsFaultOf state name told fault =
+    (text : List ℕ) × Told state name (λ there. there ≡ text) × (told text ≡ Some fault)
 
 -- the rules of a shelf's fields: its text is that of the store, and its sum and its task are the store's
 pub record IsShelf (s : Keeping) (bytes : List ℕ) (absolute : ℤ) (only : Bool) : Type 0 where
