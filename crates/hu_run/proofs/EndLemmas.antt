@@ -18,53 +18,9 @@ use Rattle.hu_run.specs.Job.{Asked, mine, size, average, certify, check, drill, 
 use Rattle.hu_run.specs.Ending.{Denial, has_fault, too_long, Ending, ending, status_of}
 use Rattle.hu_run.specs.Stop.{stop_status, stop_line, told_line, word_text, refusal_line, read_failed_line, denial_line}
 use Rattle.hu_run.specs.Run.{Streams, Runs, Tells, ComesTo, WhereTold, Writing, Lacking, Unharmed}
+use Rattle.hu_run.proofs.ResultLemmas.{err_of, from_ok, and_ok, if_ok, any_ok, no_ok, both_ok, ok_no_err, if_err, if_some, any_some}
+use Rattle.hu_run.proofs.SparesLemmas.{sink-same, sink-put, sink-told, spares-written, spares-stopped, spares-unread}
 use Rattle.hu_run.specs.Attempt.{HasText, HasRefusal, HasFailed, HasDenial, Puts, Ends}
-
--- ---- results and options
-
--- the result that has this error
-pub err_of : {A E : Type 0} (r : Result A E) (e : E) → Some e ≡ result_err r → r ≡ Err e
-err_of (Ok a) e is = cc
-err_of (Err d) e is = let same : e ≡ d = cc in ap Err (sym same)
-
-from_ok : {A E : Type 0} (r : Result A E) (P : A → Type 0) (Q : Type 0) → ((x : A) → P x → Q) → IsOkAnd r P → Q
-from_ok (Ok x) P Q f p = f x p
-from_ok (Err e) P Q f p = absurd p
-
-and_ok : {A E : Type 0} (r : Result A E) (P Q : A → Type 0) → ((x : A) → P x → Q x) → IsOkAnd r P → IsOkAnd r Q
-and_ok (Ok x) P Q f p = f x p
-and_ok (Err e) P Q f p = absurd p
-
-if_ok : {A E : Type 0} (r : Result A E) (P Q : A → Type 0) → ((x : A) → P x → Q x) → IsOkAnd r P → IfOk r Q
-if_ok (Ok x) P Q f p = f x p
-if_ok (Err e) P Q f p = tt
-
-any_ok : {A E : Type 0} (r : Result A E) (Q : A → Type 0) → ((x : A) → Q x) → IfOk r Q
-any_ok (Ok x) Q f = f x
-any_ok (Err e) Q f = tt
-
-no_ok : {A E : Type 0} (r : Result A E) (e : E) (Q : A → Type 0) → r ≡ Err e → IfOk r Q
-no_ok r e Q is = subst (λ x. IfOk x Q) (sym is) tt
-
-both_ok : {A E : Type 0} (r : Result A E) (P Q : A → Type 0) → ((x : A) → P x → Q x → ⊥) → IsOkAnd r P → IsOkAnd r Q → ⊥
-both_ok (Ok x) P Q f p q = f x p q
-both_ok (Err e) P Q f p q = p
-
-ok_no_err : {A E : Type 0} (r : Result A E) (P : A → Type 0) → IsOkAnd r P → IsErr r → ⊥
-ok_no_err (Ok x) P p err = cc
-ok_no_err (Err e) P p err = p
-
-if_err : {A E : Type 0} (r : Result A E) (P : A → Type 0) (Q : E → Type 0) → IsOkAnd r P → IfErr r Q
-if_err (Ok x) P Q p = tt
-if_err (Err e) P Q p = absurd p
-
-if_some : {A : Type 0} (o : Option A) (P Q : A → Type 0) → ((x : A) → P x → Q x) → IfSome o P → IfSome o Q
-if_some None P Q f p = tt
-if_some (Some x) P Q f p = f x p
-
-any_some : {A : Type 0} (o : Option A) (Q : A → Type 0) → ((x : A) → Q x) → IfSome o Q
-any_some None Q f = tt
-any_some (Some x) Q f = f x
 
 -- the texts of the words that name files are those words among the texts
 pub names-of-texts : (asked : Asked) (words : List (String Global)) → names_of asked (texts_of words) ≡ texts_of (names_of asked words)
@@ -86,37 +42,6 @@ has-text words asked old new names text fact is named has so =
 pub place_is_among : (names : List (List ℕ)) (i : ℕ) (name : List ℕ) → slice_get names i ≡ Some name → Contains names name
 place_is_among names i name place = (i, slice_get_within names i name place, get_or_from_slice_get names i name name place)
 
--- ---- what is kept
-
-record KeepsFiles (old new : FilesState) : Type 0 where
-  later : (name : List ℕ) → old.faults name ≤ new.faults name
-  contents : new.contents ≡ old.contents
-  plan : new.plan ≡ old.plan
-
-files-same : (old new : FilesState) → new ≡ old → KeepsFiles old new
-files-same old new same = record {
-  later = λ name. omega (arith, ap (λ f. f.faults name) same);
-  contents = ap (λ f. f.contents) same;
-  plan = ap (λ f. f.plan) same;
-}
-
-files-missed : (old new : FilesState) (name : List ℕ) → Missed old new name → KeepsFiles old new
-files-missed old new name missed = record { later = missed.later; contents = missed.contents; plan = missed.plan }
-
-record KeepsSink (old new : SinkState) : Type 0 where
-  later : old.faults ≤ new.faults
-  plan : new.plan ≡ old.plan
-
-sink-same : (old new : SinkState) → new ≡ old → KeepsSink old new
-sink-same old new same = record { later = omega (arith, ap (λ s. s.faults) same); plan = ap (λ s. s.plan) same }
-
-sink-put : {old new : SinkState} {text : List ℕ} → Appended old new text → KeepsSink old new
-sink-put put = record { later = omega (arith, put.faults); plan = put.plan }
-
-sink-told : (s : Streams) (line : List ℕ) → Tells s line → KeepsSink s.err s.err_after
-sink-told s line (inl put) = sink-put put
-sink-told s line (inr broke) = record { later = broke.later; plan = broke.plan }
-
 module _ (s : Streams) where
   -- what a job comes to
   abbrev comes_to : Asked → Option Ending
@@ -124,32 +49,6 @@ module _ (s : Streams) where
 
   abbrev EndsBy : Result (Unit {0}) Stop → Type 0
   EndsBy result = Ends s.words s.files s.files_after s.out s.out_after result
-
-  -- what the files and `out` are after each status
-  record Kept (status : ℕ) : Type 0 where
-    files : KeepsFiles s.files s.files_after
-    files_same : status ≢ 3 → s.files_after ≡ s.files
-    out : KeepsSink s.out s.out_after
-    out_same : status ≢ 4 → s.out_after.faults ≡ s.out.faults
-
-  kept-stopped : (status : ℕ) → s.files_after ≡ s.files → s.out_after ≡ s.out → Kept status
-  kept-stopped status files out = record {
-    files = files-same s.files s.files_after files;
-    files_same = λ _. files;
-    out = sink-same s.out s.out_after out;
-    out_same = λ _. ap (λ o. o.faults) out;
-  }
-
-  kept-written : (status : ℕ) → s.files_after ≡ s.files → KeepsSink s.out s.out_after → (status ≢ 4 → s.out_after.faults ≡ s.out.faults) → Kept status
-  kept-written status files out same = record { files = files-same s.files s.files_after files; files_same = λ _. files; out = out; out_same = same }
-
-  kept-unread : (name : List ℕ) → Missed s.files s.files_after name → s.out_after ≡ s.out → Kept 3
-  kept-unread name missed out = record {
-    files = files-missed s.files s.files_after name missed;
-    files_same = λ not. absurd (not refl);
-    out = sink-same s.out s.out_after out;
-    out_same = λ _. ap (λ o. o.faults) out;
-  }
 
   -- ---- each end
 
@@ -172,7 +71,7 @@ module _ (s : Streams) where
       let told = sink-same s.err s.err_after silent in
       let same : s.files_after ≡ s.files = from_ok (job s.words) _ _ (λ asked p. p.1.same) ends in
       let put : (text : List ℕ) × Appended s.out s.out_after text = from_ok (job s.words) _ _ (λ asked p. (p.0, p.2)) ends in
-      let kept = kept-written 0 same (sink-put put.1) (λ _. put.1.faults) in
+      let kept = spares-written s 0 same (sink-put put.1) (λ _. put.1.faults) told in
       record {
         within = omega arith;
         done = λ _. text-done (Appended s.out s.out_after) ends;
@@ -187,15 +86,7 @@ module _ (s : Streams) where
         memory_told = λ is. absurd (omega (arith, is));
         complete = where_told (λ e is unharmed. inl is) (text-status (Appended s.out s.out_after) ends);
         lacking = text-not-lacking (Appended s.out s.out_after) _ ends;
-        files_same = kept.files_same;
-        files_later = kept.files.later;
-        out_same = kept.out_same;
-        out_later = kept.out.later;
-        err_later = told.later;
-        contents = kept.files.contents;
-        files_plan = kept.files.plan;
-        out_plan = kept.out.plan;
-        err_plan = told.plan;
+        spares = kept;
       }
 
   -- a proper front of it was
@@ -204,7 +95,7 @@ module _ (s : Streams) where
       let told = sink-told s (told_line (codes "write failed")) told_ in
       let same : s.files_after ≡ s.files = from_ok (job s.words) _ _ (λ asked p. p.1.same) ends in
       let put : (text : List ℕ) × Broke s.out s.out_after text = from_ok (job s.words) _ _ (λ asked p. (p.0, p.2)) ends in
-      let kept = kept-written 4 same (record { later = put.1.later; plan = put.1.plan }) (λ not. absurd (not refl)) in
+      let kept = spares-written s 4 same (record { later = put.1.later; plan = put.1.plan }) (λ not. absurd (not refl)) told in
       record {
         within = omega arith;
         done = λ is. absurd (omega (arith, is));
@@ -219,15 +110,7 @@ module _ (s : Streams) where
         memory_told = λ is. absurd (omega (arith, is));
         complete = where_told (λ e is unharmed. absurd (unharmed.out put.1.rose)) (text-status (Broke s.out s.out_after) ends);
         lacking = text-not-lacking (Broke s.out s.out_after) _ ends;
-        files_same = kept.files_same;
-        files_later = kept.files.later;
-        out_same = kept.out_same;
-        out_later = kept.out.later;
-        err_later = told.later;
-        contents = kept.files.contents;
-        files_plan = kept.files.plan;
-        out_plan = kept.out.plan;
-        err_plan = told.plan;
+        spares = kept;
       }
 
   -- a line is refused
@@ -237,7 +120,7 @@ module _ (s : Streams) where
   refused name refusal ends unwritten told_ =
       let told = sink-told s (refusal_line name refusal.number refusal.reason) told_ in
       let same : s.files_after ≡ s.files = from_ok (job s.words) _ _ (λ asked p. p.same) ends in
-      let kept = kept-stopped 1 same unwritten in
+      let kept = spares-stopped s 1 same unwritten told in
       record {
         within = omega arith;
         done = λ is. absurd (omega (arith, is));
@@ -252,15 +135,7 @@ module _ (s : Streams) where
         memory_told = λ is. absurd (omega (arith, is));
         complete = if_ok (job s.words) _ _ (λ asked p. if_some (comes_to asked) _ _ (λ e is unharmed. inl (sym (ap status_of is))) p.ending) ends;
         lacking = if_ok (job s.words) _ _ (λ asked p. if_some (comes_to asked) _ _ (λ e is lacking. absurd (subst Lacking is lacking)) p.ending) ends;
-        files_same = kept.files_same;
-        files_later = kept.files.later;
-        out_same = kept.out_same;
-        out_later = kept.out.later;
-        err_later = told.later;
-        contents = kept.files.contents;
-        files_plan = kept.files.plan;
-        out_plan = kept.out.plan;
-        err_plan = told.plan;
+        spares = kept;
       }
 
   -- something is wrong with the certificate
@@ -270,7 +145,7 @@ module _ (s : Streams) where
   denied denial ends unwritten told_ =
       let told = sink-told s (denial_line denial) told_ in
       let same : s.files_after ≡ s.files = from_ok (job s.words) _ _ (λ asked p. p.same) ends in
-      let kept = kept-stopped 6 same unwritten in
+      let kept = spares-stopped s 6 same unwritten told in
       record {
         within = omega arith;
         done = λ is. absurd (omega (arith, is));
@@ -285,15 +160,7 @@ module _ (s : Streams) where
         memory_told = λ is. absurd (omega (arith, is));
         complete = if_ok (job s.words) _ _ (λ asked p. if_some (comes_to asked) _ _ (λ e is unharmed. inl (sym (ap status_of is))) p.ending) ends;
         lacking = if_ok (job s.words) _ _ (λ asked p. if_some (comes_to asked) _ _ (λ e is lacking. absurd (subst Lacking is lacking)) p.ending) ends;
-        files_same = kept.files_same;
-        files_later = kept.files.later;
-        out_same = kept.out_same;
-        out_later = kept.out.later;
-        err_later = told.later;
-        contents = kept.files.contents;
-        files_plan = kept.files.plan;
-        out_plan = kept.out.plan;
-        err_plan = told.plan;
+        spares = kept;
       }
 
   -- a read failed
@@ -305,7 +172,7 @@ module _ (s : Streams) where
       let missed : Missed s.files s.files_after name = from_ok (job s.words) _ _ (λ asked p. p.missed) ends in
       let harmed : Unharmed s → ⊥ = λ unharmed. both_ok (job s.words) _ _ (λ asked p none.
       none name (place_is_among (reads_of asked s.words) p.place name p.named) p.missed.rose) ends unharmed.files in
-      let kept = kept-unread name missed unwritten in
+      let kept = spares-unread s name missed unwritten told in
       record {
         within = omega arith;
         done = λ is. absurd (omega (arith, is));
@@ -320,22 +187,14 @@ module _ (s : Streams) where
         memory_told = λ is. absurd (omega (arith, is));
         complete = any_ok (job s.words) _ (λ asked. any_some (comes_to asked) _ (λ e unharmed. absurd (harmed unharmed)));
         lacking = any_ok (job s.words) _ (λ asked. any_some (comes_to asked) _ (λ e lacking. inl refl));
-        files_same = kept.files_same;
-        files_later = kept.files.later;
-        out_same = kept.out_same;
-        out_later = kept.out.later;
-        err_later = told.later;
-        contents = kept.files.contents;
-        files_plan = kept.files.plan;
-        out_plan = kept.out.plan;
-        err_plan = told.plan;
+        spares = kept;
       }
 
   -- there is no memory
   out_of_memory : IsOkAnd (job s.words) (λ asked. ⊤) → s.files_after ≡ s.files → s.out_after ≡ s.out → Tells s (told_line (codes "out of memory")) → Runs s 5
   out_of_memory ends same unwritten told_ =
       let told = sink-told s (told_line (codes "out of memory")) told_ in
-      let kept = kept-stopped 5 same unwritten in
+      let kept = spares-stopped s 5 same unwritten told in
       record {
         within = omega arith;
         done = λ is. absurd (omega (arith, is));
@@ -350,22 +209,14 @@ module _ (s : Streams) where
         memory_told = λ _. told_;
         complete = any_ok (job s.words) _ (λ asked. any_some (comes_to asked) _ (λ e unharmed. inr refl));
         lacking = any_ok (job s.words) _ (λ asked. any_some (comes_to asked) _ (λ e lacking. inr refl));
-        files_same = kept.files_same;
-        files_later = kept.files.later;
-        out_same = kept.out_same;
-        out_later = kept.out.later;
-        err_later = told.later;
-        contents = kept.files.contents;
-        files_plan = kept.files.plan;
-        out_plan = kept.out.plan;
-        err_plan = told.plan;
+        spares = kept;
       }
 
   -- the words are no job
   no_job : (fault : WordFault) → job s.words ≡ Err fault → s.files_after ≡ s.files → s.out_after ≡ s.out → Tells s (told_line (word_text fault)) → Runs s 2
   no_job fault is same unwritten told_ =
       let told = sink-told s (told_line (word_text fault)) told_ in
-      let kept = kept-stopped 2 same unwritten in
+      let kept = spares-stopped s 2 same unwritten told in
       record {
         within = omega arith;
         done = λ never. absurd (omega (arith, never));
@@ -380,15 +231,7 @@ module _ (s : Streams) where
         memory_told = λ never. absurd (omega (arith, never));
         complete = no_ok (job s.words) fault _ is;
         lacking = no_ok (job s.words) fault _ is;
-        files_same = kept.files_same;
-        files_later = kept.files.later;
-        out_same = kept.out_same;
-        out_later = kept.out.later;
-        err_later = told.later;
-        contents = kept.files.contents;
-        files_plan = kept.files.plan;
-        out_plan = kept.out.plan;
-        err_plan = told.plan;
+        spares = kept;
       }
 
   -- what the attempt stopped at, and what was told of it

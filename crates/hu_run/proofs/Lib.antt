@@ -7,3 +7,5 @@ mod CheckLemmas
 mod DenialLemmas
 mod SummaryLemmas
 mod CertifyLemmas
+mod ResultLemmas
+mod SparesLemmas

@@ -123,6 +123,19 @@ pub record Unharmed (s : Streams) : Type 0 where
       → ¬ Rose (s.files.faults name) (s.files_after.faults name))
   pub out : ¬ Rose s.out.faults s.out_after.faults
 
+-- what a run leaves of its files and streams: counts rise only where the status says so, and never fall
+pub record Spares (s : Streams) (status : ℕ) : Type 0 where
+  pub files_same : status ≢ 3 → s.files_after ≡ s.files
+  pub files_later : (name : List ℕ) → s.files.faults name ≤ s.files_after.faults name
+  pub out_same : status ≢ 4 → s.out_after.faults ≡ s.out.faults
+  pub out_later : s.out.faults ≤ s.out_after.faults
+  pub err_later : s.err.faults ≤ s.err_after.faults
+  -- what no run changes
+  pub contents : s.files_after.contents ≡ s.files.contents
+  pub files_plan : s.files_after.plan ≡ s.files.plan
+  pub out_plan : s.out_after.plan ≡ s.out.plan
+  pub err_plan : s.err_after.plan ≡ s.err.plan
+
 -- what a run promises of its status
 pub record Runs (s : Streams) (status : ℕ) : Type 0 where
   pub within : status ≤ 6
@@ -145,14 +158,4 @@ pub record Runs (s : Streams) (status : ℕ) : Type 0 where
   -- where no count rose the status is that of the ending, or want of memory; a missing file raises its own count
   pub complete : WhereTold s (λ e. Unharmed s → (status ≡ status_of e) ⊎ (status ≡ 5))
   pub lacking : WhereTold s (λ e. Lacking e → (status ≡ 3) ⊎ (status ≡ 5))
-  -- counts rise only where the status says so, and never fall
-  pub files_same : status ≢ 3 → s.files_after ≡ s.files
-  pub files_later : (name : List ℕ) → s.files.faults name ≤ s.files_after.faults name
-  pub out_same : status ≢ 4 → s.out_after.faults ≡ s.out.faults
-  pub out_later : s.out.faults ≤ s.out_after.faults
-  pub err_later : s.err.faults ≤ s.err_after.faults
-  -- what no run changes
-  pub contents : s.files_after.contents ≡ s.files.contents
-  pub files_plan : s.files_after.plan ≡ s.files.plan
-  pub out_plan : s.out_after.plan ≡ s.out.plan
-  pub err_plan : s.err_after.plan ≡ s.err.plan
+  pub spares : Spares s status
