@@ -9,3 +9,6 @@ mod SummaryLemmas
 mod CertifyLemmas
 mod ResultLemmas
 mod SparesLemmas
+mod ShelfEndLemmas
+mod ShelfLemmas
+mod GrownLemmas

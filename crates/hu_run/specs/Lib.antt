@@ -8,3 +8,9 @@ pub mod Laws
 pub mod Summary
 pub mod Attempt
 pub mod Worked
+pub mod ShelfJob
+pub mod ShelfEnding
+pub mod ShelfStop
+pub mod ShelfRun
+pub mod ShelfAttempt
+pub mod ShelfLaws

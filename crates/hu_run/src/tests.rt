@@ -5,6 +5,7 @@ mod failures;
 mod limits;
 mod mining;
 mod refusals;
+mod shelf;
 mod sizes;
 
 use crate::run;

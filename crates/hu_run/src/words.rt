@@ -11,7 +11,7 @@ mod certify;
 mod check;
 mod drill;
 mod mining;
-mod numbers;
+pub(crate) mod numbers;
 mod search;
 mod sized;
 
@@ -69,19 +69,21 @@ pub enum Job<'a> {
 #[derive(Clone, Copy, Debug, PartialEq, Eq)]
 pub enum WordFault {
     /// There are fewer than five words, or fewer than two where the first is `drill`, seven where it is `sized`, three where it is
-    /// `certify`, four where it is `check`.
+    /// `certify`, four where it is `check`; or fewer than a form that begins with `shelf` has.
     TooFewWords,
-    /// The first word is `drill`, and there are more than two.
+    /// The first word is `drill`, and there are more than two; or more than a form that begins with `shelf` has.
     TooManyWords,
     /// The first word is `drill`, and the second is no number from 1 to 2,147,483,646.
     BadSeed,
-    /// The first word is no task.
+    /// The first word is no task; or it is `shelf`, and the second is none of `new`, `add` and `list`, or the task is neither `items`
+    /// nor `closed`.
     TaskUnknown,
     /// The second word is no engine that the task offers.
     EngineNotOffered,
-    /// The third word, or the second where the first is `certify` or `check`, is no number from 1 to 2^127 - 1.
+    /// The third word, or the second where the first is `certify` or `check`, or the fifth after `shelf new`, is no number from 1 to
+    /// 2^127 - 1.
     BadMinimum,
-    /// The fourth word is neither `all` nor a number from 1 to 1,000,000.
+    /// The fourth word, or the sixth after `shelf new`, is neither `all` nor a number from 1 to 1,000,000.
     BadTop,
     /// The first word is `sized`, and the fifth and the sixth aren't numbers from 1 to 4,096, or fall.
     BadLengths,
@@ -112,7 +114,7 @@ pub fn read_words(words: &[String]) -> Result<Job<'_>, WordFault>
 }
 
 /// Whether the first word is this one, which isn't empty.
-fn begins_with(words: &[String], first: &str) -> bool
+pub(crate) fn begins_with(words: &[String], first: &str) -> bool
     requires { 0 < length first.now }
     ensures { result ≡ bytes_eq (word_at (texts_of words.now) 0) first.now }
 {

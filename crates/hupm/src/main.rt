@@ -1,9 +1,10 @@
 //! hupm, a miner of patterns of high utility: `hupm TASK ENGINE MIN TOP FILE [BATCH ..]`. All that it does is one call of
-//! [`hu_run::run`] over the words, the files of the system and its streams.
+//! [`hu_run::run_all`] over the words, the files of the system, its streams, and stores in its files.
 #![tactic(auto)]
 
 use hu_io::{DiskFiles, StreamSink};
-use hu_run::run;
+use hu_run::run_all;
+use hu_shelf::DiskKeeper;
 use std::process::ExitCode;
 use std::rt::Env;
 use std::{env, io};
@@ -18,7 +19,15 @@ fn main(rt: HostRuntime) -> ExitCode {
     let mut files = DiskFiles::new(rt.alloc(), rt, rt.stdin());
     let mut out = StreamSink::new(rt.stdout());
     let mut err = StreamSink::new(rt.stderr());
-    ExitCode::from(run(rt.alloc(), &words, &mut files, &mut out, &mut err))
+    let mut keeper = DiskKeeper::new(rt.alloc(), rt);
+    ExitCode::from(run_all(
+        rt.alloc(),
+        &words,
+        &mut files,
+        &mut out,
+        &mut err,
+        &mut keeper,
+    ))
 }
 
 /// The words of the command line, without the program's name.

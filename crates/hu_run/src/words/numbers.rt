@@ -6,7 +6,7 @@ ghost use Rattle.hu_run.specs.Job.{least_of, top_of, length_of, seed_of, IsSeed}
 use hu_kind::read_number;
 
 /// The least utility that a word says.
-pub(super) fn read_least(word: &str) -> Option<i128>
+pub(crate) fn read_least(word: &str) -> Option<i128>
     ensures value { result ≡ least_of word.now }
     ensures least { IfSome result (λ n. pos 1 ≤ℤ n) }
 {
@@ -14,9 +14,10 @@ pub(super) fn read_least(word: &str) -> Option<i128>
 }
 
 /// How many entries a word asks for.
-pub(super) fn read_top(word: &str) -> Option<Option<u32>>
+pub(crate) fn read_top(word: &str) -> Option<Option<u32>>
     ensures value { result ≡ top_of word.now }
     ensures some { IfSome result (λ top. IfSome top (λ k. 1 ≤ k)) }
+    ensures few { IfSome result (λ top. IfSome top (λ k. k ≤ 1000000)) }
 {
     if word == "all" {
         return Some(None);
