@@ -137,9 +137,6 @@ pub record ArePickedUpto (b : BestOf) (r : Ranking) (set : List ℕ) (children p
   pub few : length picked + (length children - i) ≤ length children
   pub closed : (z : ℕ) → Member z (take i (ranks_of children)) → Member z (ranks_of picked) ⊎ IsClosedBy b r set z
 
-pub picked-none : (b : BestOf) (r : Ranking) (set : List ℕ) (children : List Child) → Ascend (ranks_of children) → ArePickedUpto b r set children [] 0
-picked-none b r set children up = record { each = tt; some = tt; order = up; few = omega arith; closed = λ z m. absurd m }
-
 module _ (b : BestOf) (r : Ranking) (rules : IsRanking r) (set : List ℕ) (children picked : List Child) (right : AreChildren r set children)
     (i : ℕ) (d : Child) (within : i < length children) (was : ArePickedUpto b r set children picked i) where
   abbrev child : Child

@@ -1,16 +1,16 @@
 -- The turns of the loops over children.
-use Rattle.std.proofs.Common.{◌≡◌, ℕ, zero, suc, ◌<◌, ◌≤◌, ◌+◌, ℤ, pos, ◌*ℤ◌, List, [], ◌∷◌, ◌++◌, take, drop, length, get_or}
+use Rattle.std.proofs.Common.{◌≡◌, ℕ, zero, suc, ◌<◌, ◌≤◌, ◌+◌, ◌-◌, ℤ, pos, ◌*ℤ◌, List, [], ◌∷◌, ◌++◌, take, drop, length, get_or}
 use Rattle.std.proofs.Common.{refl, sym, ap, ◌∙◌, subst, arith, ◌⊎◌, inl, inr, append_assoc, Contains, add-one}
 use Rattle.std.specs.List.{AllByRecursion}
 use Rattle.std.specs.declared.vec.Vec.{Vec}
 use Rattle.std.specs.declared.alloc.Global.{Global}
 use Rattle.std.proofs.lemmas.Int.{ints}
-use Rattle.std.proofs.lemmas.List.{take_all, length-map, length-append, get_or-map, map-append, take_more}
+use Rattle.std.proofs.lemmas.List.{length-take, get_or-take, length-map, length-append, get_or-map, map-append, take_more}
 use Rattle.hu_kind.specs.declared.entry.Entry.{Entry}
 use Rattle.hu_kind.specs.Database.{utility, support}
 use Rattle.hu_kind.specs.Order.{Ascend}
-use Rattle.hu_kind.proofs.lemmas.Ascending.{Ascend-across, Ascend-push}
-use Rattle.hu_kind.proofs.lemmas.Each.{each-append, each-get, each-right, each-weaker}
+use Rattle.hu_kind.proofs.lemmas.Ascending.{Ascend-across, Ascend-push, Ascend-right}
+use Rattle.hu_kind.proofs.lemmas.Each.{each-append, each-get, each-take, each-right, each-weaker}
 use Rattle.hu_kind.proofs.lemmas.Members.{Member, Member-append_left, Member-append_right}
 use Rattle.hu_kind.proofs.lemmas.Members.{Member-map, Member-from_map, Member-from_contains, Contains-from_member}
 use Rattle.hu_kind.proofs.lemmas.Occurring.{at_member, by_members}
@@ -91,6 +91,11 @@ ascend-drop zero xs up = up
 ascend-drop (suc i) [] up = tt
 ascend-drop (suc i) (x ∷ xs) up = ascend-drop i xs up.1
 
+pub ascend-take : (i : ℕ) (xs : List ℕ) → Ascend xs → Ascend (take i xs)
+ascend-take zero xs up = tt
+ascend-take (suc i) [] up = tt
+ascend-take (suc i) (x ∷ xs) up = (each-take (λ y. x < y) i xs up.0, ascend-take i xs up.1)
+
 member-dropped : (i : ℕ) (xs : List ℕ) (z : ℕ) → Member z (drop i xs) → Member z xs
 member-dropped zero xs z m = m
 member-dropped (suc i) [] z m = m
@@ -121,7 +126,8 @@ pub record IsSoFar (old now : BestOf) (r : Ranking) (set : List ℕ) (entered : 
   pub before : AreEnough old r set ranks
   pub picked : ArePicked mid r set ranks entered
   pub enough : AreEnough mid r set (ranks_of entered)
-  pub grown : (k : ℕ) → k < length entered → IsLeft r (set ++ get_or (ranks_of entered) k 0 ∷ []) (tails_at lists k)
+  pub size : length lists ≡ length entered - 1
+  pub grown : (k : ℕ) → k < length lists → IsLeft r (set ++ get_or (ranks_of entered) k 0 ∷ []) (tails_at lists k)
   pub covers : Covers old (Upto r set ranks (ranks_of entered) i) now
   pub stays : (e : Entry) → IsLeftOut mid e → IsLeftOut now e
 
@@ -149,26 +155,56 @@ entry-member r set children e one =
     let same : rank_entry r (set ++ from.0.rank ∷ []) ≡ e = ap (λ z. rank_entry r (set ++ z ∷ [])) from.2 ∙ sym one.is in
     subst (λ x. Member x (entries_of r set children)) same (Member-map (λ (x : Child). rank_entry r (set ++ x.rank ∷ [])) from.0 children from.1)
 
-pub so_far-first : (old mid : BestOf) (r : Ranking) (set later : List ℕ) (tails : List TailOf) (children entered : List Child) (lists : List (Vec Tail Global))
+-- all ranks but the last one
+abbrev pub all_but_last : List ℕ → List ℕ
+all_but_last ranks = take (length ranks - 1) ranks
+
+-- a rank with a later one stands before the last
+member-front : (i : ℕ) (xs : List ℕ) (m k : ℕ) → Ascend xs → length xs ≤ i + 1 → Member m xs → Member k xs → m < k → Member m (take i xs)
+member-front i [] m k up all first second low = absurd first
+member-front zero (x ∷ y ∷ ys) m k up all first second low = absurd (omega (arith, all))
+member-front zero (x ∷ []) m k up all (inl e) (inl f) low = absurd (omega (arith, e, f, low))
+member-front zero (x ∷ []) m k up all (inl e) (inr none) low = absurd none
+member-front zero (x ∷ []) m k up all (inr none) second low = absurd none
+member-front (suc i) (x ∷ xs) m k up all (inl e) second low = inl e
+member-front (suc i) (x ∷ xs) m k up all (inr first) (inl f) low =
+    let above = at_member (λ y. x < y) m xs up.0 first in absurd (omega (arith, above, f, low))
+member-front (suc i) (x ∷ xs) m k up all (inr first) (inr second) low =
+    inr (member-front i xs m k up.1 (omega (arith, all)) first second low)
+
+pub so_far-first : (old mid : BestOf) (r : Ranking) (set later front : List ℕ) (tails : List TailOf) (children entered : List Child)
+    (lists : List (Vec Tail Global))
     → IsKept old → AreEnough old r set later → ArePicked old r set later children → mid ≡ offered old (entries_of r set children)
-    → ArePicked mid r set (ranks_of children) entered → IsLeft r set tails
-    → ((k : ℕ) → k < length (ranks_of entered) → tails_at lists k ≡ grown (get_or (ranks_of entered) k 0) tails)
+    → ArePicked mid r set (ranks_of children) entered → IsLeft r set tails → front ≡ all_but_last (ranks_of entered) → length lists ≡ length front
+    → ((k : ℕ) → k < length front → tails_at lists k ≡ grown (get_or front k 0) tails)
     → IsSoFar old mid r set entered lists 0
-so_far-first old mid r set later tails children entered lists kept first are is picked left lists_are = record {
+so_far-first old mid r set later front tails children entered lists kept first are is picked left front_is len lists_are = record {
   mid = mid;
   ranks = ranks_of children;
   before = before;
   picked = picked;
   enough = picked.enough (enough-more old mid r set (ranks_of children) (entries_of r set children) kept is before);
+  size = size;
   grown = λ k within.
-      let z = get_or (ranks_of entered) k 0 in
-      subst (IsLeft r (set ++ z ∷ [])) (sym (lists_are k (omega (arith, within, length-map entered (λ (x : Child). x.rank)))))
-      (left-grown r set z tails left);
+      let ranks = ranks_of entered in
+      let low : k < length ranks - 1 = omega (arith, within, size, count) in
+      let here : get_or front k 0 ≡ get_or ranks k 0 = ap (λ rs. get_or rs k 0) front_is ∙ get_or-take (length ranks - 1) ranks k 0 low in
+      let list : tails_at lists k ≡ grown (get_or ranks k 0) tails = lists_are k (omega (arith, within, len)) ∙ ap (λ z. grown z tails) here in
+      subst (IsLeft r (set ++ get_or ranks k 0 ∷ [])) (sym list) (left-grown r set (get_or ranks k 0) tails left);
   covers = covers-list {P = Upto r set (ranks_of children) (ranks_of entered) 0} old mid (entries_of r set children) is
       (λ e m. inl (member-entry r set children e are.children.each are.some m)) (λ e u. by e u);
   stays = λ e out. out;
 }
   where
+    count : length (ranks_of entered) ≡ length entered
+    count = length-map entered (λ (x : Child). x.rank)
+
+    size : length lists ≡ length entered - 1
+    size =
+        let some = length-take (length (ranks_of entered) - 1) (ranks_of entered) in
+        let same = ap length front_is in
+        omega (arith, len, same, some, count)
+
     before : AreEnough old r set (ranks_of children)
     before = are.enough first
 
@@ -184,11 +220,11 @@ module _ {old now : BestOf} {r : Ranking} {set : List ℕ} {entered : List Child
   abbrev pub left : List ℕ
   left = ranks_of entered
 
-  pub so_far-all : length entered ≤ i → IsKept old → Covers old (Grows r set) now
+  pub so_far-all : length lists ≤ i → IsKept old → Covers old (Grows r set) now
   so_far-all all kept = covers-as {P = Upto r set so_far.ranks left i} {R = Grows r set} grew back so_far.covers
     where
-      whole : take i left ≡ left
-      whole = take_all i left (omega (arith, all, length-map entered (λ (x : Child). x.rank)))
+      count : length left ≤ i + 1
+      count = let size = so_far.size in omega (arith, all, size, length-map entered (λ (x : Child). x.rank))
 
       grew : (e : Entry) → Upto r set so_far.ranks left i e → Grows r set e
       grew e (inl one) = record { more = one.rank ∷ []; some = omega arith; ascending = one.ascending; occurs = one.occurs; is = one.is }
@@ -210,10 +246,13 @@ module _ {old now : BestOf} {r : Ranking} {set : List ℕ} {entered : List Child
           inl (inl (record { rank = m; among = Contains-from_member m so_far.ranks among.0; ascending = up; occurs = occurs; is = is }))
       cases e (m ∷ k ∷ ks) some up occurs is among =
           let same : set ++ m ∷ k ∷ ks ≡ (set ++ m ∷ []) ++ k ∷ ks = sym (append_assoc set (m ∷ []) (k ∷ ks)) in
+          let tail = Ascend-right set (m ∷ k ∷ ks) up in
+          let first = tail.0 in
           elim (so_far.enough (m ∷ k ∷ ks) up occurs) [
             | inl inside ↦ inl (inr (record {
               rank = m;
-              among = Contains-from_member m (take i left) (subst (Member m) (sym whole) inside.0);
+              among = Contains-from_member m (take i left)
+                  (member-front i left m k so_far.picked.children.ascending count inside.0 inside.1.0 first.0);
               grows = record {
                 more = k ∷ ks;
                 some = omega arith;
@@ -231,7 +270,13 @@ module _ {old now : BestOf} {r : Ranking} {set : List ℕ} {entered : List Child
         | inr out ↦ inr (covers-left_out kept so_far.covers e (subst (IsLeftOut old) (sym g.is) out))
       ]
 
-  module _ (d : Child) (within : i < length entered) where
+  module _ (d : Child) (inside : i < length lists) where
+    pub so_far-within : i < length entered
+    so_far-within = let size = so_far.size in omega (arith, inside, size)
+
+    abbrev within : i < length entered
+    within = so_far-within
+
     count : i < length left
     count = omega (arith, within, length-map entered (λ (x : Child). x.rank))
 
@@ -278,13 +323,13 @@ module _ {old now : BestOf} {r : Ranking} {set : List ℕ} {entered : List Child
           | inr out ↦ inr (subst (λ s. IsLeftOut now (rank_entry r s)) (sym same) (so_far.stays (rank_entry r (set ++ a ∷ more)) out))
         ]
 
-    pub so_far-left : (list : Vec Tail Global) → i < length lists → list ≡ get_or lists i list
+    pub so_far-left : (list : Vec Tail Global) → list ≡ get_or lists i list
         → IsLeft r (set ++ (get_or entered i d).rank ∷ []) (tails_of list.items)
-    so_far-left list long is =
+    so_far-left list is =
         let tails : tails_at lists i ≡ tails_of list.items =
-        get_or-map (λ (list : Vec Tail Global). tails_of list.items) lists i list [] long ∙ ap (λ (l : Vec Tail Global). tails_of l.items) (sym is) in
+        get_or-map (λ (list : Vec Tail Global). tails_of list.items) lists i list [] inside ∙ ap (λ (l : Vec Tail Global). tails_of l.items) (sym is) in
         subst (λ z. IsLeft r (set ++ z ∷ []) (tails_of list.items)) here
-        (subst (IsLeft r (set ++ get_or left i 0 ∷ [])) tails (so_far.grown i within))
+        (subst (IsLeft r (set ++ get_or left i 0 ∷ [])) tails (so_far.grown i inside))
 
     pub so_far-next : {next : BestOf} → Covers now (Grows r (set ++ (get_or entered i d).rank ∷ [])) next → IsSoFar old next r set entered lists (i + 1)
     so_far-next {next} covers = record {
@@ -293,6 +338,7 @@ module _ {old now : BestOf} {r : Ranking} {set : List ℕ} {entered : List Child
       before = so_far.before;
       picked = so_far.picked;
       enough = so_far.enough;
+      size = so_far.size;
       grown = so_far.grown;
       covers = rw add-one (covers-then {P = Upto r set so_far.ranks left i} {Q = Grows r (set ++ get_or left i 0 ∷ [])}
           {R = Upto r set so_far.ranks left (suc i)} more next_one back so_far.covers entry);
@@ -340,7 +386,3 @@ shut-covers b r rules set child kept is shut = covers-none {P = Grows r (set ++ 
         (λ z m. Contains-from_member z whole (Member-append_left z part g.more m)) in
         subst (IsLeftOut b) (sym g.is)
         (shut-out b r rules set child is shut whole all g.ascending g.occurs (omega (arith, some, length-append part g.more)))
-
--- the same average in other words
-pub whole-at_most : (u bound : ℤ) (n : ℕ) (x : Entry) → u ≡ bound → n ≡ 1 → IsAtMost (bound, 1) x → IsAtMost (u, n) x
-whole-at_most u bound n x same one most = subst (λ m. IsAtMost (u, m) x) (sym one) (subst (λ v. IsAtMost (v, 1) x) (sym same) most)

@@ -125,7 +125,8 @@ pub(crate) fn offer_children(
     requires rules { IsRanking ranked.now }
     requires children { AreChildren ranked.now ranks.now children.now }
     requires kept { IsKept best.old }
-    ensures { OnOk result (best.new ≡ offered best.old (entries_of ranked.now ranks.now children.now)) }
+    ensures { OnOk result
+        (best.new ≡ offered best.old (entries_of ranked.now ranks.now children.now)) }
 {
     for child in children {
         offer_child(alloc, ranked, ranks, child, best)?;
@@ -145,7 +146,8 @@ fn offer_child(
     requires child { IsChild ranked.now ranks.now child.now }
     requires kept { IsKept best.old }
     ensures { OnOk result
-        (best.new ≡ offered best.old (rank_entry ranked.now (ranks.now ++ child.now.rank ∷ []) ∷ [])) }
+        (best.new
+        ≡ offered best.old (rank_entry ranked.now (ranks.now ++ child.now.rank ∷ []) ∷ [])) }
 {
     let average = Average {
         utility: child.total.utility,

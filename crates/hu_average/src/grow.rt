@@ -9,7 +9,7 @@ use crate::tail::Tail;
 use hu_kind::NoMemory;
 use std::alloc::Global;
 
-/// The tails of the set with each of these ranks more, in one pass over the cells.
+/// The tails of the set with each of these ranks more, in one pass over the cells, if there are ranks.
 pub(crate) fn grown<'a>(
     alloc: Global,
     tails: &[Tail<'a>],
@@ -23,6 +23,9 @@ pub(crate) fn grown<'a>(
         → tails_at lists.items i ≡ grown (slice_index_or ranks.now i 0) (tails_of tails.now)) }
 {
     let mut lists = empty_lists(alloc, ranks.len())?;
+    if ranks.is_empty() {
+        return Ok(lists);
+    }
     for tail in tails {
         add_tails(&mut lists, ranks, slots, tail)?;
     }

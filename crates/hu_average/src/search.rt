@@ -1,6 +1,6 @@
 //! The search by average.
 
-ghost use Rattle.std.specs.Prelude.{◌≡◌, ◌+◌, ◌<◌, ◌≤◌, ◌≤ℤ◌, ℕ, pos, [], ◌∷◌, ◌++◌, drop, length, IfOk, OnOk, IfSome};
+ghost use Rattle.std.specs.Prelude.{◌≡◌, ◌+◌, ◌<◌, ◌≤◌, ◌≤ℤ◌, ℕ, pos, [], ◌∷◌, ◌++◌, ◌-◌, take, drop, length, IfOk, OnOk, IfSome};
 ghost use Rattle.hu_kind.proofs.lemmas.Members.{Member};
 ghost use Rattle.hu_totals.specs.Ranked.{unranked, IsRanking};
 ghost use Rattle.hu_search.specs.Growth.{Grows};
@@ -54,7 +54,8 @@ pub fn mine(
 fn all_ranks(alloc: Global, ranked: &Ranked) -> Result<Vec<u32>, NoMemory>
     ensures later { IfOk result (λ ranks. AreLater ranked.now [] ranks.items) }
     ensures len { IfOk result (λ ranks. length ranks.items ≡ length ranked.now.items) }
-    ensures enough { IfOk result (λ ranks. (z : ℕ) → z < length ranked.now.items → Member z ranks.items) }
+    ensures whole { IfOk result
+        (λ ranks. (z : ℕ) → z < length ranked.now.items → Member z ranks.items) }
 {
     let mut ranks = Vec::with_capacity(alloc, ranked.len() as usize)?;
     for rank in 0..ranked.len() {
@@ -88,13 +89,22 @@ fn search(
     offer_children(alloc, ranked, ranks, &children, best)?;
     let entered = picked(alloc, ranked, ranks, &children, best)?;
     let left = ranks_of(alloc, &entered)?;
-    fill(slots, &left);
-    let lists = grown(alloc, tails, &left, slots)?;
-    'entered: for (at, child) in entered.iter().enumerate() {
+    // The last child can't grow by a later one, so that it needs no tails.
+    let front = all_but_last(&left);
+    fill(slots, front);
+    let lists = grown(alloc, tails, front, slots)?;
+    'lists: for (at, list) in lists.iter().enumerate() {
         let after = after(&left, at);
-        enter(alloc, ranked, ranks, child, &lists[at], after, slots, best)?;
+        enter(alloc, ranked, ranks, &entered[at], list, after, slots, best)?;
     }
     Ok(())
+}
+
+/// All ranks but the last one.
+fn all_but_last(ranks: &[u32]) -> &[u32]
+    ensures { result.now ≡ take (length ranks.now - 1) ranks.now }
+{
+    &ranks[..ranks.len().saturating_sub(1)]
 }
 
 /// The ranks after a place.
@@ -119,9 +129,11 @@ fn enter(
 ) -> Result<(), NoMemory>
     requires rules { IsRanking ranked.now }
     requires child { IsChild ranked.now ranks.old.items child.now }
-    requires left { IsLeft ranked.now (ranks.old.items ++ child.now.rank ∷ []) (tails_of tails.now) }
+    requires left { IsLeft ranked.now (ranks.old.items ++ child.now.rank ∷ [])
+        (tails_of tails.now) }
     requires later { AreLater ranked.now (ranks.old.items ++ child.now.rank ∷ []) later.now }
-    requires enough { AreEnough best.old ranked.now (ranks.old.items ++ child.now.rank ∷ []) later.now }
+    requires enough { AreEnough best.old ranked.now (ranks.old.items ++ child.now.rank ∷ [])
+        later.now }
     requires room { length slots.old ≡ length ranked.now.items }
     requires kept { IsKept best.old }
     ensures ranks { OnOk result (ranks.new.items ≡ ranks.old.items) }

@@ -93,7 +93,8 @@ fn add_cell(
     requires within { cell.now.rank < length slots.now }
     requires fits { (i : ℕ) → i < length ranks.now → slice_index_or ranks.now i 0 ≡ cell.now.rank
         → Fits (total_at totals.old.items i)
-        (max (unsigned_abs tail.now.own + unsigned_abs cell.now.value) (unsigned_abs tail.now.most)) }
+        (max (unsigned_abs tail.now.own + unsigned_abs cell.now.value)
+        (unsigned_abs tail.now.most)) }
     ensures len { length totals.new.items ≡ length totals.old.items }
     ensures totals { (i : ℕ) → i < length ranks.now → total_at totals.new.items i
         ≡ plus (total_at totals.old.items i)

@@ -9,9 +9,9 @@ decreases-enter l = 2 * length l.later.now + 1
 abbrev pub decreases-search : goal.decreases-search
 decreases-search l = 2 * length l.later.now
 
-abbrev pub invariant-search-entered : goal.invariant-search-entered
-invariant-search-entered l = record {
+abbrev pub invariant-search-lists : goal.invariant-search-lists
+invariant-search-lists l = record {
   ranks : l.ranks.items ≡ l.fn.ranks.items;
   room : length l.slots ≡ length l.fn.slots;
-  so_far : IsSoFar l.fn.best l.best l.ranked l.fn.ranks.items l.child-items l.lists.items l.at;
+  so_far : IsSoFar l.fn.best l.best l.ranked l.fn.ranks.items l.entered.items l.list-items l.at;
 }

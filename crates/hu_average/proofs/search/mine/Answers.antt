@@ -16,7 +16,7 @@ pub search-requires-clause-enough : goal.search-requires-clause-enough
 search-requires-clause-enough c =
     let r = c.args.ranked.now in
     enough-first c.new-best.result r c.new.result.items c.deref-2.result.now c.record_tails.ensures.rules c.new.ensures.items
-    (subst (λ (ranks : List ℕ). (z : ℕ) → z < length r.items → Member z ranks) (sym c.deref-2.ensures.value) c.in_ok-later.ensures.enough)
+    (subst (λ (ranks : List ℕ). (z : ℕ) → z < length r.items → Member z ranks) (sym c.deref-2.ensures.value) c.in_ok-later.ensures.whole)
 
 pub returns : goal.returns
 returns c =
