@@ -5,7 +5,7 @@ ghost use Rattle.std.specs.List.{AllByRecursion, Contains};
 ghost use Rattle.hu_span.specs.Child.{AreChildren, AreChildrenBy, Fall, IsChild, IsGathered, IsStep, kept_by, kept_if};
 ghost use Rattle.hu_span.specs.Growing.{Pattern, Records};
 
-use crate::mark::{Mark, items_of, run_of};
+use crate::mark::{Mark, run_len};
 use crate::step::Step;
 use crate::tally::tally_of;
 use hu_chain::Growth;
@@ -60,12 +60,12 @@ fn children_by<'a>(
         → IfOk result (λ children. AreChildrenBy rs keep p growth children.items) }
 {
     let mut children = Vec::new(alloc);
-    'items: for item in &items_of(alloc, marks)? {
-        let step = Step {
-            growth,
-            item: *item,
-        };
-        children.push(child_of(step, run_of(marks, *item)))?;
+    let mut left = marks;
+    'runs: while let Some((first, _later)) = left.split_first() {
+        let item = first.item;
+        let (run, next) = left.split_at(run_len(left, item));
+        children.push(child_of(Step { growth, item }, run))?;
+        left = next;
     }
     Ok(children)
 }
