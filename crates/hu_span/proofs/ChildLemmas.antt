@@ -1,22 +1,17 @@
 -- Children, by their marks and in the order of their falling bounds.
-use Rattle.std.proofs.Common.{◌≡◌, ℕ, zero, suc, ◌+◌, ◌<◌, ◌≤◌, ◌^◌, Bool, true, false, ℤ, pos, ◌≤ℤ◌, ◌<ℤ◌, int_le, Option, None, Some}
-use Rattle.std.proofs.Common.{List, [], ◌∷◌, ◌++◌, map, filter, length, get_or, take, drop, cond, eqb, refl, sym, ap, ◌∙◌, subst, ◌⊎◌, inl, inr, arith, append_assoc}
-use Rattle.std.proofs.Common.{length-append, Contains, IsPermutation}
-use Rattle.std.specs.declared.cmp.Ordering.TheVariants.{Less}
-use Rattle.std.specs.Cmp.{int_cmp_is, IsStrictWeakOrder}
+use Rattle.std.proofs.Common.{◌≡◌, ℕ, suc, ◌+◌, ◌<◌, ◌^◌, Bool, true, false, ℤ, pos, ◌≤ℤ◌, ◌<ℤ◌, Option, None, Some}
+use Rattle.std.proofs.Common.{List, [], ◌∷◌, ◌++◌, map, length, take, drop, cond, eqb, refl, sym, ap, ◌∙◌, subst, ◌⊎◌, inl, inr, arith, append_assoc}
+use Rattle.std.proofs.Common.{length-append}
 use Rattle.std.specs.List.{AllByRecursion}
-use Rattle.std.specs.List.Sorted.{IsNonDecreasingBy, IsSortedBy}
-use Rattle.std.specs.Ordering.{int_cmp, is_lt, flip_args}
+use Rattle.std.specs.List.Sorted.{IsNonDecreasingBy}
 use Rattle.std.proofs.lemmas.Bool.{eq-eqb, eqb-true}
-use Rattle.std.proofs.lemmas.Cmp.{back_total, int_cmp_total}
-use Rattle.std.proofs.lemmas.Int.{ints, by_lt_z}
+use Rattle.std.proofs.lemmas.Int.{ints}
 use Rattle.std.proofs.lemmas.List.{map-append}
 use Rattle.std.proofs.lemmas.List.Elements.{Contains-append_left, Contains-push}
-use Rattle.std.proofs.lemmas.List.Sorted.{ranks_by, sorted_far, Contains-permutation, IsPermutation-sym}
 use Rattle.hu_kind.specs.Sequence.{best_utility, better, sequence_support, sequence_utility}
 use Rattle.hu_kind.proofs.lemmas.Members.{Member, Contains-from_member, Member-append_left, Member-append_right, Member-filter, Member-from_contains}
 use Rattle.hu_kind.proofs.lemmas.Members.{Member-from_filter}
-use Rattle.hu_kind.proofs.lemmas.Occurring.{at_member, by_members}
+use Rattle.hu_kind.proofs.lemmas.Occurring.{at_member}
 use Rattle.hu_kind.proofs.lemmas.Each.{each-append, each-left, each-right}
 use Rattle.hu_chain.specs.declared.chain.Growth.{Growth}
 use Rattle.hu_chain.specs.declared.chain.Growth.TheVariants.{IntoLast, AfterLast}
@@ -32,7 +27,7 @@ use Rattle.hu_chain.proofs.lemmas.Patterns.{last_item-grown, Ends-grown}
 use Rattle.hu_span.specs.declared.child.Child.{Child}
 use Rattle.hu_span.specs.declared.mark.Mark.{Mark}
 use Rattle.hu_span.specs.declared.step.Step.{Step}
-use Rattle.hu_span.specs.Child.{stepped, AreChildren, AreChildrenBy, ArePlaces, Fall, HasStep, IsChild, IsGathered, IsStep}
+use Rattle.hu_span.specs.Child.{stepped, AreChildren, AreChildrenBy, ArePlaces, HasStep, IsChild, IsGathered, IsStep}
 use Rattle.hu_span.specs.Gather.{IsGrowth, MayTake}
 use Rattle.hu_span.specs.Growing.{IsReached, Records}
 use Rattle.hu_span.specs.Mark.{is_of, mark_at, marks_from, marks_of, marks_with, places_of, record_at, run_of, IsMark}
@@ -40,68 +35,6 @@ use Rattle.hu_span.specs.Tally.{bests_of, count_of, none_told, reaches_of, told}
 use Rattle.hu_span.proofs.MarkLemmas.{each-filter, rises-sorted, run-first, IsRun, Rises}
 use Rattle.hu_span.proofs.ReachLemmas.{grown-reached}
 use Rattle.hu_span.proofs.TallyLemmas.{bounds-fit, bounds-hold, support-cons, told-all, IsSum}
-
--- ---- best bound first
-
--- whether a child stands before another: its bound is greater
-abbrev pub stands_before : Child → Child → Bool
-stands_before a b = is_lt (flip_args int_cmp a.bound b.bound)
-
-pub stands_before_order : IsStrictWeakOrder stands_before
-stands_before_order = ranks_by (back_total int_cmp_total) (λ (child : Child). child.bound)
-
-not_before : (a b : Child) → stands_before b a ≡ false → b.bound ≤ℤ a.bound
-not_before a b h = by_lt_z a.bound b.bound
-    (λ less. absurd (let is : Less ≡ int_cmp a.bound b.bound = int_cmp_is a.bound b.bound Less less in let yes : true ≡ false = ap is_lt is ∙ h in cc))
-    (λ le. le)
-
-FallsTo : ℤ → List Child → Type 0
-FallsTo bound children = AllByRecursion (λ later. later.bound ≤ℤ bound) children
-
-falls_to : (bound : ℤ) (children : List Child) → ((k : ℕ) (d : Child) → k < length children → (get_or children k d).bound ≤ℤ bound) → FallsTo bound children
-unfolding FallsTo
-falls_to bound [] each = tt
-falls_to bound (c ∷ cs) each = (each 0 c (omega arith), falls_to bound cs (λ k d within. each (suc k) d (omega arith)))
-
-fall-far : (children : List Child) → ((i j : ℕ) (d : Child) → i ≤ j → j < length children → (get_or children j d).bound ≤ℤ (get_or children i d).bound)
-    → Fall children
-unfolding FallsTo
-fall-far [] far = tt
-fall-far (c ∷ cs) far = (
-  falls_to c.bound cs (λ k d within. far 0 (suc k) d (omega arith) (omega arith)),
-  fall-far cs
-      (λ i j d upto within. far (suc i) (suc j) d (omega arith) (omega arith)),
-)
-
-pub fall-sorted : (children : List Child) → IsSortedBy stands_before children → Fall children
-fall-sorted children up =
-    fall-far children (λ i j d upto within. not_before (get_or children i d) (get_or children j d)
-    (sorted_far stands_before stands_before_order children up i j d upto within))
-
--- ---- children that are kept
-
-abbrev pub reaches_floor : ℤ → Child → Bool
-reaches_floor floor child = int_le floor child.bound
-
-pub among-kept : (floor : ℤ) (children kept : List Child) → IsPermutation (filter (reaches_floor floor) children) kept → AllByRecursion
-    (Contains children) kept
-among-kept floor children kept same = by_members (Contains children) kept (λ child m.
-    let c = Contains-permutation kept (filter (reaches_floor floor) children) child (IsPermutation-sym (filter (reaches_floor floor) children) kept same)
-    (Contains-from_member child kept m) in
-    Contains-from_member child children (Member-from_filter (reaches_floor floor) child children
-    (Member-from_contains child (filter (reaches_floor floor) children) c)).0)
-
-pub others-kept : (floor : ℤ) (children kept : List Child) → IsPermutation (filter (reaches_floor floor) children) kept → (child : Child)
-    → Contains children child
-    → Contains kept child ⊎ (child.bound <ℤ floor)
-others-kept floor children kept same child c = by (int_le floor child.bound) refl
-  where
-    by : (b : Bool) → int_le floor child.bound ≡ b → Contains kept child ⊎ (child.bound <ℤ floor)
-    by true e =
-        let m = Member-filter (reaches_floor floor) child children (Member-from_contains child children c) e in
-        inl (Contains-permutation (filter (reaches_floor floor) children) kept child same (Contains-from_member child
-        (filter (reaches_floor floor) children) m))
-    by false e = inr (grind (arith, ints))
 
 -- ---- the marks of a pattern stand at its places
 

@@ -12,6 +12,9 @@ mod NumberLemmas
 mod TallyLemmas
 mod ReachLemmas
 mod SearchLemmas
+mod Fronts
+mod BranchLemmas
+mod NodeLemmas
 mod ChildLemmas
 mod WalkLemmas
 mod RowsLemmas

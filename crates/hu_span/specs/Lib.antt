@@ -5,6 +5,7 @@ pub mod Gather
 pub mod Tally
 pub mod Growing
 pub mod Child
+pub mod Branch
 pub mod Search
 pub mod Cut
 pub mod Worked

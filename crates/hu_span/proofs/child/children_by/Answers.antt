@@ -2,7 +2,7 @@ use Rattle.std.proofs.Common.{List, [], ◌∷◌, ◌++◌, ◌<◌, ◌∙◌,
 use Rattle.std.specs.List.{AllByRecursion}
 use Rattle.hu_kind.proofs.lemmas.Each.{each-push}
 use Rattle.hu_span.specs.declared.mark.Mark.{Mark}
-use Rattle.hu_span.specs.Child.{IsChild, IsStep}
+use Rattle.hu_span.specs.Child.{IsChild}
 use Rattle.hu_span.specs.Mark.{run_of}
 use Rattle.hu_span.proofs.ChildLemmas.{marks-gathered, runs-all, runs-front, runs-member, runs-next, runs-none, step-gathered, AreRuns}
 use Rattle.hu_span.proofs.MarkLemmas.{run-some, run-within}
