@@ -2,6 +2,7 @@ pub mod Kept
 pub mod Step
 pub mod Mark
 pub mod Gather
+pub mod Rests
 pub mod Tally
 pub mod Growing
 pub mod Child
