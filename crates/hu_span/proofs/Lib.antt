@@ -15,6 +15,7 @@ mod SearchLemmas
 mod Fronts
 mod BranchLemmas
 mod NodeLemmas
+mod RootLemmas
 mod ChildLemmas
 mod WalkLemmas
 mod RowsLemmas

@@ -29,11 +29,12 @@ use std::alloc::Global;
 /// what all sequences that occur would make. The places of all patterns with one item more than a pattern are gathered in
 /// one pass over its places and put in the order of their items by one sort. All these patterns are offered before any is
 /// entered. Then those items are dropped that reach the floor in no pattern below: the sum over the records in which an item
-/// makes a child, each with the greatest utility and all that is left after it. What is left of a record is summed anew
-/// without the dropped items, and the patterns are entered best bound first, up to the first whose bound is below the floor
-/// of the moment. The bound is the sum over the records of the greatest utility with all that is left after it. The memory
-/// of a level is its places. After want of memory some of the sequences have been offered. After USpan (Yin, Zheng and Cao,
-/// 2012) and HUS-Span (Wang, Huang and Chen, 2016).
+/// makes a child, each with the greatest utility and all that is left after it. Where some are dropped, what is left of a
+/// record is summed anew without them, in one walk from its end, and the places are gathered again. The patterns are entered
+/// best bound first, up to the first whose bound is below the floor of the moment. The bound is the sum over the records of
+/// the greatest utility with all that is left after it. The memory of a level is the places of those patterns whose bound
+/// reaches the floor, and the items that still count, where they are fewer than above. After want of memory some of the
+/// sequences have been offered. After USpan (Yin, Zheng and Cao, 2012) and HUS-Span (Wang, Huang and Chen, 2016).
 pub fn mine<C: Collect>(
     alloc: Global,
     base: &Base<SeqRecord>,
