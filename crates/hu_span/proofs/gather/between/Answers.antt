@@ -1,4 +1,4 @@
-use Rattle.std.proofs.Common.{◌∙◌, ◌<◌, suc, length, sym, ap, subst, arith, add-one}
+use Rattle.std.proofs.Common.{◌∙◌, ◌<◌, suc, length, sym, ap, subst, arith, add-one, drop, ◌≡◌}
 use Rattle.std.specs.List.{AllByRecursion}
 use Rattle.std.proofs.lemmas.Int.{ints}
 use Rattle.std.proofs.lemmas.List.{length-map}
@@ -7,9 +7,9 @@ use Rattle.hu_chain.specs.Place.{totals}
 use Rattle.hu_chain.proofs.lemmas.Cells.{IsAbove}
 use Rattle.hu_span.specs.Kept.{keeps, weighed, weighed_in}
 use Rattle.hu_span.proofs.NumberLemmas.{kept-z}
-use Rattle.hu_span.proofs.WalkLemmas.{drop-at, drop-past, element_above, element_at-any, later-within, low-at, low-later, totals-fit}
+use Rattle.hu_span.proofs.WalkLemmas.{drop-at, element_above, element_at-any, later-within, low-at, low-later, totals-fit}
 use Rattle.hu_span.proofs.WeighedLemmas.{weighed-element, weighed-sequence}
-use Rattle.hu_span.proofs.gather.totals.Goals as goal
+use Rattle.hu_span.proofs.gather.between.Goals as goal
 
 pub total-sum-requires-clause-none_below : goal.total-sum-requires-clause-none_below
 total-sum-requires-clause-none_below c =
@@ -17,10 +17,11 @@ total-sum-requires-clause-none_below c =
     let elements = c.args.elements.now in
     let e = c.elements.number in
     let es = weighed_in keep elements in
-    let rules = weighed-sequence keep elements c.requires in
+    let rules = weighed-sequence keep elements c.requires.rules in
     let size = length-map elements (weighed keep) in
-    let within : e < length es = omega (arith, size, c.elements-test.true) in
-    let seen = c.cells.ensures.value ∙ c.index-elements-number.is ∙ element_at-any elements e c.index-elements-number.result c.elements-test.true in
+    let inside : e < length elements = omega (arith, c.elements-test.true, c.requires.within) in
+    let within : e < length es = omega (arith, size, inside) in
+    let seen = c.cells.ensures.value ∙ c.index-elements-number.is ∙ element_at-any elements e c.index-elements-number.result inside in
     let here = ap (weighed keep) seen ∙ sym (weighed-element keep elements e) in
     let split = ap totals (drop-at es e within) in
     let same = ap total here in
@@ -37,10 +38,11 @@ total-sum-requires-clause-fits c =
     let elements = c.args.elements.now in
     let e = c.elements.number in
     let es = weighed_in keep elements in
-    let rules = weighed-sequence keep elements c.requires in
+    let rules = weighed-sequence keep elements c.requires.rules in
     let size = length-map elements (weighed keep) in
-    let within : e < length es = omega (arith, size, c.elements-test.true) in
-    let seen = c.cells.ensures.value ∙ c.index-elements-number.is ∙ element_at-any elements e c.index-elements-number.result c.elements-test.true in
+    let inside : e < length elements = omega (arith, c.elements-test.true, c.requires.within) in
+    let within : e < length es = omega (arith, size, inside) in
+    let seen = c.cells.ensures.value ∙ c.index-elements-number.is ∙ element_at-any elements e c.index-elements-number.result inside in
     let here = ap (weighed keep) seen ∙ sym (weighed-element keep elements e) in
     let split = ap totals (drop-at es e within) in
     let same = ap total here in
@@ -57,10 +59,11 @@ overflow_add-sum c =
     let elements = c.args.elements.now in
     let e = c.elements.number in
     let es = weighed_in keep elements in
-    let rules = weighed-sequence keep elements c.requires in
+    let rules = weighed-sequence keep elements c.requires.rules in
     let size = length-map elements (weighed keep) in
-    let within : e < length es = omega (arith, size, c.elements-test.true) in
-    let seen = c.cells.ensures.value ∙ c.index-elements-number.is ∙ element_at-any elements e c.index-elements-number.result c.elements-test.true in
+    let inside : e < length elements = omega (arith, c.elements-test.true, c.requires.within) in
+    let within : e < length es = omega (arith, size, inside) in
+    let seen = c.cells.ensures.value ∙ c.index-elements-number.is ∙ element_at-any elements e c.index-elements-number.result inside in
     let here = ap (weighed keep) seen ∙ sym (weighed-element keep elements e) in
     let split = ap totals (drop-at es e within) in
     let same = ap total here in
@@ -79,10 +82,11 @@ elements-preserved c =
     let elements = c.args.elements.now in
     let e = c.elements.number in
     let es = weighed_in keep elements in
-    let rules = weighed-sequence keep elements c.requires in
+    let rules = weighed-sequence keep elements c.requires.rules in
     let size = length-map elements (weighed keep) in
-    let within : e < length es = omega (arith, size, c.elements-test.true) in
-    let seen = c.cells.ensures.value ∙ c.index-elements-number.is ∙ element_at-any elements e c.index-elements-number.result c.elements-test.true in
+    let inside : e < length elements = omega (arith, c.elements-test.true, c.requires.within) in
+    let within : e < length es = omega (arith, size, inside) in
+    let seen = c.cells.ensures.value ∙ c.index-elements-number.is ∙ element_at-any elements e c.index-elements-number.result inside in
     let here = ap (weighed keep) seen ∙ sym (weighed-element keep elements e) in
     let split = ap totals (drop-at es e within) in
     let same = ap total here in
@@ -98,6 +102,6 @@ elements-preserved c =
 pub returns : goal.returns
 returns c =
     let es = weighed_in (keeps c.args.kept.now) c.args.elements.now in
-    let size = length-map c.args.elements.now (weighed (keeps c.args.kept.now)) in
-    let gone = ap totals (drop-past es c.elements.number (omega (arith, size, c.elements-test.false))) in
-    omega (arith, ints, gone, c.elements.invariant)
+    let all : c.elements.number ≡ c.args.upto = omega (arith, c.elements-test.false, c.elements.auto.number-end, c.requires.ordered) in
+    let same = ap (λ n. totals (drop n es)) all in
+    omega (arith, ints, same, c.elements.invariant)
