@@ -7,5 +7,5 @@ pub mod CoverLemmas
 pub mod SearchLemmas
 pub mod BoundLemmas
 pub mod TurnLemmas
-pub mod TotalLemmas
-pub mod OfferLemmas
+pub mod TailLemmas
+pub mod PassLemmas

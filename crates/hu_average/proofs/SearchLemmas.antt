@@ -1,105 +1,85 @@
--- The extensions of a set, and what a search over them finds.
-use Rattle.std.proofs.Common.{◌≡◌, ℕ, zero, suc, ◌<◌, ◌+◌, Bool, true, false, cond, ℤ, pos, ◌*ℤ◌, List, [], ◌∷◌, ◌++◌, map, take, drop, length, get_or}
-use Rattle.std.proofs.Common.{refl, sym, ap, ◌∙◌, subst, arith, ◌⊎◌, inl, inr, Contains}
+-- The children of a set, and which of them lead to nothing.
+use Rattle.std.proofs.Common.{◌≡◌, ℕ, zero, suc, ◌<◌, ◌≤◌, ◌+◌, ◌-◌, ℤ, pos, ◌*ℤ◌, List, [], ◌∷◌, ◌++◌, take, drop, length, get_or}
+use Rattle.std.proofs.Common.{refl, sym, ap, ◌∙◌, subst, arith, ◌⊎◌, inl, inr, Contains, append_assoc, add-one}
 use Rattle.std.specs.List.{AllByRecursion}
 use Rattle.std.proofs.lemmas.Int.{ints}
-use Rattle.std.proofs.lemmas.List.Sums.{sum_by-cons}
+use Rattle.std.proofs.lemmas.List.{drop_more, take_all, length-map, length-append, map-append}
 use Rattle.std.proofs.Math.IntN.{*ℤ-one}
 use Rattle.hu_kind.specs.declared.entry.Entry.{Entry}
-use Rattle.hu_kind.specs.Record.{holds, values_of}
-use Rattle.hu_kind.specs.Database.{support}
+use Rattle.hu_kind.specs.Record.{holds}
+use Rattle.hu_kind.specs.Database.{utility, support}
 use Rattle.hu_kind.specs.Order.{Ascend}
-use Rattle.hu_kind.proofs.lemmas.Each.{each-append, each-get}
+use Rattle.hu_kind.proofs.lemmas.Ascending.{Ascend-left}
+use Rattle.hu_kind.proofs.lemmas.Each.{each-get, each-push}
 use Rattle.hu_kind.proofs.lemmas.Members.{Member, Member-append_left, Member-append_right, Member-append_cases, Contains-from_member}
 use Rattle.hu_kind.proofs.lemmas.Occurring.{by_members, counted, count-member}
 use Rattle.hu_totals.specs.Ranked.{Ranking, IsRanking}
-use Rattle.hu_search.specs.Growth.{rank_entry, InTable}
+use Rattle.hu_search.specs.Growth.{rank_entry}
 use Rattle.hu_search.proofs.lemmas.UnrankLemmas.{InTable-occurs}
 use Rattle.hu_lengths.proofs.lemmas.KeyLengths.{length-key_of}
-use Rattle.hu_list.specs.declared.list.Node.{Node}
-use Rattle.hu_list.specs.Nodes.{rest_after, nodes_from, list_of}
-use Rattle.hu_average.specs.declared.extension.Extension.{Extension}
-use Rattle.hu_average.specs.Bound.{BoundsList}
+use Rattle.hu_average.specs.declared.children.Child.{Child}
+use Rattle.hu_average.specs.declared.totals.RankTotal.{RankTotal}
+use Rattle.hu_average.specs.Bound.{BoundsAverage}
 use Rattle.hu_average.specs.Best.{BestOf, IsLeftOut, IsAtMost}
-use Rattle.hu_average.specs.Extension.{IsExtension, ranks_of, AreEnough, IsClosed, TakesOpen}
-use Rattle.hu_average.proofs.BoundLemmas.{holds-part}
+use Rattle.hu_average.specs.Tails.{TailOf, IsLeft, AreSums}
+use Rattle.hu_average.specs.Children.{IsLater, AreLater, AreTotals, IsChild, AreChildren, ranks_of, IsShut, ArePicked}
+use Rattle.hu_average.proofs.BoundLemmas.{holds-part, bounds-average}
+use Rattle.hu_average.proofs.TailLemmas.{total-grown}
+
+-- ---- ranks and totals
+
+-- totals over the tails of a set are those of the records
+pub totals-left : (r : Ranking) (set ranks : List ℕ) (tails : List TailOf) (totals : List RankTotal) → IsLeft r set tails
+    → AreLater r set ranks → AreSums ranks tails totals → AreTotals r set ranks totals
+totals-left r set ranks tails totals left later sums = record {
+  len = sums.len;
+  each = λ i within.
+      let z = get_or ranks i 0 in
+      let is = each-get (IsLater r set) ranks i 0 later.each within in
+      sums.each i within ∙ total-grown (length r.items) z tails left.rules.each ∙ sym (left.totals z [] is.ascending);
+}
 
 -- ---- records that hold a set
-
-pub length-nodes : (place : ℕ) (records : List (List (ℕ × ℤ))) (set : List ℕ) → length (nodes_from place records set) ≡ support records set
-length-nodes place [] set = refl
-length-nodes place (cells ∷ records) set = by (holds set cells) (length-nodes (place + 1) records set)
-    ∙ sym (sum_by-cons (λ c. cond (holds set c) 1 0) cells records)
-  where
-    by : (b : Bool) → length (nodes_from (place + 1) records set) ≡ support records set
-        → length (cond b (record { place = place; own = values_of set cells; rest = rest_after set cells } ∷ []) [] ++ nodes_from
-        (place + 1) records set) ≡ cond b 1 0 + support records set
-    by true ih = omega (arith, ih)
-    by false ih = omega (arith, ih)
 
 support-part : (records : List (List (ℕ × ℤ))) (set more : List ℕ) → AllByRecursion (Contains more) set → 0 < support records more → 0 < support records set
 support-part records set more all some =
     let found = counted (holds more) records some in
     count-member (holds set) found.0 records found.1 (holds-part set more found.0 all found.2)
 
--- ---- lists whose sets lead to nothing
+-- a set that holds one of a low bound is left out
+bounded-out : (b : BestOf) (r : Ranking) → IsRanking r → (part whole : List ℕ) (bound : ℤ) → BoundsAverage r.records part bound
+    → ((x : Entry) → IsAtMost (bound, 1) x → IsLeftOut b x) → AllByRecursion (Contains whole) part → Ascend whole → 0 < support r.records whole
+    → 0 < length whole
+    → IsLeftOut b (rank_entry r whole)
+bounded-out b r rules part whole bound law out all up occurs some =
+    let key = length-key_of r rules whole up (InTable-occurs r rules whole occurs) in
+    let under = law whole all in
+    let one = *ℤ-one (utility r.records whole) in
+    let same : (bound *ℤ pos (length whole)) ≡ (bound *ℤ pos (length (rank_entry r whole).key)) = ap (λ n. bound *ℤ pos n) (sym key) in
+    out (rank_entry r whole) (omega (arith, key, some), omega (arith, ints, under, one, same))
 
-pub closed-empty : (b : BestOf) (r : Ranking) (nodes : List Node) → length nodes ≡ 0 → IsClosed b r nodes
-closed-empty b r nodes none set more is all some occurs e earned key =
-    let held = support-part r.records set more all occurs in
-    let count = length-nodes 0 r.records set in
-    let same = ap length is in
-    absurd (omega (arith, held, count, same, none))
-
-pub closed-bound : (b : BestOf) (r : Ranking) (nodes : List Node) (bound : ℤ) → BoundsList r nodes bound → ((e : Entry) → IsAtMost (bound, 1) e
-    → IsLeftOut b e) → IsClosed b r nodes
-closed-bound b r nodes bound law out set more is all some occurs e earned key =
-    let under = law set is more all in
-    let one = *ℤ-one e.utility in
-    let same : (bound *ℤ pos (length more)) ≡ (bound *ℤ pos (length e.key)) = ap (λ n. bound *ℤ pos n) (sym key) in
-    out e (omega (arith, some, key), omega (arith, ints, under, one, same, earned))
+-- so is one that holds a child which leads to nothing
+pub shut-out : (b : BestOf) (r : Ranking) → IsRanking r → (set : List ℕ) (child : Child) → IsChild r set child → IsShut b child
+    → (whole : List ℕ) → AllByRecursion (Contains whole) (set ++ child.rank ∷ []) → Ascend whole → 0 < support r.records whole → 0 < length whole
+    → IsLeftOut b (rank_entry r whole)
+shut-out b r rules set child is (inl none) whole all up occurs some =
+    let held = support-part r.records (set ++ child.rank ∷ []) whole all occurs in
+    let same = ap (λ (t : RankTotal). t.support) is.is in
+    absurd (omega (arith, none, held, same))
+shut-out b r rules set child is (inr out) whole all up occurs some =
+    let part = set ++ child.rank ∷ [] in
+    bounded-out b r rules part whole child.total.bound
+    (subst (BoundsAverage r.records part) (sym (ap (λ (t : RankTotal). t.bound) is.is)) (bounds-average r.records part)) out all up occurs some
 
 -- ---- ascending ranks
 
-pub ascend-skip : (xs : List ℕ) (z : ℕ) (ys : List ℕ) → Ascend (xs ++ z ∷ ys) → Ascend (xs ++ ys)
+ascend-skip : (xs : List ℕ) (z : ℕ) (ys : List ℕ) → Ascend (xs ++ z ∷ ys) → Ascend (xs ++ ys)
 ascend-skip [] z ys up = up.1
 ascend-skip (x ∷ xs) z ys up = (skip xs up.0, ascend-skip xs z ys up.1)
   where
     skip : (ws : List ℕ) → AllByRecursion (λ y. x < y) (ws ++ z ∷ ys) → AllByRecursion (λ y. x < y) (ws ++ ys)
     skip [] all = all.1
     skip (w ∷ ws) all = (all.0, skip ws all.1)
-
-ascend-push : (xs : List ℕ) (z : ℕ) → Ascend xs → AllByRecursion (λ x. x < z) xs → Ascend (xs ++ z ∷ [])
-ascend-push [] z up below = (tt, tt)
-ascend-push (x ∷ xs) z up below = (each-append (λ y. x < y) xs (z ∷ []) up.0 (below.0, tt), ascend-push xs z up.1 below.1)
-
-pub ascend-drop : (i : ℕ) (xs : List ℕ) → Ascend xs → Ascend (drop i xs)
-ascend-drop zero xs up = up
-ascend-drop (suc i) [] up = tt
-ascend-drop (suc i) (x ∷ xs) up = ascend-drop i xs up.1
-
-pub map-drop : {A B : Type 0} (f : A → B) (i : ℕ) (xs : List A) → map f (drop i xs) ≡ drop i (map f xs)
-map-drop f zero xs = refl
-map-drop f (suc i) [] = refl
-map-drop f (suc i) (x ∷ xs) = map-drop f i xs
-
-pub map-push : {A B : Type 0} (f : A → B) (xs : List A) (x : A) → map f (xs ++ x ∷ []) ≡ map f xs ++ f x ∷ []
-map-push f [] x = refl
-map-push f (y ∷ ys) x = ap (λ t. f y ∷ t) (map-push f ys x)
-
--- those after a place are greater, and the greater ones stand after it
-pub drop-above : (i : ℕ) (xs : List ℕ) (d : ℕ) → Ascend xs → i < length xs → AllByRecursion (λ z. get_or xs i d < z) (drop (suc i) xs)
-drop-above i [] d up within = absurd (omega arith)
-drop-above zero (x ∷ xs) d up within = up.0
-drop-above (suc i) (x ∷ xs) d up within = drop-above i xs d up.1 (omega (arith, within))
-
-pub above-dropped : (i : ℕ) (xs : List ℕ) (d z : ℕ) → Ascend xs → i < length xs → Member z xs → get_or xs i d < z → Member z (drop (suc i) xs)
-above-dropped i [] d z up within m above = absurd m
-above-dropped zero (x ∷ xs) d z up within (inl s) above = absurd (omega (arith, s, above))
-above-dropped zero (x ∷ xs) d z up within (inr m) above = m
-above-dropped (suc i) (x ∷ xs) d z up within (inl s) above =
-    let low = each-get (λ y. x < y) xs i d up.0 (omega (arith, within)) in absurd (omega (arith, s, above, low))
-above-dropped (suc i) (x ∷ xs) d z up within (inr m) above = above-dropped i xs d z up.1 (omega (arith, within)) m above
 
 pub take-next : (i : ℕ) (xs : List ℕ) (d z : ℕ) → i < length xs → Member z (take (suc i) xs) → Member z (take i xs) ⊎ (get_or xs i d ≡ z)
 take-next i [] d z within m = absurd m
@@ -119,79 +99,109 @@ take-here i [] d within = absurd (omega arith)
 take-here zero (x ∷ xs) d within = inl refl
 take-here (suc i) (x ∷ xs) d within = inr (take-here i xs d (omega (arith, within)))
 
--- ---- picking extensions out of ranks
-
--- no set with a rank that grows a set gets in
-abbrev pub IsClosedBy : BestOf → Ranking → List ℕ → ℕ → Type 0
-IsClosedBy b r set z = (more : List ℕ) → Ascend (set ++ more) → 0 < support r.records (set ++ more) → Member z more
-    → IsLeftOut b (rank_entry r (set ++ more))
-
--- of some ranks those were picked that are open
-pub record IsPicked (b : BestOf) (r : Ranking) (set : List ℕ) (Done : ℕ → Type 0) (extensions : List Extension) : Type 0 where
-  pub each : AllByRecursion (IsExtension r set) extensions
-  pub ascending : Ascend (ranks_of extensions)
-  pub closed : (z : ℕ) → Done z → Member z (ranks_of extensions) ⊎ IsClosedBy b r set z
-
-pub picked-none : (b : BestOf) (r : Ranking) (set : List ℕ) (Done : ℕ → Type 0) → ((z : ℕ) → Done z → ⊥) → IsPicked b r set Done []
-picked-none b r set Done none = record { each = tt; ascending = tt; closed = λ z d. absurd (none z d) }
-
 pub some-member : (z : ℕ) (xs : List ℕ) → Member z xs → 0 < length xs
 some-member z [] m = absurd m
 some-member z (x ∷ xs) m = omega arith
 
-closed-by : (b : BestOf) (r : Ranking) → IsRanking r → (set : List ℕ) (z : ℕ) (list : List Node) → IsClosed b r list
-    → list ≡ list_of r.records (set ++ z ∷ []) → IsClosedBy b r set z
-closed-by b r rules set z list closed is more up occurs m =
+pub child-rank : (children : List Child) (i : ℕ) (d : Child) → i < length children → get_or (ranks_of children) i 0 ≡ (get_or children i d).rank
+child-rank [] i d within = absurd (omega arith)
+child-rank (child ∷ children) zero d within = refl
+child-rank (child ∷ children) (suc i) d within = child-rank children i d (omega (arith, within))
+
+-- ---- picking children
+
+-- no set with a rank that grows a set gets in
+abbrev IsClosedBy : BestOf → Ranking → List ℕ → ℕ → Type 0
+IsClosedBy b r set z = (more : List ℕ) → Ascend (set ++ more) → 0 < support r.records (set ++ more) → Member z more
+    → IsLeftOut b (rank_entry r (set ++ more))
+
+shut-closed : (b : BestOf) (r : Ranking) → IsRanking r → (set : List ℕ) (child : Child) → IsChild r set child → IsShut b child
+    → IsClosedBy b r set child.rank
+shut-closed b r rules set child is shut more up occurs m =
     let whole = set ++ more in
-    let within = InTable-occurs r rules whole occurs in
-    let some : 0 < length whole = some-member z whole (Member-append_right z set more m) in
-    let all : AllByRecursion (Contains whole) (set ++ z ∷ []) = by_members (Contains whole) (set ++ z ∷ []) (λ y k. Contains-from_member y whole
-    (inside y k)) in
-    closed (set ++ z ∷ []) whole is all some occurs (rank_entry r whole) refl (length-key_of r rules whole up within)
+    shut-out b r rules set child is shut whole
+    (by_members (Contains whole) (set ++ child.rank ∷ []) (λ y k. Contains-from_member y whole (inside y k))) up occurs
+    (some-member child.rank whole (Member-append_right child.rank set more m))
   where
-    inside : (y : ℕ) → Member y (set ++ z ∷ []) → Member y (set ++ more)
-    inside y k = elim (Member-append_cases y set (z ∷ []) k) [
+    inside : (y : ℕ) → Member y (set ++ child.rank ∷ []) → Member y (set ++ more)
+    inside y k = elim (Member-append_cases y set (child.rank ∷ []) k) [
       | inl j ↦ Member-append_left y set more j
       | inr j ↦ elim j [ inl s ↦ Member-append_right y set more (subst (λ w. Member w more) s m) | inr none ↦ absurd none ]
     ]
 
-pub picked-next : (b : BestOf) (r : Ranking) → IsRanking r → (set : List ℕ) (Done Next : ℕ → Type 0) (old new : List Extension) (z : ℕ) (list : List Node)
-    → IsPicked b r set Done old → TakesOpen b r old new z list → list ≡ list_of r.records (set ++ z ∷ []) → Ascend (set ++ z ∷ [])
-    → InTable r (set ++ z ∷ [])
-    → AllByRecursion (λ x. x < z) (ranks_of old) → ((y : ℕ) → Next y → Done y ⊎ (z ≡ y)) → IsPicked b r set Next new
-picked-next b r rules set Done Next old new z list was (inl (bound, pushed, law, some)) is up table below next =
-    subst (IsPicked b r set Next) (sym pushed) (record {
-      each = each-append (IsExtension r set) old (record { rank = z; list = list; bound = bound } ∷ []) was.each
-          (record { ascending = up; in_table = table; some = some; is = is; most = law (set ++ z ∷ []) is }, tt);
-      ascending = subst Ascend (sym ranks) (ascend-push (ranks_of old) z was.ascending below);
-      closed = λ y n. subst (λ rs. Member y rs ⊎ IsClosedBy b r set y) (sym ranks) (by y (next y n));
-    })
-  where
-    ranks : ranks_of (old ++ (record { rank = z; list = list; bound = bound }) ∷ []) ≡ ranks_of old ++ z ∷ []
-    ranks = map-push (λ (e : Extension). e.rank) old (record { rank = z; list = list; bound = bound })
+-- of children the first were tried
+pub record ArePickedUpto (b : BestOf) (r : Ranking) (set : List ℕ) (children picked : List Child) (i : ℕ) : Type 0 where
+  pub each : AllByRecursion (IsChild r set) picked
+  pub some : AllByRecursion (λ child. 0 < child.total.support) picked
+  pub order : Ascend (ranks_of picked ++ drop i (ranks_of children))
+  pub few : length picked + (length children - i) ≤ length children
+  pub closed : (z : ℕ) → Member z (take i (ranks_of children)) → Member z (ranks_of picked) ⊎ IsClosedBy b r set z
 
-    by : (y : ℕ) → Done y ⊎ (z ≡ y) → Member y (ranks_of old ++ z ∷ []) ⊎ IsClosedBy b r set y
-    by y (inl d) = elim (was.closed y d) [ inl m ↦ inl (Member-append_left y (ranks_of old) (z ∷ []) m) | inr shut ↦ inr shut ]
-    by y (inr s) = inl (Member-append_right y (ranks_of old) (z ∷ []) (inl s))
-picked-next b r rules set Done Next old new z list was (inr (same, closed)) is up table below next =
-    subst (IsPicked b r set Next) (sym same) (record { each = was.each; ascending = was.ascending; closed = λ y n. by y (next y n) })
-  where
-    by : (y : ℕ) → Done y ⊎ (z ≡ y) → Member y (ranks_of old) ⊎ IsClosedBy b r set y
-    by y (inl d) = was.closed y d
-    by y (inr s) = inr (subst (IsClosedBy b r set) s (closed-by b r rules set z list closed is))
+module _ (b : BestOf) (r : Ranking) (rules : IsRanking r) (set : List ℕ) (children picked : List Child) (right : AreChildren r set children)
+    (i : ℕ) (d : Child) (within : i < length children) (was : ArePickedUpto b r set children picked i) where
+  abbrev child : Child
+  child = get_or children i d
 
-pub picked-enough : (b : BestOf) (r : Ranking) (set : List ℕ) (Done : ℕ → Type 0) (extensions : List Extension) → IsPicked b r set Done extensions
-    → ((more : List ℕ) → Ascend (set ++ more) → 0 < support r.records (set ++ more) → AllByRecursion Done more ⊎ IsLeftOut b (rank_entry r (set ++ more)))
-    → AreEnough b r set (ranks_of extensions)
-picked-enough b r set Done extensions picked all more up occurs = elim (all more up occurs) [
-  | inl done ↦ check more done (by_members (λ z. Member z more) more (λ z m. m))
-  | inr out ↦ inr out
-]
+  count : i < length (ranks_of children)
+  count = omega (arith, within, length-map children (λ (x : Child). x.rank))
+
+  order : Ascend (ranks_of picked ++ (get_or children i d).rank ∷ drop (i + 1) (ranks_of children))
+  order = subst (λ t. Ascend (ranks_of picked ++ t))
+      (drop_more (ranks_of children) i 0 count ∙ ap (λ y. y ∷ drop (i + 1) (ranks_of children)) (child-rank children i d within)) was.order
+
+  -- the next one leads to nothing
+  pub picked-skip : IsShut b (get_or children i d) → ArePickedUpto b r set children picked (i + 1)
+  picked-skip shut = record {
+    each = was.each;
+    some = was.some;
+    order = ascend-skip (ranks_of picked) child.rank (drop (i + 1) (ranks_of children)) order;
+    few = let few = was.few in omega (arith, few, within);
+    closed = rw add-one (λ z m. elim (take-next i (ranks_of children) 0 z count m) [
+      | inl k ↦ was.closed z k
+      | inr s ↦ inr (subst (IsClosedBy b r set) (sym (child-rank children i d within) ∙ s)
+          (shut-closed b r rules set child (each-get (IsChild r set) children i d right.each within) shut))
+    ]);
+  }
+
+  -- or it is picked
+  pub picked-next : (new : List Child) → new ≡ picked ++ get_or children i d ∷ [] → 0 < (get_or children i d).total.support
+      → ArePickedUpto b r set children new (i + 1)
+  picked-next new pushed some = subst (λ (cs : List Child). ArePickedUpto b r set children cs (i + 1)) (sym pushed) (record {
+    each = each-push (IsChild r set) picked child was.each (each-get (IsChild r set) children i d right.each within);
+    some = each-push (λ (c : Child). 0 < c.total.support) picked child was.some some;
+    order = subst (λ t. Ascend (t ++ drop (i + 1) (ranks_of children))) (sym ranks)
+        (subst Ascend (sym (append_assoc (ranks_of picked) (child.rank ∷ []) (drop (i + 1) (ranks_of children)))) order);
+    few = let few = was.few in omega (arith, few, within, length-append picked (child ∷ []));
+    closed = rw add-one (λ z m. subst (λ rs. Member z rs ⊎ IsClosedBy b r set z) (sym ranks) (elim (take-next i (ranks_of children) 0 z count m) [
+      | inl k ↦ elim (was.closed z k) [ inl n ↦ inl (Member-append_left z (ranks_of picked) (child.rank ∷ []) n) | inr shut ↦ inr shut ]
+      | inr s ↦ inl (Member-append_right z (ranks_of picked) (child.rank ∷ []) (inl (sym (child-rank children i d within) ∙ s)))
+    ]));
+  })
+    where
+      ranks : ranks_of (picked ++ child ∷ []) ≡ ranks_of picked ++ child.rank ∷ []
+      ranks = map-append (λ (c : Child). c.rank) picked (child ∷ [])
+
+pub picked-all : (b : BestOf) (r : Ranking) (set : List ℕ) (children picked : List Child) (n : ℕ) → length children ≤ n
+    → ArePickedUpto b r set children picked n → ArePicked b r set (ranks_of children) picked
+picked-all b r set children picked n all was = record {
+  children = record { each = was.each; ascending = Ascend-left (ranks_of picked) (drop n (ranks_of children)) was.order };
+  some = was.some;
+  few = let few = was.few in omega (arith, few, length-map children (λ (x : Child). x.rank));
+  enough = λ enough more up occurs. elim (enough more up occurs) [
+    | inl m ↦ check more up occurs more m (by_members (λ z. Member z more) more (λ z k. k))
+    | inr out ↦ inr out
+  ];
+}
   where
-    check : (zs : List ℕ) → AllByRecursion Done zs → AllByRecursion (λ z. Member z more) zs
-        → AllByRecursion (λ z. Member z (ranks_of extensions)) zs ⊎ IsLeftOut b (rank_entry r (set ++ more))
-    check [] done among = inl tt
-    check (z ∷ zs) done among = elim (picked.closed z done.0) [
-      | inl m ↦ elim (check zs done.1 among.1) [ inl rest ↦ inl (m, rest) | inr out ↦ inr out ]
-      | inr shut ↦ inr (shut more up occurs among.0)
-    ]
+    count : length (ranks_of children) ≤ n
+    count = omega (arith, all, length-map children (λ (x : Child). x.rank))
+
+    check : (more : List ℕ) → Ascend (set ++ more) → 0 < support r.records (set ++ more) → (zs : List ℕ)
+        → AllByRecursion (λ z. Member z (ranks_of children)) zs → AllByRecursion (λ z. Member z more) zs
+        → AllByRecursion (λ z. Member z (ranks_of picked)) zs ⊎ IsLeftOut b (rank_entry r (set ++ more))
+    check more up occurs [] done among = inl tt
+    check more up occurs (z ∷ zs) done among =
+        elim (was.closed z (subst (Member z) (sym (take_all n (ranks_of children) count)) done.0)) [
+          | inl m ↦ elim (check more up occurs zs done.1 among.1) [ inl rest ↦ inl (m, rest) | inr out ↦ inr out ]
+          | inr shut ↦ inr (shut more up occurs among.0)
+        ]

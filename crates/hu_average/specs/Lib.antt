@@ -1,7 +1,8 @@
 pub mod Order
 pub mod Answer
 pub mod Best
-pub mod Extension
+pub mod Tails
+pub mod Children
 pub mod Totals
 pub mod Text
 pub mod Bound

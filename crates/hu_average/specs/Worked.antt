@@ -56,5 +56,5 @@ pub bound_of_rank_2 : average_bound (ranked (pos 30) base_a).records (2 ∷ []) 
 bound_of_rank_2 = refl
 
 -- the total of item 1 there: it earns -10 and 4, in two records whose greatest values are 3 and 6
-pub total_of_signed_1 : total_of signed 1 ≡ total_with (negsuc 5) 2 (pos 9)
+pub total_of_signed_1 : total_of signed (1 ∷ []) ≡ total_with (negsuc 5) 2 (pos 9)
 total_of_signed_1 = refl

@@ -1,14 +1,11 @@
 //! The most that a set with further items can earn for each of its items.
 
-ghost use Rattle.std.specs.Prelude.{◌≡◌, ◌<◌, [], pos, map, length, slice_index_or, IfOk};
-ghost use Rattle.hu_totals.specs.Ranked.{IsRanking};
+ghost use Rattle.std.specs.Prelude.{◌≡◌, ◌<◌, [], map, length, slice_index_or};
 ghost use Rattle.hu_totals.specs.View.{dense_pair, pairs_in};
 ghost use Rattle.hu_average.specs.Bound.{greatest, IsSomeList, IsAverageBound, BoundsList};
 
-use hu_kind::NoMemory;
 use hu_list::{Node, UtilityList};
 use hu_totals::{Dense, Ranked};
-use std::alloc::Global;
 
 /// The most that a set can earn for each of its items which holds all ranks of the list's set: the sum of the greatest values of
 /// the records that hold these, where they are above 0. It takes no memory, and one pass over the records of the list. After Hong,
@@ -26,34 +23,6 @@ pub fn bound(ranked: &Ranked, list: &UtilityList) -> i128
     sum
 }
 
-/// The same by the greatest value of each record.
-pub(crate) fn bound_by(ranked: &Ranked, values: &[i128], list: &UtilityList) -> i128
-    requires list { IsSomeList ranked.now list.now }
-    requires values { values.now ≡ map greatest ranked.now.records }
-    ensures { BoundsList ranked.now list.now result }
-{
-    // This tells the proof the rules of ranked records.
-    let _records = ranked.records();
-    let mut sum = 0;
-    for node in list.nodes() {
-        sum += value_at(values, node);
-    }
-    sum
-}
-
-/// The greatest value of each record, where it is above 0.
-pub(crate) fn greatest_values(alloc: Global, ranked: &Ranked) -> Result<Vec<i128>, NoMemory>
-    ensures rules { IsRanking ranked.now }
-    ensures values { IfOk result (λ values. values.items ≡ map greatest ranked.now.records) }
-{
-    let records = ranked.records();
-    let mut values = Vec::with_capacity(alloc, records.len())?;
-    for cells in records {
-        values.push(greatest(cells))?;
-    }
-    Ok(values)
-}
-
 /// The greatest value of the record of a node, where it is above 0.
 fn greatest_at(records: &[Vec<Dense>], node: &Node) -> i128
     requires { node.now.place < length records.now }
@@ -62,16 +31,8 @@ fn greatest_at(records: &[Vec<Dense>], node: &Node) -> i128
     greatest(&records[node.place as usize])
 }
 
-/// The value at the place of a node.
-fn value_at(values: &[i128], node: &Node) -> i128
-    requires { node.now.place < length values.now }
-    ensures { result ≡ slice_index_or values.now node.now.place (pos 0) }
-{
-    values[node.place as usize]
-}
-
 /// The greatest of the values, or 0 where none is above it.
-fn greatest(cells: &[Dense]) -> i128
+pub(crate) fn greatest(cells: &[Dense]) -> i128
     ensures { result ≡ greatest (map dense_pair cells.now) }
 {
     let mut most = 0;

@@ -2,8 +2,8 @@
 //!
 //! [`mine_plain`] tries every itemset, and [`mine`] searches utility lists and leaves out what [`bound`] shows to be too low; both
 //! give the same entries in the order [`cmp_average`], which [`write_averages`] writes. The order stands in `specs/Order.antt`, the
-//! answer in `specs/Answer.antt`, its text in `specs/Text.antt`, the bound in `specs/Bound.antt`. What single items earn is summed
-//! in one pass, `specs/Totals.antt`, so that most of them are left out before they get a list. The crate stands on hu_kind,
+//! answer in `specs/Answer.antt`, its text in `specs/Text.antt`, the bound in `specs/Bound.antt`. The search keeps
+//! utility lists as tails, `specs/Tails.antt`, from which it walks on in the records. The crate stands on hu_kind,
 //! hu_io, hu_base, hu_collect, hu_totals, hu_search, hu_list, hu_plain and hu_report, its proofs on hu_answer and hu_lengths too.
 //! After Hong, Lee and Wang (2009).
 #![tactic(auto)]
@@ -11,10 +11,13 @@
 mod best;
 mod bounds;
 mod by_average;
-mod extension;
+mod children;
+mod grow;
 mod order;
 mod plain;
 mod search;
+mod slots;
+mod tail;
 mod text;
 mod totals;
 

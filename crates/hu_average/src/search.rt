@@ -1,30 +1,29 @@
 //! The search by average.
 
-ghost use Rattle.std.specs.Prelude.{◌≡◌, ◌+◌, ◌<◌, ◌≤◌, ◌≤ℤ◌, pos, [], ◌∷◌, ◌++◌, map, drop, length, option_copied, IfOk, OnOk, IfSome};
+ghost use Rattle.std.specs.Prelude.{◌≡◌, ◌+◌, ◌<◌, ◌≤◌, ◌≤ℤ◌, ℕ, pos, [], ◌∷◌, ◌++◌, ◌-◌, take, drop, length, IfOk, OnOk, IfSome};
+ghost use Rattle.hu_kind.proofs.lemmas.Members.{Member};
 ghost use Rattle.hu_totals.specs.Ranked.{unranked, IsRanking};
 ghost use Rattle.hu_search.specs.Growth.{Grows};
-ghost use Rattle.hu_list.specs.Joins.{IsPrefix};
 ghost use Rattle.hu_average.specs.Answer.{average_answer};
-ghost use Rattle.hu_average.specs.Bound.{greatest};
 ghost use Rattle.hu_average.specs.Best.{IsKept, Covers};
-ghost use Rattle.hu_average.specs.Extension.{AreExtensions, AreEnough, AreJoined, ranks_of};
+ghost use Rattle.hu_average.specs.Tails.{IsLeft, tails_of};
+ghost use Rattle.hu_average.specs.Children.{IsChild, AreLater, AreEnough};
 
 use crate::best::Best;
-use crate::bounds::greatest_values;
-use crate::extension::{Extension, joined, offer_extensions, offer_singles, singles};
-use crate::order::Average;
-use crate::totals::rank_totals;
+use crate::children::{Child, children, is_shut, offer_children, picked, ranks_of};
+use crate::grow::grown;
+use crate::slots::fill;
+use crate::tail::{Tail, record_tails};
 use hu_kind::{Entry, NoMemory};
-use hu_list::UtilityList;
 use hu_totals::Ranked;
 use std::alloc::Global;
 
 /// The itemsets of the ranked records that earn at least `least` for each of their items, by average, and the first k of them
-/// where there is a `top`. It searches utility lists: the sets with one later rank more than a set are offered before one of them
-/// is entered, and what holds a set is left out only where the set's [`bound`](crate::bound) is below the minimum, or below the
-/// k-th average of that moment. It takes one pass over the records for what all single items earn and for their bounds, then one
-/// for each item that isn't left out once all single items were offered, and a merge of lists for each set that is tried; the
-/// lists along one branch are held. After HUI-Miner (Liu and Qu, 2012) and Hong, Lee and Wang (2009).
+/// where there is a `top`. It searches utility lists in a form that costs no join: from the records that hold a set it walks on to
+/// find all sets with one later rank more. These are offered before one of them is entered, and what holds a set is left out only
+/// where the set's [`bound`](crate::bound) is below the minimum, or below the k-th average of that moment. A level takes one pass
+/// over the cells that are left of its records, and one more for the sets that are entered, which alone get tails; the tails along
+/// one branch are held. After HUI-Miner (Liu and Qu, 2012), Hong, Lee and Wang (2009) and d2HUP (Liu, Wang and Fung, 2012).
 pub fn mine(
     alloc: Global,
     ranked: &Ranked,
@@ -35,96 +34,118 @@ pub fn mine(
     requires some { IfSome top (λ k. 1 ≤ k) }
     ensures { IfOk result (λ entries. entries.items ≡ average_answer (unranked ranked.now) least top) }
 {
-    let values = greatest_values(alloc, ranked)?;
-    let totals = rank_totals(alloc, ranked, &values)?;
+    let tails = record_tails(alloc, ranked)?;
+    let later = all_ranks(alloc, ranked)?;
+    let mut slots = vec![in alloc; 0usize; later.len()]?;
     let mut best = Best::new(alloc, least, top);
-    offer_singles(alloc, ranked, &totals, &mut best)?;
-    let singles = singles(alloc, ranked, &values, &totals, &best)?;
     search(
         alloc,
         ranked,
-        &values,
         &mut Vec::new(alloc),
-        None,
-        &singles,
+        &tails,
+        &later,
+        &mut slots,
         &mut best,
     )?;
     best.into_entries()
 }
 
-/// Offers the sets that grow a set by ranks of its extensions. `prefix` is the set's list, none where it is empty.
+/// All ranks.
+fn all_ranks(alloc: Global, ranked: &Ranked) -> Result<Vec<u32>, NoMemory>
+    ensures later { IfOk result (λ ranks. AreLater ranked.now [] ranks.items) }
+    ensures len { IfOk result (λ ranks. length ranks.items ≡ length ranked.now.items) }
+    ensures whole { IfOk result
+        (λ ranks. (z : ℕ) → z < length ranked.now.items → Member z ranks.items) }
+{
+    let mut ranks = Vec::with_capacity(alloc, ranked.len() as usize)?;
+    for rank in 0..ranked.len() {
+        ranks.push(rank)?;
+    }
+    Ok(ranks)
+}
+
+/// Offers the sets that grow a set by ranks of later ones, where these are enough.
 #[cycle(search)]
 fn search(
     alloc: Global,
     ranked: &Ranked,
-    values: &[i128],
     ranks: &mut Vec<u32>,
-    prefix: Option<&UtilityList>,
-    extensions: &[Extension],
+    tails: &[Tail<'_>],
+    later: &[u32],
+    slots: &mut [usize],
     best: &mut Best,
 ) -> Result<(), NoMemory>
     requires rules { IsRanking ranked.now }
-    requires values { values.now ≡ map greatest ranked.now.records }
-    requires prefix { IsPrefix (option_copied prefix) ranked.now.records ranks.old.items }
-    requires extensions { AreExtensions ranked.now ranks.old.items extensions.now }
-    requires enough { AreEnough best.old ranked.now ranks.old.items (ranks_of extensions.now) }
+    requires left { IsLeft ranked.now ranks.old.items (tails_of tails.now) }
+    requires later { AreLater ranked.now ranks.old.items later.now }
+    requires enough { AreEnough best.old ranked.now ranks.old.items later.now }
+    requires room { length slots.old ≡ length ranked.now.items }
     requires kept { IsKept best.old }
     ensures ranks { OnOk result (ranks.new.items ≡ ranks.old.items) }
+    ensures room { length slots.new ≡ length slots.old }
     ensures covers { OnOk result (Covers best.old (Grows ranked.now ranks.old.items) best.new) }
 {
-    offer_extensions(alloc, ranked, ranks, extensions, best)?;
-    'extensions: for (at, extension) in extensions.iter().enumerate() {
-        let later = after(extensions, at);
-        enter(alloc, ranked, values, ranks, prefix, extension, later, best)?;
+    let children = children(alloc, ranked, ranks, tails, later, slots, best)?;
+    offer_children(alloc, ranked, ranks, &children, best)?;
+    let entered = picked(alloc, ranked, ranks, &children, best)?;
+    let left = ranks_of(alloc, &entered)?;
+    // The last child can't grow by a later one, so that it needs no tails.
+    let front = all_but_last(&left);
+    fill(slots, front);
+    let lists = grown(alloc, tails, front, slots)?;
+    'lists: for (at, list) in lists.iter().enumerate() {
+        let after = after(&left, at);
+        enter(alloc, ranked, ranks, &entered[at], list, after, slots, best)?;
     }
     Ok(())
 }
 
-/// The extensions after a place.
-fn after(extensions: &[Extension], at: usize) -> &[Extension]
-    requires { at < length extensions.now }
-    ensures { result.now ≡ drop (at + 1) extensions.now }
+/// All ranks but the last one.
+fn all_but_last(ranks: &[u32]) -> &[u32]
+    ensures { result.now ≡ take (length ranks.now - 1) ranks.now }
 {
-    &extensions[at + 1..]
+    &ranks[..ranks.len().saturating_sub(1)]
 }
 
-/// Offers the sets that grow the set of an extension by ranks of later ones, unless all of them are left out.
+/// The ranks after a place.
+fn after(ranks: &[u32], at: usize) -> &[u32]
+    requires { at < length ranks.now }
+    ensures { result.now ≡ drop (at + 1) ranks.now }
+{
+    &ranks[at + 1..]
+}
+
+/// Offers the sets that grow a child by ranks of later ones, unless all of them are left out.
 #[cycle(search)]
 fn enter(
     alloc: Global,
     ranked: &Ranked,
-    values: &[i128],
     ranks: &mut Vec<u32>,
-    prefix: Option<&UtilityList>,
-    extension: &Extension,
-    later: &[Extension],
+    child: &Child,
+    tails: &[Tail<'_>],
+    later: &[u32],
+    slots: &mut [usize],
     best: &mut Best,
 ) -> Result<(), NoMemory>
     requires rules { IsRanking ranked.now }
-    requires values { values.now ≡ map greatest ranked.now.records }
-    requires joined { AreJoined ranked.now (option_copied prefix) ranks.old.items extension.now later.now }
-    requires enough { AreEnough best.old ranked.now (ranks.old.items ++ extension.now.rank ∷ [])
-        (ranks_of later.now) }
+    requires child { IsChild ranked.now ranks.old.items child.now }
+    requires left { IsLeft ranked.now (ranks.old.items ++ child.now.rank ∷ [])
+        (tails_of tails.now) }
+    requires later { AreLater ranked.now (ranks.old.items ++ child.now.rank ∷ []) later.now }
+    requires enough { AreEnough best.old ranked.now (ranks.old.items ++ child.now.rank ∷ [])
+        later.now }
+    requires room { length slots.old ≡ length ranked.now.items }
     requires kept { IsKept best.old }
     ensures ranks { OnOk result (ranks.new.items ≡ ranks.old.items) }
+    ensures room { length slots.new ≡ length slots.old }
     ensures covers { OnOk result
-        (Covers best.old (Grows ranked.now (ranks.old.items ++ extension.now.rank ∷ []))
-        best.new) }
+        (Covers best.old (Grows ranked.now (ranks.old.items ++ child.now.rank ∷ [])) best.new) }
 {
-    if best.leaves_out(Average::whole(extension.bound)) {
+    if is_shut(child, best) {
         return Ok(());
     }
-    let longer = joined(alloc, ranked, values, prefix, extension, later, best)?;
-    ranks.push(extension.rank)?;
-    search(
-        alloc,
-        ranked,
-        values,
-        ranks,
-        Some(&extension.list),
-        &longer,
-        best,
-    )?;
+    ranks.push(child.rank)?;
+    search(alloc, ranked, ranks, tails, later, slots, best)?;
     ranks.pop();
     Ok(())
 }

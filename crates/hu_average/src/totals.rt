@@ -1,40 +1,38 @@
-//! What single ranks earn, and what sets with them can earn.
+//! What sets with one rank more earn, and what sets that hold them can earn.
 
-ghost use Rattle.std.specs.Prelude.{◌≡◌, ◌<◌, ◌==◌, ℕ, map, length, if◌then◌else◌, IfOk};
-ghost use Rattle.std.specs.List.{AllByRecursion};
-ghost use Rattle.hu_kind.specs.Record.{items_in};
-ghost use Rattle.hu_kind.specs.Order.{Ascend};
-ghost use Rattle.hu_totals.specs.Ranked.{IsRanking};
-ghost use Rattle.hu_totals.specs.View.{dense_pair};
-ghost use Rattle.hu_average.specs.Bound.{greatest};
-ghost use Rattle.hu_average.specs.Totals.{total_with, no_total, plus, total_at, share_in, Fits, Adds, AreTotals};
+ghost use Rattle.std.specs.Prelude.{◌≡◌, ◌<◌, ◌+◌, ◌^◌, ◌==◌, ◌+ℤ◌, ℕ, max, unsigned_abs, length, slice_index_or, if◌then◌else◌, IfOk};
+ghost use Rattle.hu_list.specs.Slots.{AreSlots};
+ghost use Rattle.hu_average.specs.Totals.{total_with, no_total, plus, total_at, Fits};
+ghost use Rattle.hu_average.specs.Tails.{left_in, total_in, tail_of, tails_of, size_of, IsTail, AreTails, AreSums};
 
+use crate::slots::find;
+use crate::tail::Tail;
 use hu_kind::NoMemory;
-use hu_totals::{Dense, Ranked};
+use hu_totals::Dense;
 use std::alloc::Global;
 
-/// What the records say of a rank.
+/// What the tails that hold a rank say of the set with it.
 #[derive(Clone, Copy)]
 pub(crate) struct RankTotal {
-    /// The sum of its values.
+    /// What the set earns there.
     pub utility: i128,
-    /// How many records hold it.
+    /// How many they are.
     pub support: u64,
-    /// The sum of the greatest values of these, more than which no set with the rank earns for each item.
+    /// The sum of the greatest values of their records, more than which no set that holds it earns for each item.
     pub bound: i128,
 }
 
 impl RankTotal {
-    /// What no record says.
+    /// What no tail says.
     const NONE: RankTotal = RankTotal {
         utility: 0,
         support: 0,
         bound: 0,
     };
 
-    /// The total with a record more, in which the rank has a value, and the greatest value is `most`.
+    /// The total with a tail more, where the set earns a value, and the greatest value of the record is `most`.
     fn with(self, value: i128, most: i128) -> RankTotal
-        requires { Fits self (total_with value 1 most) }
+        requires { Fits self (max (unsigned_abs value) (unsigned_abs most)) }
         ensures { result ≡ plus self (total_with value 1 most) }
     {
         RankTotal {
@@ -45,48 +43,65 @@ impl RankTotal {
     }
 }
 
-/// The total of each rank, in one pass over the records. `values` are the greatest value of each.
-pub(crate) fn rank_totals(
+/// The total of each of these ranks, in one pass over the cells.
+pub(crate) fn totals(
     alloc: Global,
-    ranked: &Ranked,
-    values: &[i128],
+    tails: &[Tail<'_>],
+    ranks: &[u32],
+    slots: &[usize],
 ) -> Result<Vec<RankTotal>, NoMemory>
-    requires values { values.now ≡ map greatest ranked.now.records }
-    ensures { IfOk result (λ totals. AreTotals ranked.now totals.items) }
+    requires rules { AreTails (length slots.now) (tails_of tails.now) }
+    requires slots { AreSlots slots.now ranks.now }
+    ensures { IfOk result (λ totals. AreSums ranks.now (tails_of tails.now) totals.items) }
 {
-    let mut totals = vec![in alloc; RankTotal::NONE; ranked.len() as usize]?;
-    let records = ranked.records();
-    for place in 0..records.len() {
-        add_record(&mut totals, &records[place], values[place]);
+    let mut totals = vec![in alloc; RankTotal::NONE; ranks.len()]?;
+    for tail in tails {
+        add_tail(&mut totals, ranks, slots, tail);
     }
     Ok(totals)
 }
 
-/// Adds a record with its greatest value to the totals of the ranks that it holds.
-fn add_record(totals: &mut Vec<RankTotal>, cells: &[Dense], most: i128)
-    requires ascending { Ascend (items_in (map dense_pair cells.now)) }
-    requires below { AllByRecursion (λ rank. rank < length totals.old.items)
-        (items_in (map dense_pair cells.now)) }
-    requires fits { (rank : ℕ) → Fits (total_at totals.old.items rank)
-        (share_in most (map dense_pair cells.now) rank) }
+/// Adds a tail to the totals of the ranks that it holds.
+fn add_tail(totals: &mut Vec<RankTotal>, ranks: &[u32], slots: &[usize], tail: &Tail<'_>)
+    requires len { length totals.old.items ≡ length ranks.now }
+    requires slots { AreSlots slots.now ranks.now }
+    requires rules { IsTail (length slots.now) (tail_of tail.now) }
+    requires fits { (i : ℕ) → i < length ranks.now → Fits (total_at totals.old.items i)
+        (size_of (tail_of tail.now)) }
     ensures len { length totals.new.items ≡ length totals.old.items }
-    ensures value { Adds (share_in most (map dense_pair cells.now)) totals.old.items totals.new.items }
+    ensures totals { (i : ℕ) → i < length ranks.now → total_at totals.new.items i
+        ≡ plus (total_at totals.old.items i)
+        (total_in (left_in (slice_index_or ranks.now i 0) (tail_of tail.now))) }
 {
-    let mut place = cells.len();
+    let mut place = tail.cells.len();
     while place > 0 {
         place -= 1;
-        let cell = cells[place];
-        add(totals, cell.rank, cell.value, most);
+        add_cell(totals, ranks, slots, tail, &tail.cells[place]);
     }
 }
 
-/// Adds a value of a rank, in a record of a greatest value, to the rank's total.
-fn add(totals: &mut Vec<RankTotal>, rank: u32, value: i128, most: i128)
-    requires within { rank < length totals.old.items }
-    requires fits { Fits (total_at totals.old.items rank) (total_with value 1 most) }
+/// Adds a cell of a tail to the total of its rank, if it has one.
+fn add_cell(
+    totals: &mut Vec<RankTotal>,
+    ranks: &[u32],
+    slots: &[usize],
+    tail: &Tail<'_>,
+    cell: &Dense,
+)
+    requires len { length totals.old.items ≡ length ranks.now }
+    requires slots { AreSlots slots.now ranks.now }
+    requires within { cell.now.rank < length slots.now }
+    requires fits { (i : ℕ) → i < length ranks.now → slice_index_or ranks.now i 0 ≡ cell.now.rank
+        → Fits (total_at totals.old.items i)
+        (max (unsigned_abs tail.now.own + unsigned_abs cell.now.value)
+        (unsigned_abs tail.now.most)) }
     ensures len { length totals.new.items ≡ length totals.old.items }
-    ensures value { Adds (λ other. if other == rank then total_with value 1 most else no_total) totals.old.items
-        totals.new.items }
+    ensures totals { (i : ℕ) → i < length ranks.now → total_at totals.new.items i
+        ≡ plus (total_at totals.old.items i)
+        (if slice_index_or ranks.now i 0 == cell.now.rank
+        then total_with (tail.now.own +ℤ cell.now.value) 1 tail.now.most else no_total) }
 {
-    totals[rank as usize] = totals[rank as usize].with(value, most);
+    if let Some(slot) = find(slots, ranks, cell.rank) {
+        totals[slot] = totals[slot].with(tail.own + cell.value, tail.most);
+    }
 }

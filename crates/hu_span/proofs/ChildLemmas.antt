@@ -1,24 +1,18 @@
 -- Children, by their marks and in the order of their falling bounds.
-use Rattle.std.proofs.Common.{◌≡◌, ℕ, zero, suc, ◌+◌, ◌<◌, ◌≤◌, ◌^◌, Bool, true, false, ℤ, pos, ◌≤ℤ◌, ◌<ℤ◌, int_le, Option, None, Some}
-use Rattle.std.proofs.Common.{List, [], ◌∷◌, ◌++◌, map, filter, length, get_or, take, refl, sym, ap, ◌∙◌, subst, ◌⊎◌, inl, inr, arith, append_assoc}
-use Rattle.std.proofs.Common.{length-append, Contains, IsPermutation}
-use Rattle.std.specs.declared.cmp.Ordering.TheVariants.{Less}
-use Rattle.std.specs.Cmp.{int_cmp_is, IsStrictWeakOrder}
+use Rattle.std.proofs.Common.{◌≡◌, ℕ, suc, ◌+◌, ◌<◌, ◌^◌, Bool, true, false, ℤ, pos, ◌≤ℤ◌, ◌<ℤ◌, Option, None, Some}
+use Rattle.std.proofs.Common.{List, [], ◌∷◌, ◌++◌, map, length, take, drop, cond, eqb, refl, sym, ap, ◌∙◌, subst, ◌⊎◌, inl, inr, arith, append_assoc}
+use Rattle.std.proofs.Common.{length-append}
 use Rattle.std.specs.List.{AllByRecursion}
-use Rattle.std.specs.List.Sorted.{IsSortedBy}
-use Rattle.std.specs.Ordering.{int_cmp, is_lt, flip_args}
+use Rattle.std.specs.List.Sorted.{IsNonDecreasingBy}
 use Rattle.std.proofs.lemmas.Bool.{eq-eqb, eqb-true}
-use Rattle.std.proofs.lemmas.Cmp.{back_total, int_cmp_total}
-use Rattle.std.proofs.lemmas.Int.{ints, by_lt_z}
-use Rattle.std.proofs.lemmas.List.{map-append, take_more}
-use Rattle.std.proofs.lemmas.List.Sorted.{ranks_by, sorted_far, Contains-permutation, IsPermutation-sym}
-use Rattle.hu_kind.specs.declared.item.Item.{Item}
+use Rattle.std.proofs.lemmas.Int.{ints}
+use Rattle.std.proofs.lemmas.List.{map-append}
+use Rattle.std.proofs.lemmas.List.Elements.{Contains-append_left, Contains-push}
 use Rattle.hu_kind.specs.Sequence.{best_utility, better, sequence_support, sequence_utility}
 use Rattle.hu_kind.proofs.lemmas.Members.{Member, Contains-from_member, Member-append_left, Member-append_right, Member-filter, Member-from_contains}
-use Rattle.hu_kind.proofs.lemmas.Members.{Member-from_filter, Member-from_map, Member-map}
-use Rattle.hu_kind.proofs.lemmas.Occurring.{at_member, by_members}
+use Rattle.hu_kind.proofs.lemmas.Members.{Member-from_filter}
+use Rattle.hu_kind.proofs.lemmas.Occurring.{at_member}
 use Rattle.hu_kind.proofs.lemmas.Each.{each-append, each-left, each-right}
-use Rattle.hu_collect.specs.Laws.{SameMembers}
 use Rattle.hu_chain.specs.declared.chain.Growth.{Growth}
 use Rattle.hu_chain.specs.declared.chain.Growth.TheVariants.{IntoLast, AfterLast}
 use Rattle.hu_chain.specs.declared.place.Place.{Place}
@@ -33,76 +27,14 @@ use Rattle.hu_chain.proofs.lemmas.Patterns.{last_item-grown, Ends-grown}
 use Rattle.hu_span.specs.declared.child.Child.{Child}
 use Rattle.hu_span.specs.declared.mark.Mark.{Mark}
 use Rattle.hu_span.specs.declared.step.Step.{Step}
-use Rattle.hu_span.specs.Child.{stepped, AreChildren, AreChildrenBy, ArePlaces, Fall, HasStep, IsChild, IsGathered, IsStep}
+use Rattle.hu_span.specs.Child.{stepped, AreChildren, AreChildrenBy, ArePlaces, HasStep, IsChild, IsGathered, IsStep}
 use Rattle.hu_span.specs.Gather.{IsGrowth, MayTake}
 use Rattle.hu_span.specs.Growing.{IsReached, Records}
-use Rattle.hu_span.specs.Mark.{is_of, mark_at, marks_from, marks_of, marks_with, places_of, record_at, IsMark}
+use Rattle.hu_span.specs.Mark.{is_of, mark_at, marks_from, marks_of, marks_with, places_of, record_at, run_of, IsMark}
 use Rattle.hu_span.specs.Tally.{bests_of, count_of, none_told, reaches_of, told}
-use Rattle.hu_span.proofs.MarkLemmas.{each-filter}
+use Rattle.hu_span.proofs.MarkLemmas.{each-filter, rises-sorted, run-first, IsRun, Rises}
 use Rattle.hu_span.proofs.ReachLemmas.{grown-reached}
 use Rattle.hu_span.proofs.TallyLemmas.{bounds-fit, bounds-hold, support-cons, told-all, IsSum}
-
--- ---- best bound first
-
--- whether a child stands before another: its bound is greater
-abbrev pub stands_before : Child → Child → Bool
-stands_before a b = is_lt (flip_args int_cmp a.bound b.bound)
-
-pub stands_before_order : IsStrictWeakOrder stands_before
-stands_before_order = ranks_by (back_total int_cmp_total) (λ (child : Child). child.bound)
-
-not_before : (a b : Child) → stands_before b a ≡ false → b.bound ≤ℤ a.bound
-not_before a b h = by_lt_z a.bound b.bound
-    (λ less. absurd (let is : Less ≡ int_cmp a.bound b.bound = int_cmp_is a.bound b.bound Less less in let yes : true ≡ false = ap is_lt is ∙ h in cc))
-    (λ le. le)
-
-FallsTo : ℤ → List Child → Type 0
-FallsTo bound children = AllByRecursion (λ later. later.bound ≤ℤ bound) children
-
-falls_to : (bound : ℤ) (children : List Child) → ((k : ℕ) (d : Child) → k < length children → (get_or children k d).bound ≤ℤ bound) → FallsTo bound children
-unfolding FallsTo
-falls_to bound [] each = tt
-falls_to bound (c ∷ cs) each = (each 0 c (omega arith), falls_to bound cs (λ k d within. each (suc k) d (omega arith)))
-
-fall-far : (children : List Child) → ((i j : ℕ) (d : Child) → i ≤ j → j < length children → (get_or children j d).bound ≤ℤ (get_or children i d).bound)
-    → Fall children
-unfolding FallsTo
-fall-far [] far = tt
-fall-far (c ∷ cs) far = (
-  falls_to c.bound cs (λ k d within. far 0 (suc k) d (omega arith) (omega arith)),
-  fall-far cs
-      (λ i j d upto within. far (suc i) (suc j) d (omega arith) (omega arith)),
-)
-
-pub fall-sorted : (children : List Child) → IsSortedBy stands_before children → Fall children
-fall-sorted children up =
-    fall-far children (λ i j d upto within. not_before (get_or children i d) (get_or children j d)
-    (sorted_far stands_before stands_before_order children up i j d upto within))
-
--- ---- children that are kept
-
-abbrev pub reaches_floor : ℤ → Child → Bool
-reaches_floor floor child = int_le floor child.bound
-
-pub among-kept : (floor : ℤ) (children kept : List Child) → IsPermutation (filter (reaches_floor floor) children) kept → AllByRecursion
-    (Contains children) kept
-among-kept floor children kept same = by_members (Contains children) kept (λ child m.
-    let c = Contains-permutation kept (filter (reaches_floor floor) children) child (IsPermutation-sym (filter (reaches_floor floor) children) kept same)
-    (Contains-from_member child kept m) in
-    Contains-from_member child children (Member-from_filter (reaches_floor floor) child children
-    (Member-from_contains child (filter (reaches_floor floor) children) c)).0)
-
-pub others-kept : (floor : ℤ) (children kept : List Child) → IsPermutation (filter (reaches_floor floor) children) kept → (child : Child)
-    → Contains children child
-    → Contains kept child ⊎ (child.bound <ℤ floor)
-others-kept floor children kept same child c = by (int_le floor child.bound) refl
-  where
-    by : (b : Bool) → int_le floor child.bound ≡ b → Contains kept child ⊎ (child.bound <ℤ floor)
-    by true e =
-        let m = Member-filter (reaches_floor floor) child children (Member-from_contains child children c) e in
-        inl (Contains-permutation (filter (reaches_floor floor) children) kept child same (Contains-from_member child
-        (filter (reaches_floor floor) children) m))
-    by false e = inr (grind (arith, ints))
 
 -- ---- the marks of a pattern stand at its places
 
@@ -255,24 +187,19 @@ module _ (records : Records) (keep : ℕ → Bool) (pattern : List (List ℕ)) (
 
 -- ---- all children of a kind of growth
 
--- the steps by items
-abbrev pub steps_by : Growth → List Item → List Step
-steps_by growth items = map (λ item. record { growth = growth; item = item }) items
-
 module _ (records : Records) (keep : ℕ → Bool) (pattern : List (List ℕ)) (growth : Growth) (marks : List Mark)
     (from : IsGathered records keep pattern growth marks) where
-  -- an item of the marks makes a child
-  pub step-gathered : (item : Item) → Member item (map (λ mark. mark.item) marks) → (run : List Mark) → run ≡ marks_with item.0 marks
-      → IsStep records keep pattern (record { growth = growth; item = item }) run
-  step-gathered item m run is =
-      let on = Member-from_map (λ (mark : Mark). mark.item) item marks m in
-      let mark = on.0 in
+  -- the item of one of the marks makes a child
+  pub step-gathered : (mark : Mark) → Member mark marks → (run : List Mark) → run ≡ marks_with mark.item.0 marks
+      → IsStep records keep pattern (record { growth = growth; item = mark.item }) run
+  step-gathered mark m run is =
+      let item = mark.item in
       let grows = from.grown in
-      let here = at_member (IsGrowth keep growth pattern) mark marks grows.each on.1 in
-      let may : MayTake growth pattern item.0 = subst (λ (i : Item). MayTake growth pattern i.0) on.2 here.may in
-      let kept : keep item.0 ≡ true = subst (λ (i : Item). keep i.0 ≡ true) on.2 here.kept in
+      let here = at_member (IsGrowth keep growth pattern) mark marks grows.each m in
+      let may : MayTake growth pattern item.0 = here.may in
+      let kept : keep item.0 ≡ true = here.kept in
       let places = is ∙ grows.places item.0 kept may in
-      let among = Member-filter (is_of item.0) mark marks on.1 (eq-eqb item.0 mark.item.0 (sym (ap (λ (i : Item). i.0) on.2))) in
+      let among = Member-filter (is_of item.0) mark marks m (eq-eqb item.0 mark.item.0 refl) in
       let reached = grown-reached growth pattern item.0 from.begun may in
       let fit = subst (λ ms. AllByRecursion IsFit (places_of ms)) (sym is ∙ places) (fit-each (marks_with item.0 marks)
       (each-filter (IsGrowth keep growth pattern) (is_of item.0) marks grows.each)) in
@@ -297,29 +224,13 @@ module _ (records : Records) (keep : ℕ → Bool) (pattern : List (List ℕ)) (
       fit-each [] all = tt
       fit-each (m ∷ ms) all = let first = all.0 in (first.fit, fit-each ms all.1)
 
-  -- and each step by which the pattern occurs is made
-  pub all-gathered : (items : List Item) (children : List Child) → SameMembers (map (λ mark. mark.item) marks) items
-      → map (λ child. child.step) children ≡ steps_by growth items
-      → (item : ℕ) → keep item ≡ true → MayTake growth pattern item → 0 < sequence_support records (grown growth pattern item) → HasStep children growth item
-  all-gathered items children same steps item kept_item may held =
+  -- and there are marks of each item by which the pattern occurs
+  pub marks-gathered : (item : ℕ) → keep item ≡ true → MayTake growth pattern item → 0 < sequence_support records (grown growth pattern item)
+      → 0 < length (marks_with item marks)
+  marks-gathered item kept may held =
       let grows = from.grown in
       let some = occurs-marks (grown growth pattern item) item 0 records (Ends-grown growth pattern item) held in
-      let mark = first (marks_with item marks) (subst (λ ms. 0 < length ms) (sym (grows.places item kept_item may)) some) in
-      let kept = Member-from_filter (is_of item) mark.0 marks mark.1 in
-      let item_is : item ≡ mark.0.item.0 = eqb-true item mark.0.item.0 kept.1 in
-      let among = (same mark.0.item).0 (Contains-from_member mark.0.item (map (λ (m : Mark). m.item) marks)
-      (Member-map (λ (m : Mark). m.item) mark.0 marks kept.0)) in
-      let step : Step = record { growth = growth; item = mark.0.item } in
-      let made = Member-map (λ (i : Item). step_by i) mark.0.item items (Member-from_contains mark.0.item items among) in
-      let on = Member-from_map (λ (child : Child). child.step) step children (subst (Member step) (sym steps) made) in
-      (on.0, Contains-from_member on.0 children on.1, ap (λ (s : Step). s.growth) on.2, ap (λ (s : Step). s.item.0) on.2 ∙ sym item_is)
-    where
-      step_by : Item → Step
-      step_by i = record { growth = growth; item = i }
-
-      first : (ms : List Mark) → 0 < length ms → (mark : Mark) × Member mark ms
-      first [] some = absurd (omega arith)
-      first (m ∷ ms) some = (m, inl refl)
+      subst (λ ms. 0 < length ms) (sym (grows.places item kept may)) some
 
 -- children of both kinds of growth
 pub children-both : (records : Records) (keep : ℕ → Bool) (pattern : List (List ℕ)) (first later : List Child)
@@ -349,26 +260,71 @@ children-both records keep pattern first later into after = record {
       has.3,
     )
 
--- one more child
-pub steps-next : (growth : Growth) (items : List Item) (children new : List Child) (child : Child) (i : ℕ) (d : Item) → i < length items
-    → new ≡ children ++ child ∷ []
-    → map (λ c. c.step) children ≡ steps_by growth (take i items) → child.step ≡ record { growth = growth; item = get_or items i d }
-    → map (λ c. c.step) new ≡ steps_by growth (take (i + 1) items)
-steps-next growth items children new child i d within pushed so_far step_is =
-    let step : Item → Step = λ item. record { growth = growth; item = item } in
-    ap (map (λ (c : Child). c.step)) pushed
-    ∙ map-append (λ (c : Child). c.step) children (child ∷ [])
-    ∙ (λ j. so_far j ++ step_is j ∷ [])
-    ∙ sym (ap (map step) (take_more items i d within) ∙ map-append step (take i items) (get_or items i d ∷ []))
+-- ---- children by their marks, item by item
 
--- an item of the list is one of the marks'
-pub item-marked : (marks : List Mark) (items : List Item) → SameMembers (map (λ mark. mark.item) marks) items → (i : ℕ) (d : Item) → i < length items
-    → Member (get_or items i d) (map (λ mark. mark.item) marks)
-item-marked marks items same i d within =
-    let item = get_or items i d in
-    Member-from_contains item (map (λ (mark : Mark). mark.item) marks) ((same item).1 (Contains-from_member item items (member-at items i within)))
-  where
-    member-at : (xs : List Item) (k : ℕ) → k < length xs → Member (get_or xs k d) xs
-    member-at [] k inside = absurd (omega arith)
-    member-at (x ∷ xs) zero inside = inl refl
-    member-at (x ∷ xs) (suc k) inside = inr (member-at xs k (omega arith))
+-- the marks of some items are left, all of each, and the other items made children
+pub record AreRuns (growth : Growth) (marks left : List Mark) (children : List Child) : Type 0 where
+  pub rises : Rises left
+  pub whole : (item : ℕ) → 0 < length (marks_with item left) → marks_with item left ≡ marks_with item marks
+  pub others : (item : ℕ) → 0 < length (marks_with item marks) → (0 < length (marks_with item left)) ⊎ HasStep children growth item
+
+module _ (growth : Growth) (marks : List Mark) where
+  pub runs-none : IsNonDecreasingBy (λ mark. mark.item.0) marks → AreRuns growth marks marks []
+  runs-none up = record { rises = rises-sorted marks up; whole = λ item some. refl; others = λ item some. inl some }
+
+  pub runs-all : (children : List Child) → AreRuns growth marks [] children → (item : ℕ) → 0 < length (marks_with item marks) → HasStep children growth item
+  runs-all children runs item some = elim (runs.others item some) [ inl none ↦ absurd (omega (arith, none)) | inr has ↦ has ]
+
+  module _ (mark : Mark) (later : List Mark) (children : List Child) (runs : AreRuns growth marks (mark ∷ later) children) where
+    first-some : 0 < length (marks_with mark.item.0 (mark ∷ later))
+    first-some =
+        let yes = eq-eqb mark.item.0 mark.item.0 refl in
+        let rest = marks_with mark.item.0 later in
+        let is : marks_with mark.item.0 (mark ∷ later) ≡ mark ∷ rest = ap (λ b. cond b (mark ∷ rest) rest) yes in
+        subst (λ ms. 0 < length ms) (sym is) (omega arith)
+
+    -- the marks at the front are all of their item
+    pub runs-front : take (run_of mark.item.0 (mark ∷ later)) (mark ∷ later) ≡ marks_with mark.item.0 marks
+    runs-front = let run = run-first mark later runs.rises in run.front ∙ runs.whole mark.item.0 first-some
+
+    pub runs-member : Member mark marks
+    runs-member =
+        let in_left = Member-filter (is_of mark.item.0) mark (mark ∷ later) (inl refl) (eq-eqb mark.item.0 mark.item.0 refl) in
+        let in_all = subst (Member mark) (runs.whole mark.item.0 first-some) in_left in
+        (Member-from_filter (is_of mark.item.0) mark marks in_all).0
+
+    pub runs-next : (child : Child) → child.step ≡ record { growth = growth; item = mark.item }
+        → AreRuns growth marks (drop (run_of mark.item.0 (mark ∷ later)) (mark ∷ later)) (children ++ child ∷ [])
+    runs-next child step = record {
+      rises = run.rises;
+      whole = λ item some. whole item some (eqb item mark.item.0) refl;
+      others = λ item some. elim (runs.others item some) [
+        | inr has ↦ inr (has.0, Contains-append_left children (child ∷ []) has.0 has.1, has.2, has.3)
+        | inl here ↦ others item here (eqb item mark.item.0) refl
+      ];
+    }
+      where
+        run : IsRun mark.item.0 (mark ∷ later)
+        run = run-first mark later runs.rises
+
+        next : List Mark
+        next = drop (run_of mark.item.0 (mark ∷ later)) (mark ∷ later)
+
+        differs : (item : ℕ) → eqb item mark.item.0 ≡ false → (item ≡ mark.item.0) → ⊥
+        differs item e same = let bad : true ≡ false = sym (eq-eqb item mark.item.0 same) ∙ e in cc
+
+        whole : (item : ℕ) → 0 < length (marks_with item (drop (run_of mark.item.0 (mark ∷ later)) (mark ∷ later)))
+            → (b : Bool) → eqb item mark.item.0 ≡ b
+            → marks_with item (drop (run_of mark.item.0 (mark ∷ later)) (mark ∷ later)) ≡ marks_with item marks
+        whole item some true e =
+            let gone = ap (λ i. marks_with i (drop (run_of mark.item.0 (mark ∷ later)) (mark ∷ later))) (eqb-true item mark.item.0 e) ∙ run.gone in
+            absurd (omega (arith, ap length gone, some))
+        whole item some false e =
+            let same = run.others item (differs item e) in
+            same ∙ runs.whole item (subst (λ ms. 0 < length ms) same some)
+
+        others : (item : ℕ) → 0 < length (marks_with item (mark ∷ later)) → (b : Bool) → eqb item mark.item.0 ≡ b
+            → (0 < length (marks_with item (drop (run_of mark.item.0 (mark ∷ later)) (mark ∷ later)))) ⊎ HasStep (children ++ child ∷ []) growth item
+        others item here true e =
+            inr (child, Contains-push children child, ap (λ (s : Step). s.growth) step, ap (λ (s : Step). s.item.0) step ∙ sym (eqb-true item mark.item.0 e))
+        others item here false e = inl (subst (λ ms. 0 < length ms) (sym (run.others item (differs item e))) here)

@@ -12,6 +12,10 @@ mod NumberLemmas
 mod TallyLemmas
 mod ReachLemmas
 mod SearchLemmas
+mod Fronts
+mod BranchLemmas
+mod NodeLemmas
+mod RootLemmas
 mod ChildLemmas
 mod WalkLemmas
 mod RowsLemmas

@@ -1,24 +1,18 @@
 -- Marks in the order of their items: those of an item stand side by side.
-use Rattle.std.proofs.Common.{◌≡◌, pos, ℕ, zero, suc, ◌<◌, ◌≤◌, ◌-◌, ◌&&◌, Bool, true, false, not, cond, eqb, ltb, nat_eq, List, [], ◌∷◌, ◌++◌, filter}
-use Rattle.std.proofs.Common.{length, get_or, take, drop, refl, sym, ap, ◌∙◌, subst, arith, Contains, IsPermutation}
+use Rattle.std.proofs.Common.{◌≡◌, ℕ, suc, ◌<◌, ◌≤◌, ◌&&◌, Bool, true, false, not, cond, eqb, ltb, List, [], ◌∷◌, ◌++◌, filter}
+use Rattle.std.proofs.Common.{length, get_or, take, drop, refl, sym, ap, ◌∙◌, subst, arith, IsPermutation}
 use Rattle.std.specs.List.{flat_map, AllByRecursion}
-use Rattle.std.specs.List.Retain.{IsFiltered, DiffersFromLast}
-use Rattle.std.specs.List.Sorted.{IsNonDecreasingBy, IsPartitionedBy, IsPartitionPoint, IsStableByKey}
+use Rattle.std.specs.List.Sorted.{IsNonDecreasingBy, IsStableByKey}
 use Rattle.std.specs.declared.cmp.Ordering.TheVariants.{Less, Equal, Greater}
-use Rattle.std.specs.Ordering.{is_lt, nat_cmp, on}
+use Rattle.std.specs.Ordering.{is_lt, nat_cmp}
 use Rattle.std.proofs.lemmas.Bool.{eq-eqb, eqb-true, ne_eqb, ltb-true, ltb-false}
-use Rattle.std.proofs.lemmas.Cmp.{nat_eq_equiv, on_equiv}
-use Rattle.std.proofs.lemmas.List.Filters.{dedup_is}
-use Rattle.std.proofs.lemmas.List.Kept.{Contains-dedup, Contains-from_dedup}
 use Rattle.std.proofs.lemmas.List.Sorted.{Contains-permutation, IsPermutation-sym}
-use Rattle.hu_kind.specs.declared.item.Item.{Item}
 use Rattle.hu_kind.proofs.lemmas.Members.{Contains-from_member, Member-from_contains}
 use Rattle.hu_kind.proofs.lemmas.Occurring.{at_member, by_members}
-use Rattle.hu_collect.specs.Laws.{SameMembers}
 use Rattle.hu_chain.specs.declared.place.Place.{Place}
 use Rattle.hu_span.specs.declared.mark.Mark.{Mark}
 use Rattle.hu_span.specs.Kept.{takes}
-use Rattle.hu_span.specs.Mark.{is_of, marks_with}
+use Rattle.hu_span.specs.Mark.{is_of, marks_with, run_of}
 
 -- what holds of each holds of each in another order
 pub each-permutation : {A : Type 0} (P : A → Type 0) (xs ys : List A) → IsPermutation xs ys → AllByRecursion P xs → AllByRecursion P ys
@@ -106,108 +100,92 @@ marks_with-stable xs ys item place stable =
     let same : (other : Mark) → tied other ≡ is_of item other = λ other. ties-item item other.item.0 in
     sym (filter-same tied (is_of item) ys same) ∙ stable mark ∙ filter-same tied (is_of item) xs same
 
--- ---- the items of marks, each once
+-- ---- marks in order begin with all marks of their first item
 
-exact_item : (x y : Item) → on (λ (item : Item). item.0) nat_eq x y ≡ true → x ≡ y
-exact_item x y h = let item : ℕ → Item = λ n. record { 0 = n } in ap item (eqb-true x.0 y.0 h)
+-- marks whose items rise
+abbrev pub Rises : List Mark → Type 0
+Rises [] = Unit {0}
+Rises (mark ∷ marks) = AllByRecursion (λ later. mark.item.0 ≤ later.item.0) marks × Rises marks
 
-pub SameMembers-dedup : (items kept : List Item) → IsFiltered (DiffersFromLast (on (λ (item : Item). item.0) nat_eq)) [] items kept → SameMembers items kept
-SameMembers-dedup items kept filtered item =
-    let is = dedup_is (on (λ (item : Item). item.0) nat_eq) items kept filtered in (
-      λ c. subst (λ xs. Contains xs item) (sym is) (Contains-dedup (on_equiv (λ (item : Item). item.0) nat_eq_equiv) exact_item items item c),
-      λ c. Contains-from_dedup (on (λ (item : Item). item.0) nat_eq) items item (subst (λ xs. Contains xs item) is c),
-    )
-
--- ---- the marks of an item
-
-abbrev IsSplit : ℕ → List Mark → ℕ → ℕ → Type 0
-IsSplit item marks from upto =
-    (IsPartitionPoint (λ mark. mark.item.0 < item) (λ mark. item ≤ mark.item.0) marks from) ×
-    (IsPartitionPoint (λ mark. mark.item.0 ≤ item) (λ mark. item < mark.item.0) marks upto)
-
-pub split-ordered : (item : ℕ) (marks : List Mark) (from upto : ℕ) → IsSplit item marks from upto → from ≤ length marks → upto ≤ length marks → from ≤ upto
-split-ordered item marks from upto split some within = by (ltb upto from) refl
+pub rises-sorted : (marks : List Mark) → IsNonDecreasingBy (λ mark. mark.item.0) marks → Rises marks
+rises-sorted [] up = tt
+rises-sorted (mark ∷ marks) up = (
+  first marks (λ k d within. up 0 (suc k) d (omega arith) (omega arith)),
+  rises-sorted marks (λ i j d upto within. up (suc i) (suc j) d (omega arith) (omega arith)),
+)
   where
-    by : (b : Bool) → ltb upto from ≡ b → from ≤ upto
-    by false e = ltb-false upto from e
-    by true e =
-        let before : upto < from = ltb-true upto from e in
-        let none : Mark = record { item = record { 0 = 0 }; row = 0; place = record { element = 0; cell = 0; best = pos 0; rest = pos 0 } } in
-        let low = split.0.0 upto none (omega arith) before in
-        let high = split.1.1 upto none (omega arith) (omega arith) in
-        absurd (omega (arith, low, high))
-
-split-later : (item : ℕ) (mark : Mark) (marks : List Mark) (from upto : ℕ) → IsSplit item (mark ∷ marks) (suc from) (suc upto) → IsSplit item marks from upto
-split-later item mark marks from upto split = (
-  (λ k d low high. split.0.0 (suc k) d (omega arith) (omega arith), λ k d low high. split.0.1 (suc k) d (omega arith) (omega arith)),
-  (λ k d low high. split.1.0 (suc k) d (omega arith) (omega arith), λ k d low high. split.1.1 (suc k) d (omega arith) (omega arith)),
-)
-
-split-first : (item : ℕ) (mark : Mark) (marks : List Mark) (upto : ℕ) → IsSplit item (mark ∷ marks) 0 (suc upto) → IsSplit item marks 0 upto
-split-first item mark marks upto split = (
-  (λ k d low high. absurd (omega arith), λ k d low high. split.0.1 (suc k) d (omega arith) (omega arith)),
-  (λ k d low high. split.1.0 (suc k) d (omega arith) (omega arith), λ k d low high. split.1.1 (suc k) d (omega arith) (omega arith)),
-)
-
-split-none : (item : ℕ) (mark : Mark) (marks : List Mark) → IsSplit item (mark ∷ marks) 0 0 → IsSplit item marks 0 0
-split-none item mark marks split = (
-  (λ k d low high. absurd (omega arith), λ k d low high. split.0.1 (suc k) d (omega arith) (omega arith)),
-  (λ k d low high. absurd (omega arith), λ k d low high. split.1.1 (suc k) d (omega arith) (omega arith)),
-)
+    first : (ms : List Mark) → ((k : ℕ) (d : Mark) → k < length ms → mark.item.0 ≤ (get_or ms k d).item.0)
+        → AllByRecursion (λ later. mark.item.0 ≤ later.item.0) ms
+    first [] each = tt
+    first (m ∷ ms) each = (each 0 m (omega arith), first ms (λ k d within. each (suc k) d (omega arith)))
 
 other_item : (item : ℕ) (mark : Mark) (rest : List Mark) → ((item ≡ mark.item.0) → ⊥) → cond (eqb item mark.item.0) (mark ∷ rest) rest ≡ rest
 other_item item mark rest differs = let no : eqb item mark.item.0 ≡ false = ne_eqb item mark.item.0 differs in rw no refl
 
-pub filter-run : (item : ℕ) (marks : List Mark) (from upto : ℕ) → IsSplit item marks from upto → from ≤ length marks → upto ≤ length marks
-    → take (upto - from) (drop from marks) ≡ filter (is_of item) marks
-filter-run item [] zero zero split a b = refl
-filter-run item [] zero (suc upto) split a b = absurd (omega arith)
-filter-run item [] (suc from) upto split a b = absurd (omega arith)
-filter-run item (mark ∷ marks) zero zero split a b =
-    let above : item < mark.item.0 = split.1.1 0 mark (omega arith) (omega arith) in
-    filter-run item marks 0 0 (split-none item mark marks split) (omega arith) (omega arith) ∙ sym
-    (other_item item mark (filter (is_of item) marks) (λ e. absurd (omega arith)))
-filter-run item (mark ∷ marks) zero (suc upto) split a b =
-    let low : item ≤ mark.item.0 = split.0.1 0 mark (omega arith) (omega arith) in
-    let high : mark.item.0 ≤ item = split.1.0 0 mark (omega arith) (omega arith) in
-    let yes : eqb item mark.item.0 ≡ true = eq-eqb item mark.item.0 (omega arith) in
-    let rest = filter-run item marks 0 upto (split-first item mark marks upto split) (omega arith) (omega arith) in
-    let size : suc upto - 0 ≡ suc (upto - 0) = omega arith in
-    rw yes (ap (λ n. take n (mark ∷ marks)) size ∙ ap (λ ms. mark ∷ ms) rest)
-filter-run item (mark ∷ marks) (suc from) zero split a b = absurd (let o = split-ordered item (mark ∷ marks) (suc from) 0 split a b in omega arith)
-filter-run item (mark ∷ marks) (suc from) (suc upto) split a b =
-    let below : mark.item.0 < item = split.0.0 0 mark (omega arith) (omega arith) in
-    let size : suc upto - suc from ≡ upto - from = omega arith in
-    ap (λ n. take n (drop from marks)) size
-    ∙ filter-run item marks from upto (split-later item mark marks from upto split) (omega arith) (omega arith)
-    ∙ sym (other_item item mark (filter (is_of item) marks) (λ e. absurd (omega arith)))
+none-above : (item : ℕ) (marks : List Mark) → AllByRecursion (λ mark. item < mark.item.0) marks → marks_with item marks ≡ []
+none-above item [] all = refl
+none-above item (mark ∷ marks) all =
+    other_item item mark (marks_with item marks) (λ e. absurd (omega (arith, e, all.0))) ∙ none-above item marks all.1
 
--- ---- how many marks are of an item or smaller ones
+-- the marks at the front are those of an item, and the others stand behind them
+pub record IsRun (item : ℕ) (marks : List Mark) : Type 0 where
+  pub front : take (run_of item marks) marks ≡ marks_with item marks
+  pub gone : marks_with item (drop (run_of item marks) marks) ≡ []
+  pub others : (other : ℕ) → ((other ≡ item) → ⊥) → marks_with other (drop (run_of item marks) marks) ≡ marks_with other marks
+  pub rises : Rises (drop (run_of item marks) marks)
 
-pub not_ltb-true : (x y : ℕ) → not (ltb x y) ≡ true → y ≤ x
-not_ltb-true x y h = by (ltb x y) refl h
+run-least : (item : ℕ) (marks : List Mark) → Rises marks → AllByRecursion (λ mark. item ≤ mark.item.0) marks → IsRun item marks
+run-least item [] up least = record { front = refl; gone = refl; others = λ other differs. refl; rises = tt }
+run-least item (mark ∷ marks) up least = by (eqb mark.item.0 item) refl (run-least item marks up.1 least.1)
   where
-    by : (b : Bool) → ltb x y ≡ b → not b ≡ true → y ≤ x
-    by true e i = cc
-    by false e i = ltb-false x y e
+    far : (ms : List Mark) → item < mark.item.0 → AllByRecursion (λ m. mark.item.0 ≤ m.item.0) ms → AllByRecursion (λ m. item < m.item.0) ms
+    far [] above all = tt
+    far (m ∷ ms) above all = (omega (arith, above, all.0), far ms above all.1)
 
-pub not_ltb-false : (x y : ℕ) → not (ltb x y) ≡ false → x < y
-not_ltb-false x y h = by (ltb x y) refl h
-  where
-    by : (b : Bool) → ltb x y ≡ b → not b ≡ false → x < y
-    by true e i = ltb-true x y e
-    by false e i = cc
-
-pub IsPartitionedBy-upto : (item : ℕ) (marks : List Mark) → IsNonDecreasingBy (λ mark. mark.item.0) marks
-    → IsPartitionedBy (λ mark. not (ltb item mark.item.0)) marks
-IsPartitionedBy-upto item marks up i j d le lt e =
-    let rise = up i j d le lt in
-    let high = not_ltb-true item (get_or marks j d).item.0 e in
-    upto-not_ltb item (get_or marks i d).item.0 (omega arith)
-  where
-    upto-not_ltb : (x y : ℕ) → y ≤ x → not (ltb x y) ≡ true
-    upto-not_ltb x y low = by (ltb x y) refl
+    by : (b : Bool) → eqb mark.item.0 item ≡ b → IsRun item marks → IsRun item (mark ∷ marks)
+    by true e rest =
+        let same = eqb-true mark.item.0 item e in
+        let yes = eq-eqb item mark.item.0 (sym same) in
+        let n : run_of item (mark ∷ marks) ≡ suc (run_of item marks) = ap (λ b. cond b (suc (run_of item marks)) 0) e in
+        let all : marks_with item (mark ∷ marks) ≡ mark ∷ marks_with item marks =
+        ap (λ b. cond b (mark ∷ marks_with item marks) (marks_with item marks)) yes in
+        record {
+          front = ap (λ k. take k (mark ∷ marks)) n ∙ ap (λ ms. mark ∷ ms) rest.front ∙ sym all;
+          gone = ap (λ k. marks_with item (drop k (mark ∷ marks))) n ∙ rest.gone;
+          others = λ other differs. ap (λ k. marks_with other (drop k (mark ∷ marks))) n ∙ rest.others other differs
+              ∙ sym (other_item other mark (marks_with other marks) (λ i. differs (i ∙ same)));
+          rises = subst (λ k. Rises (drop k (mark ∷ marks))) (sym n) rest.rises;
+        }
+    by false e rest =
+        let differs : (mark.item.0 ≡ item) → ⊥ = λ i. let bad : true ≡ false = sym (eq-eqb mark.item.0 item i) ∙ e in cc in
+        let above : item < mark.item.0 = by_above (ltb item mark.item.0) refl differs in
+        let n : run_of item (mark ∷ marks) ≡ 0 = ap (λ b. cond b (suc (run_of item marks)) 0) e in
+        let none = none-above item (mark ∷ marks) (above, far marks above up.0) in
+        record {
+          front = ap (λ k. take k (mark ∷ marks)) n ∙ sym none;
+          gone = ap (λ k. marks_with item (drop k (mark ∷ marks))) n ∙ none;
+          others = λ other differs. ap (λ k. marks_with other (drop k (mark ∷ marks))) n;
+          rises = subst (λ k. Rises (drop k (mark ∷ marks))) (sym n) up;
+        }
       where
-        by : (b : Bool) → ltb x y ≡ b → not b ≡ true
-        by true k = let above = ltb-true x y k in absurd (omega arith)
-        by false k = refl
+        by_above : (l : Bool) → ltb item mark.item.0 ≡ l → ((mark.item.0 ≡ item) → ⊥) → item < mark.item.0
+        by_above true l differs = ltb-true item mark.item.0 l
+        by_above false l differs = let low = ltb-false item mark.item.0 l in absurd (differs (omega (arith, low, least.0)))
+
+pub run-first : (mark : Mark) (marks : List Mark) → Rises (mark ∷ marks) → IsRun mark.item.0 (mark ∷ marks)
+run-first mark marks up = run-least mark.item.0 (mark ∷ marks) up (omega arith, up.0)
+
+-- a run is not empty, and no longer than the marks
+pub run-some : (mark : Mark) (marks : List Mark) → 0 < run_of mark.item.0 (mark ∷ marks)
+run-some mark marks =
+    let yes = eq-eqb mark.item.0 mark.item.0 refl in
+    let n : run_of mark.item.0 (mark ∷ marks) ≡ suc (run_of mark.item.0 marks) = ap (λ b. cond b (suc (run_of mark.item.0 marks)) 0) yes in
+    omega (arith, n)
+
+pub run-within : (item : ℕ) (marks : List Mark) → run_of item marks ≤ length marks
+run-within item [] = omega arith
+run-within item (mark ∷ marks) = by (eqb mark.item.0 item) (run-within item marks)
+  where
+    by : (b : Bool) → run_of item marks ≤ length marks → cond b (suc (run_of item marks)) 0 ≤ suc (length marks)
+    by true rest = omega arith
+    by false rest = omega arith

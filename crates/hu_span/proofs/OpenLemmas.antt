@@ -1,6 +1,6 @@
 -- The items that a node keeps, and what is known of rows, one by one.
 use Rattle.std.proofs.Common.{◌≡◌, ℕ, ◌+◌, ◌<◌, Bool, true, false, eqb, ℤ, ◌≤ℤ◌, ◌<ℤ◌, List, [], ◌∷◌, ◌++◌, map, length, get_or, set, take, refl, sym}
-use Rattle.std.proofs.Common.{ap, ◌∙◌, subst, ◌⊎◌, inl, inr, arith, Contains, get_or-set_same, get_or-set_other, ◌≢◌, Result, Ok, Err, IfOk}
+use Rattle.std.proofs.Common.{ap, ◌∙◌, subst, ◌⊎◌, inl, inr, arith, Contains, get_or-set_same, get_or-set_other, ◌≢◌}
 use Rattle.std.specs.List.{AllByRecursion}
 use Rattle.std.proofs.lemmas.Bool.{eqb-true, eqb-false}
 use Rattle.std.proofs.lemmas.Int.{ints}
@@ -127,12 +127,3 @@ open-all steps children reaches floor items i kept whole so_far known all = reco
       (λ child o. elim o [ inl c ↦ inl (all child.step.item c) | inr l ↦ inr l ])
       (subst (AllByRecursion (λ child. Contains items child.step.item ⊎ (spread reaches child.marks.now <ℤ floor))) whole so_far.reaching);
 }
-
--- the same of a result
-pub open-if : {E : Type 0} (steps : List Step) (children : List Child) (reaches : List ℤ) (floor : ℤ) (items : List Item) (i : ℕ)
-    (result : Result (Bool × List Item) E) → take i children ≡ children → AreSoFar steps children reaches floor items i
-    → IfOk result (λ kept. (item : ℕ) → keeps kept item ≡ true → (one : Item) × Contains items one × (one.0 ≡ item))
-    → IfOk result (λ kept. (item : Item) → Contains items item → keeps kept item.0 ≡ true) → IfOk result (AreOpen steps children reaches floor)
-open-if steps children reaches floor items i (Ok kept) whole so_far known all =
-    open-all steps children reaches floor items i kept whole so_far known all
-open-if steps children reaches floor items i (Err e) whole so_far known all = tt

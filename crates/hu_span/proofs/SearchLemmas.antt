@@ -1,15 +1,14 @@
 -- What a search makes that offers all children of a pattern and then enters them best bound first.
-use Rattle.std.proofs.Common.{◌≡◌, Bool, true, ℕ, zero, suc, ◌<◌, ◌≤◌, ◌+◌, ℤ, ◌<ℤ◌, ◌≤ℤ◌, List, [], ◌∷◌, length, get_or, take, drop, refl, sym, ap}
+use Rattle.std.proofs.Common.{◌≡◌, Bool, true, ℕ, ◌<◌, ◌≤◌, ◌+◌, ℤ, ◌<ℤ◌, ◌≤ℤ◌, List, [], ◌∷◌, length, get_or, take, refl, sym, ap}
 use Rattle.std.proofs.Common.{◌∙◌, subst}
-use Rattle.std.proofs.Common.{inl, inr, ◌⊎◌, arith, Contains, Result, Ok, Err, IsErr, IfOk}
+use Rattle.std.proofs.Common.{inl, inr, ◌⊎◌, arith, Contains, Result, Ok, Err, IsErr, IfOk, Option, None, Some, IfSome}
 use Rattle.std.specs.List.{AllByRecursion}
 use Rattle.std.proofs.lemmas.Bool.{false≢true}
+use Rattle.hu_span.specs.declared.search.Opened.{Opened}
 use Rattle.std.proofs.lemmas.Int.{ints}
-use Rattle.std.proofs.lemmas.List.{take_more}
-use Rattle.std.proofs.lemmas.List.Elements.{Contains-append_left, Contains-push, Contains-push_cases}
 use Rattle.hu_kind.specs.declared.entry.Entry.{Entry}
 use Rattle.hu_kind.specs.Sequence.{sequence_entry, sequence_key, sequence_support, sequence_utility}
-use Rattle.hu_kind.proofs.lemmas.Members.{Member, Member-from_contains, Contains-from_member}
+use Rattle.hu_kind.proofs.lemmas.Members.{Member-from_contains, Contains-from_member}
 use Rattle.hu_kind.proofs.lemmas.Occurring.{at_member}
 use Rattle.hu_collect.specs.State.{State, offered, floor_in, IsInOrder, Reached, ReachedSome, Searches}
 use Rattle.hu_collect.proofs.lemmas.Searching.{empty-contains, reached-in_order, reached-floor, reached-none, reached-one, reached-then}
@@ -22,11 +21,15 @@ use Rattle.hu_chain.proofs.lemmas.Reached.{grown_from-itself}
 use Rattle.hu_span.specs.declared.child.Child.{Child}
 use Rattle.hu_chain.specs.declared.chain.Growth.TheVariants.{IntoLast, AfterLast}
 use Rattle.hu_span.specs.declared.gather.Grown.{Grown}
-use Rattle.hu_span.specs.Child.{child_entry, stepped, AreChildren, AreGathered, ArePlaces, IsChild, Fall}
+use Rattle.hu_span.specs.declared.child.Branch.{Branch}
+use Rattle.hu_span.specs.Branch.{AreCopies, Fall, IsBranch}
+use Rattle.hu_span.specs.Child.{child_entry, stepped, AreChildren, AreGathered, ArePlaces, IsChild}
+use Rattle.hu_span.proofs.BranchLemmas.{branch-of, fall-later, fall-past}
+use Rattle.hu_span.proofs.Fronts.{contains-before, contains-cases, contains-front, contains-here, Member-parts}
 use Rattle.hu_span.specs.Gather.{AreGrown}
 use Rattle.hu_span.specs.Growing.{AreRecords, GrowsOn, GrowsOver, IsBegun, IsReached, Records}
-use Rattle.hu_span.specs.Kept.{weighed_in, weighed_of, AreKept}
-use Rattle.hu_span.specs.Search.{AreKeptBest, IsBelow, IsNarrowed, IsOneOf, IsSoFar, Narrows, OffersAll}
+use Rattle.hu_span.specs.Kept.{keeps, weighed_in, weighed_of, AreKept}
+use Rattle.hu_span.specs.Search.{counting, AreKeptBest, IsBelow, IsNarrowed, IsOneOf, IsSoFar, OffersAll, Opens}
 use Rattle.hu_span.specs.Cut.{AreBelow, AreOpen}
 use Rattle.hu_span.specs.Mark.{places_of, IsMark}
 use Rattle.hu_span.specs.declared.mark.Mark.{Mark}
@@ -41,51 +44,6 @@ use Rattle.std.specs.declared.alloc.Global.{Global}
 use Rattle.hu_span.proofs.CutLemmas.{grown-back, grown-kept, leads-back, narrow-enough, narrow-fewer, narrow-own}
 use Rattle.hu_span.proofs.WeighedLemmas.{weighed-support, weighed-utility}
 use Rattle.hu_span.proofs.ReachLemmas.{can-reached, grown-reached, may-reached, support-before}
-
--- ---- the first of some children
-
-contains-before : (children : List Child) (i : ℕ) (d child : Child) → i < length children → Contains (take i children) child
-    → Contains (take (i + 1) children) child
-contains-before children i d child within c =
-    subst (λ cs. Contains cs child) (sym (take_more children i d within)) (Contains-append_left (take i children) (get_or children i d ∷ []) child c)
-
-contains-here : (children : List Child) (i : ℕ) (d : Child) → i < length children → Contains (take (i + 1) children) (get_or children i d)
-contains-here children i d within =
-    subst (λ cs. Contains cs (get_or children i d)) (sym (take_more children i d within)) (Contains-push (take i children) (get_or children i d))
-
-contains-cases : (children : List Child) (i : ℕ) (d child : Child) → i < length children → Contains (take (i + 1) children) child
-    → Contains (take i children) child ⊎ (get_or children i d ≡ child)
-contains-cases children i d child within c =
-    Contains-push_cases (take i children) (get_or children i d) child (subst (λ cs. Contains cs child) (take_more children i d within) c)
-
-Member-front : {A : Type 0} (x : A) (xs : List A) (i : ℕ) → Member x (take i xs) → Member x xs
-Member-front x xs zero m = absurd m
-Member-front x [] (suc i) m = absurd m
-Member-front x (y ∷ ys) (suc i) (inl e) = inl e
-Member-front x (y ∷ ys) (suc i) (inr m) = inr (Member-front x ys i m)
-
-contains-front : (children : List Child) (i : ℕ) (child : Child) → Contains (take i children) child → Contains children child
-contains-front children i child c = Contains-from_member child children (Member-front child children i (Member-from_contains child (take i children) c))
-
-Member-parts : {A : Type 0} (x : A) (xs : List A) (i : ℕ) → Member x xs → Member x (take i xs) ⊎ Member x (drop i xs)
-Member-parts x [] i m = absurd m
-Member-parts x (y ∷ ys) zero m = inr m
-Member-parts x (y ∷ ys) (suc i) (inl e) = inl (inl e)
-Member-parts x (y ∷ ys) (suc i) (inr m) = elim (Member-parts x ys i m) [ inl here ↦ inl (inr here) | inr later ↦ inr later ]
-
--- bounds that fall: a later one is no greater
-fall-later : (children : List Child) (i : ℕ) (d child : Child) → Fall children → Member child (drop i children) → child.bound ≤ℤ (get_or children i d).bound
-fall-later [] zero d child fall m = absurd m
-fall-later [] (suc i) d child fall m = absurd m
-fall-later (c ∷ cs) zero d child fall (inl e) = subst (λ other. other.bound ≤ℤ c.bound) e (omega (arith, ints))
-fall-later (c ∷ cs) zero d child fall (inr m) = at_member (λ later. later.bound ≤ℤ c.bound) child cs fall.0 m
-fall-later (c ∷ cs) (suc i) d child fall m = fall-later cs i d child fall.1 m
-
-fall-past : (children : List Child) (i : ℕ) (child : Child) → length children ≤ i → Member child (drop i children) → ⊥
-fall-past [] zero child past m = m
-fall-past [] (suc i) child past m = m
-fall-past (c ∷ cs) zero child past m = absurd (omega arith)
-fall-past (c ∷ cs) (suc i) child past m = fall-past cs i child (omega arith) m
 
 module _ (records : Records) (pattern : List (List ℕ)) where
   -- ---- offers of children
@@ -102,9 +60,9 @@ module _ (records : Records) (pattern : List (List ℕ)) where
   offered-next {old} {s} {t} children i d within ordered first is =
       let entry = child_entry records pattern (get_or children i d) in
       reached-then {P = IsOneOf records pattern (take i children)} {Q = λ e. entry ≡ e} {R = IsOneOf records pattern (take (i + 1) children)} ordered
-      (λ e one. one-as one (contains-before children i d one.child within one.among))
+      (λ e one. one-as one (contains-before children i d within one.child one.among))
       (λ e same. record { child = get_or children i d; among = contains-here children i d within; is = sym same })
-      (λ e one pass high. elim (contains-cases children i d one.child within one.among) [
+      (λ e one pass high. elim (contains-cases children i d within one.child one.among) [
         | inl before ↦ inl (one-as one before)
         | inr same ↦ inr (ap (child_entry records pattern) same ∙ sym one.is)
       ])
@@ -121,8 +79,14 @@ module _ (records : Records) (pattern : List (List ℕ)) where
 module _ (records : Records) (keep : ℕ → Bool) (pattern : List (List ℕ)) where
   -- ---- what grows from a pattern
 
-  below-as : {cs ds : List Child} {e : Entry} (below : IsBelow records keep pattern cs e) → Contains ds below.child → IsBelow records keep pattern ds e
-  below-as below among = record { child = below.child; among = among; grows = below.grows }
+  below-as : {cs ds : List Branch} {e : Entry} (below : IsBelow records keep pattern cs e) → Contains ds below.branch → IsBelow records keep pattern ds e
+  below-as below among = record { branch = below.branch; among = among; grows = below.grows }
+
+  -- the entry is that of a pattern that grows from a child
+  record IsUnder (children : List Child) (entry : Entry) : Type 0 where
+    pub child : Child
+    pub among : Contains children child
+    pub grows : GrowsOn records keep (stepped pattern child.step) entry
 
   one-grows : AreKept keep pattern → (children : List Child) (e : Entry) → AllByRecursion (IsChild records keep pattern) children
       → IsOneOf records pattern children e → GrowsOn records keep pattern e
@@ -167,13 +131,13 @@ module _ (records : Records) (keep : ℕ → Bool) (pattern : List (List ℕ)) w
           };
         }
 
-    below-over : (child : Child) (e : Entry) → IsChild records keep pattern child → GrowsOn records keep (stepped pattern child.step) e
+    below-over : (branch : Branch) (e : Entry) → IsBranch records keep pattern branch → GrowsOn records keep (stepped pattern branch.step) e
         → GrowsOver records keep pattern e
-    below-over child e is on = record { growth = child.step.growth; item = child.step.item.0; may = is.may; on = on }
+    below-over branch e is on = record { growth = branch.step.growth; item = branch.step.item.0; may = is.may; on = on }
 
     -- a pattern that grows from one in at least two steps grows from a child
     over-below : (children : List Child) (e : Entry) → AreChildren records keep pattern children → GrowsOver records keep pattern e
-        → IsBelow records keep pattern children e
+        → IsUnder children e
     over-below children e are over =
         let on = over.on in
         let g = on.grows in
@@ -244,75 +208,81 @@ module _ (records : Records) (keep : ℕ → Bool) (pattern : List (List ℕ)) w
 
     -- ---- children that are entered
 
-    pub so_far-none : {old : State} {kept : List Child} → IsInOrder old → AreKeptBest records keep pattern (floor_in old) kept
+    pub so_far-none : {old : State} {kept : List Branch} → IsInOrder old → AreKeptBest records keep pattern (floor_in old) kept
         → IsSoFar old old records keep pattern kept 0
     so_far-none {old} {kept} ordered best = record {
       best = best;
-      made = reached-none {P = IsBelow records keep pattern (take 0 kept)} old ordered (λ e below pass high. empty-contains below.child below.among);
+      made = reached-none {P = IsBelow records keep pattern (take 0 kept)} old ordered (λ e below pass high. empty-contains below.branch below.among);
     }
 
-    module _ {old now : State} {kept : List Child} (ordered : IsInOrder old) where
+    module _ {old now : State} {kept : List Branch} (ordered : IsInOrder old) where
       module _ {at : ℕ} (so_far : IsSoFar old now records keep pattern kept at) where
         pub so_far-ordered : IsInOrder now
         so_far-ordered = reached-in_order so_far.made
 
-        child-kept : (i : ℕ) (child : Child) → Contains (take i kept) child → IsChild records keep pattern child
-        child-kept i child c =
+        branch-kept : (i : ℕ) (branch : Branch) → Contains (take i kept) branch → IsBranch records keep pattern branch
+        branch-kept i branch c =
             let best = so_far.best in
             let are = best.are in
-            let among = at_member (Contains best.all) child kept best.among (Member-from_contains child kept (contains-front kept i child c)) in
-            at_member (IsChild records keep pattern) child best.all are.each (Member-from_contains child best.all among)
+            let copies = best.copies in
+            let from = copies.each branch (contains-front kept i branch c) in
+            branch-of records keep pattern from.0 branch
+            (at_member (IsChild records keep pattern) from.0 best.all are.each (Member-from_contains from.0 best.all from.1)) from.2
 
         upto-grows : (i : ℕ) (e : Entry) → IsBelow records keep pattern (take i kept) e → GrowsOver records keep pattern e
-        upto-grows i e below = below-over below.child e (child-kept i below.child below.among) below.grows
+        upto-grows i e below = below-over below.branch e (branch-kept i below.branch below.among) below.grows
 
         -- want of memory
         pub so_far-stopped : ReachedSome old (GrowsOver records keep pattern) now
         so_far-stopped = some-reached {P = IsBelow records keep pattern (take at kept)} {R = GrowsOver records keep pattern} (upto-grows at) so_far.made
 
-        module _ (d : Child) (within : at < length kept) where
-          pub turn-child : IsChild records keep pattern (get_or kept at d)
-          turn-child = child-kept (at + 1) (get_or kept at d) (contains-here kept at d within)
+        module _ (d : Branch) (within : at < length kept) (is : d ≡ get_or kept at d) where
+          turn-here : Contains (take (at + 1) kept) d
+          turn-here = subst (Contains (take (at + 1) kept)) (sym is) (contains-here kept at d within)
+
+          pub turn-branch : IsBranch records keep pattern d
+          turn-branch = branch-kept (at + 1) d turn-here
 
           -- one more was entered
-          pub so_far-next : {next : State} → Reached now (GrowsOn records keep (stepped pattern (get_or kept at d).step)) next
+          pub so_far-next : {next : State} → Reached now (GrowsOn records keep (stepped pattern d.step)) next
               → IsSoFar old next records keep pattern kept (at + 1)
           so_far-next made = record {
             best = so_far.best;
-            made = reached-then {P = IsBelow records keep pattern (take at kept)} {Q = GrowsOn records keep (stepped pattern (get_or kept at d).step)}
+            made = reached-then {P = IsBelow records keep pattern (take at kept)} {Q = GrowsOn records keep (stepped pattern d.step)}
                 {R = IsBelow records keep pattern (take (at + 1) kept)} ordered
-                (λ e below. below-as below (contains-before kept at d below.child within below.among))
-                (λ e grows. record { child = get_or kept at d; among = contains-here kept at d within; grows = grows })
-                (λ e below pass high. elim (contains-cases kept at d below.child within below.among) [
+                (λ e below. below-as below (contains-before kept at d within below.branch below.among))
+                (λ e grows. record { branch = d; among = turn-here; grows = grows })
+                (λ e below pass high. elim (contains-cases kept at d within below.branch below.among) [
                   | inl before ↦ inl (below-as below before)
-                  | inr same ↦ inr (subst (λ (c : Child). GrowsOn records keep (stepped pattern c.step) e) (sym same) below.grows)
+                  | inr same ↦ inr (subst (λ (b : Branch). GrowsOn records keep (stepped pattern b.step) e) (sym (is ∙ same)) below.grows)
                 ])
                 so_far.made made;
           }
 
           -- want of memory below one
-          pub so_far-some : {next : State} → ReachedSome now (GrowsOn records keep (stepped pattern (get_or kept at d).step)) next
+          pub so_far-some : {next : State} → ReachedSome now (GrowsOn records keep (stepped pattern d.step)) next
               → ReachedSome old (GrowsOver records keep pattern) next
           so_far-some some =
-              some-then {P = IsBelow records keep pattern (take at kept)} {Q = GrowsOn records keep (stepped pattern (get_or kept at d).step)}
+              some-then {P = IsBelow records keep pattern (take at kept)} {Q = GrowsOn records keep (stepped pattern d.step)}
               {R = GrowsOver records keep pattern}
-              (upto-grows at) (λ e grows. below-over (get_or kept at d) e turn-child grows) so_far.made some
+              (upto-grows at) (λ e grows. below-over d e turn-branch grows) so_far.made some
 
         -- all are entered, or the next bound is below the floor
-        pub so_far-all : (d : Child) → (length kept ≤ at) ⊎ ((get_or kept at d).bound <ℤ floor_in now) → Reached old (GrowsOver records keep pattern) now
-        so_far-all d ends =
+        pub so_far-all : (length kept ≤ at) ⊎ ((d : Branch) × ((get_or kept at d).bound <ℤ floor_in now)) → Reached old (GrowsOver records keep pattern) now
+        so_far-all ends =
             reached-as {P = IsBelow records keep pattern (take at kept)} {R = GrowsOver records keep pattern} (upto-grows at)
             (λ e over pass high.
             let best = so_far.best in
-            let below = over-below best.all e best.are over in
-            below-as below (among e below.child below.among below.grows high))
+            let under = over-below best.all e best.are over in
+            entered e under.child under.among under.grows high)
             so_far.made
           where
-            among : (e : Entry) (child : Child) → Contains so_far.best.all child → GrowsOn records keep (stepped pattern child.step) e
-                → floor_in now ≤ℤ e.utility → Contains (take at kept) child
-            among e child c on high =
+            entered : (e : Entry) (child : Child) → Contains so_far.best.all child → GrowsOn records keep (stepped pattern child.step) e
+                → floor_in now ≤ℤ e.utility → IsBelow records keep pattern (take at kept) e
+            entered e child c on high =
                 let best = so_far.best in
                 let are = best.are in
+                let copies = best.copies in
                 let g = on.grows in
                 let is = at_member (IsChild records keep pattern) child best.all are.each (Member-from_contains child best.all c) in
                 let reached = grown-reached child.step.growth pattern child.step.item.0 begun is.may in
@@ -321,13 +291,22 @@ module _ (records : Records) (keep : ℕ → Bool) (pattern : List (List ℕ)) w
                 let same = ap (λ (x : Entry). x.utility) g.is in
                 let under : e.utility ≤ℤ child.bound = omega (arith, ints, most, same) in
                 let rises = reached-floor ordered so_far.made in
-                elim (best.others child c) [
+                elim (copies.all child c) [
                   | inr low ↦ absurd (omega (arith, ints, under, high, rises, low))
-                  | inl here ↦ elim (Member-parts child kept at (Member-from_contains child kept here)) [
-                    | inl front ↦ Contains-from_member child (take at kept) front
+                  | inl has ↦ elim (Member-parts has.branch kept at (Member-from_contains has.branch kept has.among)) [
+                    | inl front ↦ record {
+                      branch = has.branch;
+                      among = Contains-from_member has.branch (take at kept) front;
+                      grows = let copy = has.is in subst (λ (s : Step). GrowsOn records keep (stepped pattern s) e) (sym copy.step) on;
+                    }
                     | inr later ↦ elim ends [
-                      | inl past ↦ absurd (fall-past kept at child past later)
-                      | inr low ↦ let falls = fall-later kept at d child best.fall later in absurd (omega (arith, ints, under, high, falls, low))
+                      | inl past ↦ absurd (fall-past kept at has.branch past later)
+                      | inr next ↦
+                          let low = next.1 in
+                          let falls = fall-later kept at next.0 has.branch best.fall later in
+                          let copy = has.is in
+                          let same_bound = copy.bound in
+                          absurd (omega (arith, ints, under, high, falls, low, same_bound))
                     ]
                   ]
                 ]
@@ -430,12 +409,10 @@ offers-all old new records keep pattern all (Ok x) own are made = (all, are, mad
 offers-all old new records keep pattern all (Err e) own are made = offered-some records keep pattern own all are.each made
 
 pub best-kept : {E : Type 0} (records : Records) (keep : ℕ → Bool) (pattern : List (List ℕ)) (all : List Child) (floor : ℤ)
-    (result : Result (Vec Child Global) E) → AreChildren records keep pattern all
-    → IfOk result (λ kept. AllByRecursion (Contains all) kept.items)
-    → IfOk result (λ kept. (child : Child) → Contains all child → Contains kept.items child ⊎ (child.bound <ℤ floor))
+    (result : Result (Vec Branch Global) E) → AreChildren records keep pattern all → IfOk result (λ kept. AreCopies floor all kept.items)
     → IfOk result (λ kept. Fall kept.items) → IfOk result (λ kept. AreKeptBest records keep pattern floor kept.items)
-best-kept records keep pattern all floor (Ok kept) are among others fall = record { all = all; are = are; among = among; others = others; fall = fall }
-best-kept records keep pattern all floor (Err e) are among others fall = tt
+best-kept records keep pattern all floor (Ok kept) are copies fall = record { all = all; are = are; copies = copies; fall = fall }
+best-kept records keep pattern all floor (Err e) are copies fall = tt
 
 -- the rows and the places of marks
 pub marks-within : (records : Records) (keep : ℕ → Bool) (item n : ℕ) (marks : List Mark) → n ≡ length records
@@ -458,34 +435,37 @@ children-within records keep pattern n (child ∷ children) same all =
     let is = all.0 in
     (marks-within records keep child.step.item.0 n child.marks.now same is.places.each, children-within records keep pattern n children same all.1)
 
-pub narrows-stopped : {E : Type 0} {old new : State} {records : Records} {keep : ℕ → Bool} {pattern : List (List ℕ)} (result : Result (Bool × List Item) E)
-    → IsErr result → ReachedSome old (GrowsOn records keep pattern) new → Narrows old new records keep pattern result
-narrows-stopped (Ok x) none some = absurd (false≢true none)
-narrows-stopped (Err e) none some = some
-
-pub narrowed-ordered : {old new : State} {records : Records} {keep : ℕ → Bool} {pattern : List (List ℕ)} {kept : Bool × List Item}
-    → IsNarrowed old new records keep pattern kept → IsInOrder new
-narrowed-ordered is = reached-in_order is.offers
-
--- what a node keeps, where its children were offered
-pub narrows-all : {E : Type 0} {old new : State} (records : Records) (keep : ℕ → Bool) (steps : List Step) (marks : List Mark) (children : List Child)
-    (reaches : List ℤ) (floor : ℤ) (result : Result (Bool × List Item) E) → AreRecords records → IsReached (pattern_of steps) → AreKept keep (pattern_of steps)
-    → ArePlaces records (pattern_of steps) (last_item (pattern_of steps)) marks → AreChildren records keep (pattern_of steps) children
-    → AreBelow reaches marks → floor ≡ floor_in new → IfOk result (AreOpen steps children reaches floor)
-    → Reached old (IsOneOf records (pattern_of steps) children) new → Narrows old new records keep (pattern_of steps) result
-narrows-all {new = new} records keep steps marks children reaches floor (Ok kept) are reached own places all below same opened made = record {
+-- what a node keeps, where its children were offered: all that it kept, or what is open
+pub narrowed-all : {old new : State} (records : Records) (kept : Bool × List Item) (steps : List Step) (marks : List Mark) (children : List Child)
+    (reaches : List ℤ) (floor : ℤ) (fewer : Option (Bool × List Item)) → AreRecords records → IsReached (pattern_of steps)
+    → AreKept (keeps kept) (pattern_of steps)
+    → ArePlaces records (pattern_of steps) (last_item (pattern_of steps)) marks → AreChildren records (keeps kept) (pattern_of steps) children
+    → AreBelow reaches marks → floor ≡ floor_in new → IfSome fewer (AreOpen steps children reaches floor)
+    → Reached old (IsOneOf records (pattern_of steps) children) new
+    → IsNarrowed old new records (keeps kept) (pattern_of steps) (counting fewer kept)
+narrowed-all records kept steps marks children reaches floor None are reached own places all below same opened made = record {
   all = children;
   are = all;
   offers = made;
-  fewer = narrow-fewer records keep steps marks children reaches floor kept are reached places all below opened own;
-  own = narrow-own records keep steps marks children reaches floor kept are reached places all below opened;
+  fewer = λ item is. is;
+  own = own;
+  enough = λ other from whole occurs high. whole;
+}
+narrowed-all {new = new} records kept steps marks children reaches floor (Some fewer) are reached own places all below same opened made = record {
+  all = children;
+  are = all;
+  offers = made;
+  fewer = narrow-fewer records (keeps kept) steps marks children reaches floor fewer are reached places all below opened own;
+  own = narrow-own records (keeps kept) steps marks children reaches floor fewer are reached places all below opened;
   enough = λ other from whole occurs high.
-      narrow-enough records keep steps marks children reaches floor kept are reached places all below opened other from whole occurs
+      narrow-enough records (keeps kept) steps marks children reaches floor fewer are reached places all below opened other from whole occurs
       (subst (λ f. f ≤ℤ sequence_utility records other) (sym same) high);
 }
-narrows-all records keep steps marks children reaches floor (Err e) are reached own places all below same opened made =
-    offered-some records keep (pattern_of steps) own children all.each
-    (some-reached {P = IsOneOf records (pattern_of steps) children} {R = IsOneOf records (pattern_of steps) children} (λ x one. one) made)
+
+pub opens-stopped : {E : Type 0} {old new : State} (records : Records) (kept : Bool × List Item) (pattern : List (List ℕ)) (result : Result Opened E)
+    → IsErr result → ReachedSome old (GrowsOn records (keeps kept) pattern) new → Opens old new records kept pattern result
+opens-stopped records kept pattern (Ok x) none some = absurd (false≢true none)
+opens-stopped records kept pattern (Err e) none some = some
 
 -- one more offer, the steps seen again
 pub offered-turn : {old s t : State} (records : Records) (steps seen : List Step) (children : List Child) (i : ℕ) (d : Child) → i < length children

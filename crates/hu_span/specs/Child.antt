@@ -1,6 +1,6 @@
 -- The patterns with one step more than a pattern.
-use Rattle.std.specs.Prelude.{◌≡◌, true, ◌<◌, ◌≤ℤ◌, ℕ, ℤ, int_le, Bool, List, [], ◌∷◌, length, if◌then◌else◌}
-use Rattle.std.specs.List.{AllByRecursion, Contains, filter}
+use Rattle.std.specs.Prelude.{◌≡◌, true, ◌<◌, ◌≤ℤ◌, ℕ, Bool, List, length}
+use Rattle.std.specs.List.{AllByRecursion, Contains}
 use Rattle.hu_kind.specs.declared.entry.Entry.{Entry}
 use Rattle.hu_kind.specs.Sequence.{sequence_entry, sequence_support, sequence_utility}
 use Rattle.hu_chain.specs.declared.chain.Growth.{Growth}
@@ -76,11 +76,6 @@ pub record AreChildren (records : Records) (keep : ℕ → Bool) (pattern : List
       → 0 < sequence_support records (grown growth pattern item)
       → HasStep children growth item
 
--- bounds that fall
-abbrev pub Fall : List Child → Type 0
-Fall [] = Unit {0}
-Fall (child ∷ children) = AllByRecursion (λ later. later.bound ≤ℤ child.bound) children × Fall children
-
 -- the entry of a child
 abbrev pub child_entry : Records → List (List ℕ) → Child → Entry
 child_entry records pattern child = sequence_entry records (stepped pattern child.step)
@@ -90,11 +85,3 @@ pub record AreGathered (records : Records) (keep : ℕ → Bool) (pattern : List
     (grown : Grown) : Type 0 where
   pub into : IsGathered records keep pattern IntoLast grown.into.items
   pub after : IsGathered records keep pattern AfterLast grown.after.items
-
--- the children whose bound reaches a floor
-abbrev pub kept_by : ℤ → List Child → List Child
-kept_by floor children = filter (λ child. int_le floor child.bound) children
-
--- a child, if it is kept
-abbrev pub kept_if : Bool → Child → List Child
-kept_if is_kept child = if is_kept then child ∷ [] else []

@@ -2,9 +2,11 @@ pub mod Kept
 pub mod Step
 pub mod Mark
 pub mod Gather
+pub mod Rests
 pub mod Tally
 pub mod Growing
 pub mod Child
+pub mod Branch
 pub mod Search
 pub mod Cut
 pub mod Worked

@@ -1,15 +1,21 @@
 -- How far a search has come that offers all children of a pattern and then enters them best bound first.
-use Rattle.std.specs.Prelude.{◌≡◌, ◌⊎◌, ◌<◌, ◌<ℤ◌, ◌≤ℤ◌, true, ℕ, ℤ, Bool, List, take, Result, MatchResult}
-use Rattle.std.specs.List.{AllByRecursion, Contains}
+use Rattle.std.specs.Prelude.{◌≡◌, ◌<◌, ◌≤ℤ◌, true, ℕ, ℤ, Bool, Option, None, Some, List, take, Result, MatchResult}
+use Rattle.std.specs.List.{Contains}
 use Rattle.hu_kind.specs.declared.entry.Entry.{Entry}
 use Rattle.hu_collect.specs.State.{State, Reached, ReachedSome, floor_in}
 use Rattle.hu_span.specs.declared.child.Child.{Child}
 use Rattle.hu_chain.specs.Grown.{IsGrownFrom}
 use Rattle.hu_kind.specs.Sequence.{sequence_support, sequence_utility}
 use Rattle.hu_kind.specs.declared.item.Item.{Item}
-use Rattle.hu_span.specs.Child.{child_entry, stepped, AreChildren, Fall}
-use Rattle.hu_span.specs.Kept.{keeps, AreKept}
-use Rattle.hu_span.specs.Growing.{GrowsOn, Records}
+use Rattle.hu_span.specs.declared.child.Branch.{Branch}
+use Rattle.hu_span.specs.declared.gather.Grown.{Grown}
+use Rattle.hu_span.specs.declared.search.Opened.{Opened}
+use Rattle.hu_span.specs.Branch.{AreCopies, Fall}
+use Rattle.hu_span.specs.declared.mark.Mark.{Mark}
+use Rattle.hu_chain.specs.Pattern.{last_item}
+use Rattle.hu_span.specs.Child.{child_entry, stepped, AreChildren, AreGathered, ArePlaces}
+use Rattle.hu_span.specs.Kept.{keeps, weighed_of, AreKept}
+use Rattle.hu_span.specs.Growing.{GrowsOn, IsReached, Records}
 
 -- the entry is that of a child
 pub record IsOneOf (records : Records) (pattern : List (List ℕ)) (children : List Child)
@@ -18,27 +24,31 @@ pub record IsOneOf (records : Records) (pattern : List (List ℕ)) (children : L
   pub among : Contains children child
   pub is : entry ≡ child_entry records pattern child
 
--- the entry is that of a pattern that grows from a child
+-- the entry is that of a pattern that grows from a branch
 pub record IsBelow (records : Records) (keep : ℕ → Bool) (pattern : List (List ℕ))
-    (children : List Child) (entry : Entry) : Type 0 where
-  pub child : Child
-  pub among : Contains children child
-  pub grows : GrowsOn records keep (stepped pattern child.step) entry
+    (branches : List Branch) (entry : Entry) : Type 0 where
+  pub branch : Branch
+  pub among : Contains branches branch
+  pub grows : GrowsOn records keep (stepped pattern branch.step) entry
 
 -- those children of a pattern are kept whose bound reaches the floor, best bound first
 pub record AreKeptBest (records : Records) (keep : ℕ → Bool) (pattern : List (List ℕ)) (floor : ℤ)
-    (kept : List Child) : Type 0 where
+    (kept : List Branch) : Type 0 where
   pub all : List Child
   pub are : AreChildren records keep pattern all
-  pub among : AllByRecursion (Contains all) kept
-  pub others : (child : Child) → Contains all child → Contains kept child ⊎ (child.bound <ℤ floor)
+  pub copies : AreCopies floor all kept
   pub fall : Fall kept
 
 -- the first of the kept children were entered
 pub record IsSoFar (old now : State) (records : Records) (keep : ℕ → Bool) (pattern : List (List ℕ))
-    (kept : List Child) (at : ℕ) : Type 0 where
+    (kept : List Branch) (at : ℕ) : Type 0 where
   pub best : AreKeptBest records keep pattern (floor_in old) kept
   pub made : Reached old (IsBelow records keep pattern (take at kept)) now
+
+-- the items that count below a pattern: fewer, or those that count at it
+abbrev pub counting : Option (Bool × List Item) → Bool × List Item → Bool × List Item
+counting None kept = kept
+counting (Some fewer) kept = fewer
 
 -- all children of a pattern were offered, and items are kept at which all patterns end that grow from it and reach the floor
 pub record IsNarrowed (old new : State) (records : Records) (keep : ℕ → Bool)
@@ -52,12 +62,30 @@ pub record IsNarrowed (old new : State) (records : Records) (keep : ℕ → Bool
       → 0 < sequence_support records other
       → floor_in new ≤ℤ sequence_utility records other → AreKept (keeps kept) other
 
--- after Ok they are narrowed, after Err some were offered
-abbrev pub Narrows : {E : Type 0} → State → State → Records → (ℕ → Bool) → List (List ℕ)
-    → Result (Bool × List Item) E → Type 0
-Narrows old new records keep pattern result =
-    MatchResult result (IsNarrowed old new records keep pattern)
-    (λ _. ReachedSome old (GrowsOn records keep pattern) new)
+-- what a pattern grows by was gathered, all its children were offered, and items are kept
+pub record IsOpened (old new : State) (records : Records) (keep : ℕ → Bool)
+    (pattern : List (List ℕ)) (kept : Bool × List Item) (grown : Grown) : Type 0 where
+  pub gathered : AreGathered records keep pattern grown
+  pub narrowed : IsNarrowed old new records keep pattern kept
+
+-- by what a pattern grows is gathered again, where it has places and the items that count are fewer
+pub record IsRegathered (records : Records) (kept : Bool × List Item) (opened : Opened)
+    (marks : List Mark) (pattern : List (List ℕ)) : Type 0 where
+  pub reached : IsReached pattern
+  pub gathered : AreGathered (weighed_of (keeps kept) records) (keeps kept) pattern opened.grown
+  pub places : ArePlaces (weighed_of (keeps kept) records) pattern (last_item pattern) marks
+  pub own : AreKept (keeps kept) pattern
+  pub still : AreKept (keeps (counting opened.fewer kept)) pattern
+  pub less : (item : ℕ) → keeps (counting opened.fewer kept) item ≡ true → keeps kept item ≡ true
+
+-- after Ok it is opened, after Err some children were offered
+abbrev pub Opens : {E : Type 0} → State → State → Records → Bool × List Item → List (List ℕ)
+    → Result Opened E → Type 0
+Opens old new records kept pattern result =
+    MatchResult result
+    (λ opened. IsOpened old new records (keeps kept) pattern (counting opened.fewer kept)
+    opened.grown)
+    (λ _. ReachedSome old (GrowsOn records (keeps kept) pattern) new)
 
 -- after Ok all children of a pattern were offered, after Err some were
 abbrev pub OffersAll : {T E : Type 0} → State → State → Records → (ℕ → Bool) → List (List ℕ)

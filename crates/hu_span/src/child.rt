@@ -1,11 +1,11 @@
 //! The patterns with one step more than a pattern.
 
-ghost use Rattle.std.specs.Prelude.{◌≡◌, ◌++◌, ◌⊎◌, ◌<ℤ◌, ℕ, Bool, IfOk, OnOk};
-ghost use Rattle.std.specs.List.{AllByRecursion, Contains};
-ghost use Rattle.hu_span.specs.Child.{AreChildren, AreChildrenBy, Fall, IsChild, IsGathered, IsStep, kept_by, kept_if};
+ghost use Rattle.std.specs.Prelude.{◌≡◌, ℕ, Bool, IfOk, OnOk};
+ghost use Rattle.hu_span.specs.Branch.{AreCopies, Fall, IsPushed};
+ghost use Rattle.hu_span.specs.Child.{AreChildren, AreChildrenBy, IsChild, IsGathered, IsStep};
 ghost use Rattle.hu_span.specs.Growing.{Pattern, Records};
 
-use crate::mark::{Mark, items_of, run_of};
+use crate::mark::{Mark, run_len};
 use crate::step::Step;
 use crate::tally::tally_of;
 use hu_chain::Growth;
@@ -60,12 +60,12 @@ fn children_by<'a>(
         → IfOk result (λ children. AreChildrenBy rs keep p growth children.items) }
 {
     let mut children = Vec::new(alloc);
-    'items: for item in &items_of(alloc, marks)? {
-        let step = Step {
-            growth,
-            item: *item,
-        };
-        children.push(child_of(step, run_of(marks, *item)))?;
+    let mut left = marks;
+    'runs: while let Some((first, _later)) = left.split_first() {
+        let item = first.item;
+        let (run, next) = left.split_at(run_len(left, item));
+        children.push(child_of(Step { growth, item }, run))?;
+        left = next;
     }
     Ok(children)
 }
@@ -88,15 +88,23 @@ fn child_of<'a>(step: Step, marks: &'a [Mark]) -> Child<'a>
     }
 }
 
+/// A child that is entered. Its places are its own, so that those of the other children can be let go.
+#[derive(Drop)]
+pub(crate) struct Branch {
+    pub step: Step,
+    /// Its places in all records.
+    pub marks: Vec<Mark>,
+    /// What patterns earn at most that grow from it.
+    pub bound: i128,
+}
+
 /// The children whose bound reaches a floor, best bound first.
-pub(crate) fn best_of<'a>(
+pub(crate) fn best_of(
     alloc: Global,
-    children: &[Child<'a>],
+    children: &[Child<'_>],
     floor: i128,
-) -> Result<Vec<Child<'a>>, NoMemory>
-    ensures among { IfOk result (λ kept. AllByRecursion (Contains children.now) kept.items) }
-    ensures others { IfOk result (λ kept. (child : Child) → Contains children.now child
-        → Contains kept.items child ⊎ (child.bound <ℤ floor)) }
+) -> Result<Vec<Branch>, NoMemory>
+    ensures copies { IfOk result (λ kept. AreCopies floor children.now kept.items) }
     ensures fall { IfOk result (λ kept. Fall kept.items) }
 {
     let mut kept = kept_of(alloc, children, floor)?;
@@ -105,26 +113,33 @@ pub(crate) fn best_of<'a>(
 }
 
 /// The children whose bound reaches a floor.
-fn kept_of<'a>(
-    alloc: Global,
-    children: &[Child<'a>],
-    floor: i128,
-) -> Result<Vec<Child<'a>>, NoMemory>
-    ensures { IfOk result (λ kept. kept.items ≡ kept_by floor children.now) }
+fn kept_of(alloc: Global, children: &[Child<'_>], floor: i128) -> Result<Vec<Branch>, NoMemory>
+    ensures { IfOk result (λ kept. AreCopies floor children.now kept.items) }
 {
     let mut kept = Vec::new(alloc);
-    for child in children {
-        push_if(&mut kept, *child, child.bound >= floor)?;
+    'children: for child in children {
+        push_if(alloc, &mut kept, child, child.bound >= floor)?;
     }
     Ok(kept)
 }
 
 /// Appends a child that is kept.
-fn push_if<'a>(kept: &mut Vec<Child<'a>>, child: Child<'a>, is_kept: bool) -> Result<(), NoMemory>
-    ensures { OnOk result (kept.new.items ≡ kept.old.items ++ kept_if is_kept child.entry) }
+fn push_if(
+    alloc: Global,
+    kept: &mut Vec<Branch>,
+    child: &Child<'_>,
+    is_kept: bool,
+) -> Result<(), NoMemory>
+    ensures { OnOk result (IsPushed is_kept kept.old.items kept.new.items child.now) }
 {
     if is_kept {
-        kept.push(child)?;
+        let mut marks = Vec::with_capacity(alloc, child.marks.len())?;
+        marks.extend_from_slice(child.marks)?;
+        kept.push(Branch {
+            step: child.step,
+            marks,
+            bound: child.bound,
+        })?;
     }
     Ok(())
 }

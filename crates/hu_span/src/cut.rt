@@ -28,17 +28,18 @@ pub(crate) fn set_reaches(marks: &[Mark], reaches: &mut [i128])
     }
 }
 
-/// The items of the steps and those of the children whose rows reach a floor.
+/// The items of the steps and those of the children whose rows reach a floor; none where all children are kept.
 pub(crate) fn open_items(
     alloc: Global,
     steps: &[Step],
     children: &[Child<'_>],
     reaches: &[i128],
     floor: i128,
-) -> Result<Kept, NoMemory>
+) -> Result<Option<Kept>, NoMemory>
     requires { AllByRecursion (λ child. AllByRecursion
         (λ mark. mark.row < length reaches.now) child.marks.now) children.now }
-    ensures { IfOk result (AreOpen steps.now children.now reaches.now floor) }
+    ensures { IfOk result (λ fewer. IfSome fewer (AreOpen steps.now children.now reaches.now
+        floor)) }
 {
     let mut items = Vec::new(alloc);
     'steps: for step in steps {
@@ -51,7 +52,11 @@ pub(crate) fn open_items(
             is_open(child.marks, reaches, floor),
         )?;
     }
-    Kept::of(alloc, items)
+    if items.len().checked_sub(steps.len()) == Some(children.len()) {
+        return Ok(None);
+    }
+    let kept = Kept::of(alloc, items)?;
+    Ok(Some(kept))
 }
 
 /// Whether the rows of marks reach a floor together. They do where no number tells their sum.

@@ -1,6 +1,6 @@
 //! The marks of all items by which a pattern can grow, gathered in one pass over its places.
 
-ghost use Rattle.std.specs.Prelude.{◌≡◌, ◌++◌, ◌^◌, ◌-ℤ◌, ◌≤ℤ◌, ◌<ℤ◌, ℕ, pos, drop, [], ◌∷◌, IfOk, OnOk};
+ghost use Rattle.std.specs.Prelude.{◌≡◌, ◌++◌, ◌^◌, ◌+ℤ◌, ◌-ℤ◌, ◌≤◌, ◌≤ℤ◌, ◌<ℤ◌, ℕ, pos, drop, length, [], ◌∷◌, IfOk, OnOk};
 ghost use Rattle.std.specs.List.{AllByRecursion, filter};
 ghost use Rattle.hu_kind.specs.Cell.{pairs_of};
 ghost use Rattle.hu_kind.specs.Record.{total};
@@ -84,7 +84,7 @@ fn first_marks(alloc: Global, records: &[SeqRecord], kept: &Kept) -> Result<Vec<
         let walk = Walk {
             row,
             best: 0,
-            ahead: totals(kept, elements, 0),
+            ahead: between(kept, elements, 0, elements.len()),
             left: &[],
         };
         push_walk(&mut marks, kept, elements, 0, walk)?;
@@ -236,13 +236,16 @@ pub(crate) fn total(kept: &Kept, cells: &[Cell]) -> i128
     sum
 }
 
-/// The sum of the values of kept items of the elements from one on.
-pub(crate) fn totals(kept: &Kept, elements: &[Element], first: usize) -> i128
-    requires { IsSequence elements.now }
-    ensures { result ≡ totals (drop first (weighed_in (keeps kept.now) elements.now)) }
+/// The sum of the values of kept items of the elements from one on, up to another.
+pub(crate) fn between(kept: &Kept, elements: &[Element], first: usize, upto: usize) -> i128
+    requires rules { IsSequence elements.now }
+    requires ordered { first ≤ upto }
+    requires within { upto ≤ length elements.now }
+    ensures { (result +ℤ totals (drop upto (weighed_in (keeps kept.now) elements.now)))
+        ≡ totals (drop first (weighed_in (keeps kept.now) elements.now)) }
 {
     let mut sum = 0;
-    'elements: for number in first..elements.len() {
+    'elements: for number in first..upto {
         sum += total(kept, elements[number].cells());
     }
     sum

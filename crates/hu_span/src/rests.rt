@@ -1,23 +1,23 @@
 //! The rests of places where fewer items count.
 
-ghost use Rattle.std.specs.Prelude.{◌≡◌, ℕ, Bool, true, IfOk};
+ghost use Rattle.std.specs.Prelude.{◌≡◌, ◌+◌, ◌<◌, ◌≤◌, ℕ, Bool, true, length, IfOk};
 ghost use Rattle.std.specs.List.{AllByRecursion};
 ghost use Rattle.hu_kind.specs.Sequence.{IsSequence};
 ghost use Rattle.hu_chain.specs.Pattern.{last_item};
-ghost use Rattle.hu_chain.specs.Place.{rest_at};
 ghost use Rattle.hu_span.specs.Child.{ArePlaces};
-ghost use Rattle.hu_span.specs.Gather.{IsInside};
 ghost use Rattle.hu_span.specs.Growing.{IsReached, Pattern};
-ghost use Rattle.hu_span.specs.Kept.{keeps, weighed_in, weighed_of, AreKept};
+ghost use Rattle.hu_span.specs.Kept.{keeps, weighed_of, AreKept};
+ghost use Rattle.hu_span.specs.Rests.{resting, IsBehind, IsKnown};
 
-use crate::gather::{cells_after, total, totals};
+use crate::gather::{between, cells_after, total};
 use crate::kept::Kept;
 use crate::mark::Mark;
 use hu_chain::Place;
 use hu_kind::{Element, NoMemory, SeqRecord};
 use std::alloc::Global;
 
-/// The marks of a pattern where fewer items count: their rests are summed anew.
+/// The marks of a pattern where fewer items count: their rests are summed anew, from the last mark back, so that the
+/// elements of a row are summed once.
 pub(crate) fn rested(
     alloc: Global,
     records: &[SeqRecord],
@@ -35,30 +35,82 @@ pub(crate) fn rested(
         ArePlaces (weighed_of (keeps kept.now) records.now) p (last_item p) rested.items) }
 {
     let mut rested = Vec::new(alloc);
-    'marks: for mark in marks {
-        let place = mark.place;
-        let rest = rest_after(kept, records[mark.row].elements(), place);
-        rested.push(Mark {
-            item: mark.item,
-            row: mark.row,
-            place: Place {
-                element: place.element,
-                cell: place.cell,
-                best: place.best,
-                rest,
-            },
-        })?;
+    let mut known = None;
+    let mut left = marks;
+    'marks: while let Some((mark, before)) = left.split_last() {
+        let elements = records[mark.row].elements();
+        let behind = summed(kept, elements, mark, known);
+        let here = total(kept, cells_after(elements, mark.place));
+        rested.push(resting(mark, here + behind.sum))?;
+        known = Some(behind);
+        left = before;
     }
+    rested.reverse();
     Ok(rested)
 }
 
-/// The sum of the values of kept items after a place.
-fn rest_after(kept: &Kept, elements: &[Element], place: Place) -> i128
-    requires rules { IsSequence elements.now }
-    requires inside { IsInside elements.now place }
-    ensures { result ≡ rest_at (weighed_in (keeps kept.now) elements.now)
-        place.element place.cell }
+/// A mark with another rest.
+fn resting(mark: &Mark, rest: i128) -> Mark
+    ensures { result ≡ resting mark.now rest }
 {
-    let here = total(kept, cells_after(elements, place));
-    here + totals(kept, elements, place.element as usize + 1)
+    let place = mark.place;
+    Mark {
+        item: mark.item,
+        row: mark.row,
+        place: Place {
+            element: place.element,
+            cell: place.cell,
+            best: place.best,
+            rest,
+        },
+    }
+}
+
+/// The sum of the values of kept items of a row's elements from one on.
+#[derive(Clone, Copy)]
+struct Behind {
+    row: usize,
+    first: usize,
+    sum: i128,
+}
+
+/// The sum behind the element of a mark. Where that behind a later element of the row is known, it is carried on from there.
+fn summed(kept: &Kept, elements: &[Element], mark: &Mark, known: Option<Behind>) -> Behind
+    requires rules { IsSequence elements.now }
+    requires inside { mark.now.place.element < length elements.now }
+    requires known { IsKnown (keeps kept.now) elements.now mark.now.row known }
+    ensures row { result.row ≡ mark.now.row }
+    ensures first { result.first ≡ mark.now.place.element + 1 }
+    ensures sum { IsBehind (keeps kept.now) elements.now result }
+{
+    let first = mark.place.element as usize + 1;
+    let later = later_of(kept, elements, mark.row, first, known);
+    Behind {
+        row: mark.row,
+        first,
+        sum: between(kept, elements, first, later.first) + later.sum,
+    }
+}
+
+/// What is known behind an element of a row, at least that nothing stands behind the last one.
+fn later_of(
+    kept: &Kept,
+    elements: &[Element],
+    row: usize,
+    first: usize,
+    known: Option<Behind>,
+) -> Behind
+    requires first { first ≤ length elements.now }
+    requires known { IsKnown (keeps kept.now) elements.now row known }
+    ensures later { first ≤ result.first }
+    ensures sum { IsBehind (keeps kept.now) elements.now result }
+{
+    match known {
+        Some(behind) if behind.row == row && first <= behind.first => behind,
+        _ => Behind {
+            row,
+            first: elements.len(),
+            sum: 0,
+        },
+    }
 }

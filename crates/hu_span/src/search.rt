@@ -6,13 +6,14 @@ ghost use Rattle.hu_kind.specs.Sequence.{sequence_patterns};
 ghost use Rattle.hu_base.specs.Base.{records_of};
 ghost use Rattle.hu_collect.specs.State.{IsInOrder, Mines, Searches, Takes};
 ghost use Rattle.hu_chain.specs.Pattern.{last_item};
+ghost use Rattle.hu_span.specs.Branch.{IsBranch};
 ghost use Rattle.hu_span.specs.Child.{child_entry, stepped, AreGathered, ArePlaces, IsChild};
 ghost use Rattle.hu_span.specs.Growing.{AreRecords, GrowsOn, GrowsOver, IsBegun, IsReached, Pattern, Records};
 ghost use Rattle.hu_span.specs.Kept.{keeps, weighed_of, AreKept};
-ghost use Rattle.hu_span.specs.Search.{AreKeptBest, IsOneOf, Narrows, OffersAll};
+ghost use Rattle.hu_span.specs.Search.{counting, AreKeptBest, IsOneOf, IsRegathered, OffersAll, Opens};
 ghost use Rattle.hu_span.specs.Step.{pattern_of};
 
-use crate::child::{Child, best_of, children_of};
+use crate::child::{Branch, Child, best_of, children_of};
 use crate::cut::{open_items, set_reaches};
 use crate::gather::{Grown, first_grown, gathered};
 use crate::kept::Kept;
@@ -28,11 +29,12 @@ use std::alloc::Global;
 /// what all sequences that occur would make. The places of all patterns with one item more than a pattern are gathered in
 /// one pass over its places and put in the order of their items by one sort. All these patterns are offered before any is
 /// entered. Then those items are dropped that reach the floor in no pattern below: the sum over the records in which an item
-/// makes a child, each with the greatest utility and all that is left after it. What is left of a record is summed anew
-/// without the dropped items, and the patterns are entered best bound first, up to the first whose bound is below the floor
-/// of the moment. The bound is the sum over the records of the greatest utility with all that is left after it. The memory
-/// of a level is its places. After want of memory some of the sequences have been offered. After USpan (Yin, Zheng and Cao,
-/// 2012) and HUS-Span (Wang, Huang and Chen, 2016).
+/// makes a child, each with the greatest utility and all that is left after it. Where some are dropped, what is left of a
+/// record is summed anew without them, in one walk from its end, and the places are gathered again. The patterns are entered
+/// best bound first, up to the first whose bound is below the floor of the moment. The bound is the sum over the records of
+/// the greatest utility with all that is left after it. The memory of a level is the places of those patterns whose bound
+/// reaches the floor, and the items that still count, where they are fewer than above. After want of memory some of the
+/// sequences have been offered. After USpan (Yin, Zheng and Cao, 2012) and HUS-Span (Wang, Huang and Chen, 2016).
 pub fn mine<C: Collect>(
     alloc: Global,
     base: &Base<SeqRecord>,
@@ -54,7 +56,7 @@ pub fn mine<C: Collect>(
         alloc,
         records,
         &kept,
-        &grown,
+        grown,
         &mut steps,
         &mut reaches,
         collect,
@@ -78,7 +80,7 @@ fn deepen<C: Collect>(
     alloc: Global,
     records: &[SeqRecord],
     kept: &Kept,
-    grown: &Grown,
+    grown: Grown,
     steps: &mut Vec<Step>,
     reaches: &mut [i128],
     collect: &mut C,
@@ -88,30 +90,30 @@ fn deepen<C: Collect>(
     requires rows { length reaches.old ≡ length records.now }
     requires pattern { AreKept (keeps kept.now) (pattern_of steps.old.items) }
     requires grown { AreGathered (weighed_of (keeps kept.now) records.now) (keeps kept.now)
-        (pattern_of steps.old.items) grown.now }
+        (pattern_of steps.old.items) grown }
     ensures steps { OnOk result (steps.new.items ≡ steps.old.items) }
     ensures made { Searches (C.state collect.old)
         (GrowsOver (weighed_of (keeps kept.now) records.now) (keeps kept.now)
         (pattern_of steps.old.items))
         (C.state collect.new) result }
 {
-    let children = best_children(alloc, grown, collect.floor())?;
-    'children: for child in &children {
-        if child.bound < collect.floor() {
+    let branches = best_branches(alloc, grown, collect.floor())?;
+    'branches: for branch in &branches {
+        if branch.bound < collect.floor() {
             return Ok(());
         }
-        enter(alloc, records, kept, child, steps, reaches, collect)?;
+        enter(alloc, records, kept, branch, steps, reaches, collect)?;
     }
     Ok(())
 }
 
-/// Offers the patterns that grow from a child.
+/// Offers the patterns that grow from a branch.
 #[cycle(search)]
 fn enter<C: Collect>(
     alloc: Global,
     records: &[SeqRecord],
     kept: &Kept,
-    child: &Child<'_>,
+    branch: &Branch,
     steps: &mut Vec<Step>,
     reaches: &mut [i128],
     collect: &mut C,
@@ -121,24 +123,43 @@ fn enter<C: Collect>(
     requires rows { length reaches.old ≡ length records.now }
     requires begun { IsBegun (pattern_of steps.old.items) }
     requires pattern { AreKept (keeps kept.now) (pattern_of steps.old.items) }
-    requires child { IsChild (weighed_of (keeps kept.now) records.now) (keeps kept.now)
-        (pattern_of steps.old.items) child.now }
+    requires branch { IsBranch (weighed_of (keeps kept.now) records.now) (keeps kept.now)
+        (pattern_of steps.old.items) branch.now }
     ensures steps { OnOk result (steps.new.items ≡ steps.old.items) }
     ensures made { Searches (C.state collect.old)
         (GrowsOn (weighed_of (keeps kept.now) records.now) (keeps kept.now) (stepped
-        (pattern_of steps.old.items) child.now.step))
+        (pattern_of steps.old.items) branch.now.step))
         (C.state collect.new) result }
 {
-    steps.push(child.step)?;
-    let fewer = narrowed(alloc, records, kept, child.marks, steps, reaches, collect)?;
-    let marks = rested(alloc, records, &fewer, child.marks)?;
-    let grown = gathered(alloc, records, &fewer, &marks)?;
-    deepen(alloc, records, &fewer, &grown, steps, reaches, collect)?;
+    steps.push(branch.step)?;
+    let first = narrowed(alloc, records, kept, &branch.marks, steps, reaches, collect)?;
+    let Opened { fewer, grown } = regathered(alloc, records, kept, first, &branch.marks)?;
+    let kept = counting(&fewer, kept);
+    deepen(alloc, records, kept, grown, steps, reaches, collect)?;
     steps.pop();
     Ok(())
 }
 
-/// Offers the children of a pattern, and answers the items by which patterns may reach the floor that grow from it.
+/// What a pattern grows by, with the items that count in it.
+#[derive(Drop)]
+struct Opened {
+    /// Those that count below the pattern, where they are fewer than at it.
+    fewer: Option<Kept>,
+    grown: Grown,
+}
+
+/// The items that count below a pattern.
+fn counting<'a>(fewer: &'a Option<Kept>, kept: &'a Kept) -> &'a Kept
+    ensures { result.now ≡ counting fewer.now kept.now }
+{
+    match fewer {
+        Some(fewer) => fewer,
+        None => kept,
+    }
+}
+
+/// Offers the children of a pattern, and answers by what it grows, and the items by which patterns may reach the floor
+/// that grow from it.
 fn narrowed<C: Collect>(
     alloc: Global,
     records: &[SeqRecord],
@@ -147,7 +168,7 @@ fn narrowed<C: Collect>(
     steps: &mut Vec<Step>,
     reaches: &mut [i128],
     collect: &mut C,
-) -> Result<Kept, NoMemory>
+) -> Result<Opened, NoMemory>
     requires ordered { IsInOrder (C.state collect.old) }
     requires records { AreRecords records.now }
     requires rows { length reaches.old ≡ length records.now }
@@ -156,26 +177,52 @@ fn narrowed<C: Collect>(
     requires places { ArePlaces (weighed_of (keeps kept.now) records.now)
         (pattern_of steps.old.items) (last_item (pattern_of steps.old.items)) marks.now }
     ensures steps { OnOk result (steps.new.items ≡ steps.old.items) }
-    ensures made { Narrows (C.state collect.old) (C.state collect.new)
-        (weighed_of (keeps kept.now) records.now) (keeps kept.now)
-        (pattern_of steps.old.items) result }
+    ensures made { Opens (C.state collect.old) (C.state collect.new)
+        (weighed_of (keeps kept.now) records.now) kept.now (pattern_of steps.old.items) result }
 {
     let grown = gathered(alloc, records, kept, marks)?;
     let children = children_of(alloc, &grown.into, &grown.after)?;
     offer_children(alloc, steps, &children, collect)?;
     set_reaches(marks, reaches);
-    open_items(alloc, steps, &children, reaches, collect.floor())
+    let fewer = open_items(alloc, steps, &children, reaches, collect.floor())?;
+    drop(children);
+    Ok(Opened { fewer, grown })
+}
+
+/// What a pattern grows by, gathered again where fewer items count.
+fn regathered(
+    alloc: Global,
+    records: &[SeqRecord],
+    kept: &Kept,
+    opened: Opened,
+    marks: &[Mark],
+) -> Result<Opened, NoMemory>
+    requires records { AreRecords records.now }
+    requires places { (p : Pattern) × IsRegathered records.now kept.now opened marks.now p }
+    ensures fewer { IfOk result (λ again. again.fewer ≡ opened.fewer) }
+    ensures grown { (p : Pattern) → IsRegathered records.now kept.now opened marks.now p
+        → IfOk result (λ again. AreGathered
+        (weighed_of (keeps (counting opened.fewer kept.now)) records.now)
+        (keeps (counting opened.fewer kept.now)) p again.grown) }
+{
+    let Opened { fewer, grown } = opened;
+    match fewer {
+        None => Ok(Opened { fewer: None, grown }),
+        Some(fewer) => {
+            let marks = rested(alloc, records, &fewer, marks)?;
+            let grown = gathered(alloc, records, &fewer, &marks)?;
+            Ok(Opened {
+                fewer: Some(fewer),
+                grown,
+            })
+        }
+    }
 }
 
 /// The children of a pattern whose bound reaches a floor, best bound first.
-fn best_children<'a>(
-    alloc: Global,
-    grown: &'a Grown,
-    floor: i128,
-) -> Result<Vec<Child<'a>>, NoMemory>
-    requires { (rs : Records) × (keep : ℕ → Bool) × (p : Pattern)
-        × AreGathered rs keep p grown.now }
-    ensures { (rs : Records) → (keep : ℕ → Bool) → (p : Pattern) → AreGathered rs keep p grown.now
+fn best_branches(alloc: Global, grown: Grown, floor: i128) -> Result<Vec<Branch>, NoMemory>
+    requires { (rs : Records) × (keep : ℕ → Bool) × (p : Pattern) × AreGathered rs keep p grown }
+    ensures { (rs : Records) → (keep : ℕ → Bool) → (p : Pattern) → AreGathered rs keep p grown
         → IfOk result (λ kept. AreKeptBest rs keep p floor kept.items) }
 {
     let children = children_of(alloc, &grown.into, &grown.after)?;

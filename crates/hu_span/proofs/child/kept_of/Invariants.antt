@@ -1,5 +1,6 @@
-use Rattle.std.proofs.Common.{◌≡◌, filter, take, int_le}
+use Rattle.std.proofs.Common.{take}
+use Rattle.hu_span.specs.Branch.{AreCopies}
 use Rattle.hu_span.proofs.child.kept_of.Given as goal
 
-abbrev pub invariant-loop-child : goal.invariant-loop-child
-invariant-loop-child l = l.kept.items ≡ filter (λ child. int_le l.floor child.bound) (take l.child-index l.children)
+abbrev pub invariant-children : goal.invariant-children
+invariant-children l = AreCopies l.floor (take l.child-index l.children) l.kept.items

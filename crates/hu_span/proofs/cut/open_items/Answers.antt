@@ -5,7 +5,7 @@ use Rattle.std.proofs.lemmas.List.{take_all}
 use Rattle.hu_chain.specs.declared.chain.Growth.TheVariants.{IntoLast}
 use Rattle.hu_span.specs.declared.child.Child.{Child}
 use Rattle.hu_span.specs.declared.step.Step.{Step}
-use Rattle.hu_span.proofs.OpenLemmas.{open-if, open-next, AreSoFar}
+use Rattle.hu_span.proofs.OpenLemmas.{open-all, open-next, AreSoFar}
 use Rattle.hu_span.proofs.cut.open_items.Goals as goal
 
 pub children-init : goal.children-init
@@ -30,7 +30,7 @@ children-preserved c =
 pub returns : goal.returns
 returns c =
     let floor = to_z-of_z w128 c.args.floor c.ranges.floor in
-    open-if c.args.steps.now c.args.children.now c.args.reaches.now c.args.floor c.children.items.items c.children.child-index c.of.result
+    open-all c.args.steps.now c.args.children.now c.args.reaches.now c.args.floor c.children.items.items c.children.child-index c.in_ok-kept.kept
     (take_all c.children.child-index c.args.children.now (omega (arith, c.children-test.false)))
     (subst (λ f. AreSoFar c.args.steps.now c.args.children.now c.args.reaches.now f c.children.items.items c.children.child-index) floor c.children.invariant)
-    c.of.ensures.known c.of.ensures.all
+    c.in_ok-kept.ensures.known c.in_ok-kept.ensures.all

@@ -6,7 +6,7 @@ use Rattle.hu_kind.proofs.lemmas.Each.{each-push}
 use Rattle.hu_kind.specs.Sequence.{IsSequence}
 use Rattle.hu_chain.specs.Place.{totals}
 use Rattle.hu_span.specs.Gather.{walk_marks}
-use Rattle.hu_span.specs.Kept.{keeps, takes, weighed_in, weighed_of}
+use Rattle.hu_span.specs.Kept.{keeps, takes, weighed, weighed_in, weighed_of}
 use Rattle.hu_span.proofs.MarkLemmas.{filter-append}
 use Rattle.hu_span.proofs.WeighedLemmas.{weighed-rules, weighed-sequence}
 use Rattle.hu_span.proofs.GatherLemmas.{first_from}
@@ -24,12 +24,17 @@ push_walk-requires-clause-walk c =
     let w = weighed_in keep r in
     let rules = weighed-sequence keep r c.elements-elements.ensures.rules in
     let seen = ap (weighed_in keep) c.elements-elements.ensures.value in
-    let all = c.totals.ensures ∙ ap totals seen in
+    let gone = ap totals (drop-past (weighed_in keep c.elements-elements.result.now) (length c.elements-elements.result.now) (omega (
+      arith,
+      length-map c.elements-elements.result.now (weighed keep),
+    ))) in
+    let summed : c.between.result ≡ totals (weighed_in keep c.elements-elements.result.now) = omega (arith, ints, gone, c.between.ensures) in
+    let all = summed ∙ ap totals seen in
     let low = low-later w rules 0 in
     let fits = totals-fit w rules in
-    let kept = kept-z c.totals.result (omega (arith, ints, all, low)) (omega (arith, ints, all, fits)) in
+    let kept = kept-z c.between.result (omega (arith, ints, all, low)) (omega (arith, ints, all, fits)) in
     record {
-      ahead = kept ∙ c.totals.ensures;
+      ahead = kept ∙ summed;
       best = omega (arith, ints);
       fits = omega (arith, ints, kept, all, fits);
       left = tt;
@@ -44,10 +49,15 @@ records-preserved c =
     let w = weighed_in keep r in
     let rules = weighed-sequence keep r c.elements-elements.ensures.rules in
     let seen = ap (weighed_in keep) c.elements-elements.ensures.value in
-    let all = c.totals.ensures ∙ ap totals seen in
+    let gone = ap totals (drop-past (weighed_in keep c.elements-elements.result.now) (length c.elements-elements.result.now) (omega (
+      arith,
+      length-map c.elements-elements.result.now (weighed keep),
+    ))) in
+    let summed : c.between.result ≡ totals (weighed_in keep c.elements-elements.result.now) = omega (arith, ints, gone, c.between.ensures) in
+    let all = summed ∙ ap totals seen in
     let low = low-later w rules 0 in
     let fits = totals-fit w rules in
-    let kept = kept-z c.totals.result (omega (arith, ints, all, low)) (omega (arith, ints, all, fits)) in
+    let kept = kept-z c.between.result (omega (arith, ints, all, low)) (omega (arith, ints, all, fits)) in
     let rs = weighed_of keep records in
     let size = length-map records (weighed_in keep) in
     let within : row < length rs = omega (arith, size, c.records-test.true) in

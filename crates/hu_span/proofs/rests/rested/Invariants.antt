@@ -1,7 +1,10 @@
-use Rattle.std.proofs.Common.{◌≡◌, map, take}
-use Rattle.hu_span.specs.Kept.{keeps, weighed_of}
-use Rattle.hu_span.proofs.RestLemmas.{rested_mark}
+use Rattle.std.proofs.Common.{length}
+use Rattle.hu_span.specs.Kept.{keeps}
+use Rattle.hu_span.proofs.RestLemmas.{AreRested}
 use Rattle.hu_span.proofs.rests.rested.Given as goal
 
+abbrev pub decreases-marks : goal.decreases-marks
+decreases-marks l = length l.left
+
 abbrev pub invariant-marks : goal.invariant-marks
-invariant-marks l = l.rested.items ≡ map (rested_mark (weighed_of (keeps l.kept) l.records)) (take l.mark-index l.marks)
+invariant-marks l = AreRested l.records (keeps l.kept) l.marks l.left l.rested.items l.known

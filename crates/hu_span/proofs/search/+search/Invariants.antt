@@ -11,10 +11,10 @@ decreases-deepen g l = 2 * (4097 - length l.steps.now.items) + 1
 abbrev pub decreases-enter : goal.decreases-enter
 decreases-enter g l = 2 * (4097 - length l.steps.now.items)
 
-abbrev pub invariant-deepen-children : goal.invariant-deepen-children
-invariant-deepen-children g l = record {
+abbrev pub invariant-deepen-branches : goal.invariant-deepen-branches
+invariant-deepen-branches g l = record {
   steps : l.steps.items ≡ l.fn.steps.items;
   rows : length l.reaches ≡ length l.records;
   made : IsSoFar (g.C.Collect.state l.fn.collect) (g.C.Collect.state l.collect) (weighed_of (keeps l.kept) l.records) (keeps l.kept)
-      (pattern_of l.fn.steps.items) l.child-items l.child-index;
+      (pattern_of l.fn.steps.items) l.branch-items l.branch-index;
 }

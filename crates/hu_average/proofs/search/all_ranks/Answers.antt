@@ -1,0 +1,41 @@
+use Rattle.std.proofs.Common.{◌≡◌, ℕ, ◌+◌, ◌<◌, ◌++◌, List, [], ◌∷◌, length, inl, inr, ap, ◌∙◌, sym, subst, arith}
+use Rattle.std.specs.List.{AllByRecursion}
+use Rattle.std.proofs.lemmas.Bool.{cases_lt}
+use Rattle.std.proofs.lemmas.List.{length-append}
+use Rattle.hu_kind.specs.Order.{Ascend}
+use Rattle.hu_kind.proofs.lemmas.Each.{each-push, each-append, each-weaker}
+use Rattle.hu_kind.proofs.lemmas.Members.{Member, Member-append_left, Member-append_right}
+use Rattle.hu_average.specs.Children.{IsLater}
+use Rattle.hu_average.proofs.search.all_ranks.Goals as goal
+
+ascend-push : (xs : List ℕ) (z : ℕ) → Ascend xs → AllByRecursion (λ x. x < z) xs → Ascend (xs ++ z ∷ [])
+ascend-push [] z up below = (tt, tt)
+ascend-push (x ∷ xs) z up below = (each-append (λ y. x < y) xs (z ∷ []) up.0 (below.0, tt), ascend-push xs z up.1 below.1)
+
+pub loop-rank-preserved : goal.loop-rank-preserved
+loop-rank-preserved c =
+    let z = c.loop-rank.rank in
+    let was = c.loop-rank.invariant in
+    let old = c.loop-rank.ranks.items in
+    let pushed : c.push.new.self.items ≡ old ++ z ∷ [] = c.in_ok-push.ensures.items in
+    let len = was.len in
+    record {
+      len = ap length pushed ∙ length-append old (z ∷ []) ∙ ap (λ n. n + 1) len;
+      below = subst (AllByRecursion (λ x. x < z + 1)) (sym pushed)
+          (each-push (λ x. x < z + 1) old z (each-weaker (λ x. x < z) (λ x. x < z + 1) old (λ x low. omega (arith, low)) was.below) (omega arith));
+      ascending = subst Ascend (sym pushed) (ascend-push old z was.ascending was.below);
+      whole = λ x low. subst (Member x) (sym pushed) (elim (cases_lt x z) [
+        | inl l ↦ Member-append_left x old (z ∷ []) (was.whole x l)
+        | inr g ↦ Member-append_right x old (z ∷ []) (inl (omega (arith, low, g)))
+      ]);
+    }
+
+pub returns-clause-later : goal.returns-clause-later
+returns-clause-later c =
+    let was = c.loop-rank.invariant in
+    let n = length c.args.ranked.now.items in
+    record {
+      each = each-weaker (λ z. z < c.loop-rank.rank) (IsLater c.args.ranked.now []) c.loop-rank.ranks.items
+          (λ z low. record { ascending = (tt, tt); in_table = (omega (arith, low, c.loop-rank.auto.rank-end, c.len-rank-end.ensures.value), tt) }) was.below;
+      ascending = was.ascending;
+    }

@@ -1,0 +1,145 @@
+-- Branches: children with places of their own, in the order of their falling bounds.
+use Rattle.std.proofs.Common.{◌≡◌, ℕ, zero, suc, ◌+◌, ◌<◌, ◌≤◌, Bool, true, false, ℤ, ◌≤ℤ◌, ◌<ℤ◌, int_le, List, [], ◌∷◌, length, get_or, take, drop}
+use Rattle.std.proofs.Common.{sym, ap, ◌∙◌, subst, inl, inr, arith, Contains, IsPermutation}
+use Rattle.std.specs.declared.cmp.Ordering.TheVariants.{Less}
+use Rattle.std.specs.Cmp.{int_cmp_is, IsStrictWeakOrder}
+use Rattle.std.specs.List.{AllByRecursion}
+use Rattle.std.specs.List.Sorted.{IsSortedBy}
+use Rattle.std.specs.Ordering.{int_cmp, is_lt, flip_args}
+use Rattle.std.proofs.lemmas.Cmp.{back_total, int_cmp_total}
+use Rattle.std.proofs.lemmas.Int.{ints, by_lt_z}
+use Rattle.std.proofs.lemmas.List.Elements.{Contains-append_left, Contains-push, Contains-push_cases}
+use Rattle.std.proofs.lemmas.List.Sorted.{ranks_by, sorted_far, Contains-permutation, IsPermutation-sym}
+use Rattle.hu_kind.specs.Sequence.{sequence_support, sequence_utility}
+use Rattle.hu_kind.proofs.lemmas.Members.{Member}
+use Rattle.hu_kind.proofs.lemmas.Occurring.{at_member}
+use Rattle.hu_collect.proofs.lemmas.Searching.{empty-contains}
+use Rattle.hu_chain.specs.Grown.{IsGrownFrom}
+use Rattle.hu_span.specs.declared.child.Branch.{Branch}
+use Rattle.hu_span.specs.declared.child.Child.{Child}
+use Rattle.hu_span.specs.declared.step.Step.{Step}
+use Rattle.hu_span.specs.Branch.{AreCopies, Fall, IsBranch, IsCopy, IsPushed}
+use Rattle.hu_span.specs.Child.{stepped, ArePlaces, IsChild}
+use Rattle.hu_span.specs.Gather.{MayTake}
+use Rattle.hu_span.specs.Growing.{Records}
+use Rattle.hu_span.proofs.Fronts.{contains-before, contains-here, contains-cases}
+
+-- what is true of a child is true of its branch
+pub branch-of : (records : Records) (keep : ℕ → Bool) (pattern : List (List ℕ)) (child : Child) (branch : Branch) → IsChild records keep pattern child
+    → IsCopy child branch → IsBranch records keep pattern branch
+branch-of records keep pattern child branch is copy = record {
+  may = subst (λ (s : Step). MayTake s.growth pattern s.item.0) (sym copy.step) is.may;
+  kept = subst (λ (s : Step). keep s.item.0 ≡ true) (sym copy.step) is.kept;
+  places = subst (λ (s : Step). ArePlaces records (stepped pattern s) s.item.0 branch.marks.items) (sym copy.step)
+      (subst (ArePlaces records (stepped pattern child.step) child.step.item.0) (sym copy.marks) is.places);
+  occurs = subst (λ (s : Step). 0 < sequence_support records (stepped pattern s)) (sym copy.step) is.occurs;
+  bound = λ other from. subst (λ b. sequence_utility records other ≤ℤ b) (sym copy.bound)
+      (is.bound other (subst (λ (s : Step). IsGrownFrom (stepped pattern s) other) copy.step from));
+}
+
+-- ---- branches, child by child
+
+pub copies-none : (floor : ℤ) → AreCopies floor [] []
+copies-none floor = record { each = λ branch c. absurd (empty-contains branch c); all = λ child c. absurd (empty-contains child c) }
+
+pub copies-next : (floor : ℤ) (children : List Child) (kept new : List Branch) (i : ℕ) (d : Child) (is_kept : Bool) → i < length children
+    → AreCopies floor (take i children) kept → is_kept ≡ int_le floor (get_or children i d).bound
+    → IsPushed is_kept kept new (get_or children i d) → AreCopies floor (take (i + 1) children) new
+copies-next floor children kept new i d true within so_far reaches pushed = record {
+  each = λ branch c. elim (Contains-push_cases kept pushed.0 branch (subst (λ bs. Contains bs branch) pushed.1 c)) [
+    | inl before ↦ let from = so_far.each branch before in (from.0, contains-before children i d within from.0 from.1, from.2)
+    | inr same ↦ (get_or children i d, contains-here children i d within, subst (IsCopy (get_or children i d)) same pushed.2)
+  ];
+  all = λ child c. elim (contains-cases children i d within child c) [
+    | inl before ↦ elim (so_far.all child before) [
+      | inl has ↦ inl (record {
+        branch = has.branch;
+        among = subst (λ bs. Contains bs has.branch) (sym pushed.1) (Contains-append_left kept (pushed.0 ∷ []) has.branch has.among);
+        is = has.is;
+      })
+      | inr low ↦ inr low
+    ]
+    | inr same ↦ inl (record {
+      branch = pushed.0;
+      among = subst (λ bs. Contains bs pushed.0) (sym pushed.1) (Contains-push kept pushed.0);
+      is = subst (λ other. IsCopy other pushed.0) same pushed.2;
+    })
+  ];
+}
+copies-next floor children kept new i d false within so_far reaches pushed = record {
+  each = λ branch c.
+      let from = so_far.each branch (subst (λ bs. Contains bs branch) pushed c) in
+      (from.0, contains-before children i d within from.0 from.1, from.2);
+  all = λ child c. elim (contains-cases children i d within child c) [
+    | inl before ↦ elim (so_far.all child before) [
+      | inl has ↦ inl (record { branch = has.branch; among = subst (λ bs. Contains bs has.branch) (sym pushed) has.among; is = has.is })
+      | inr low ↦ inr low
+    ]
+    | inr same ↦ inr (subst (λ (other : Child). other.bound <ℤ floor) same (below floor (get_or children i d).bound reaches))
+  ];
+}
+  where
+    below : (a b : ℤ) → false ≡ int_le a b → b <ℤ a
+    below a b e = grind (arith, ints)
+
+pub copies-permuted : (floor : ℤ) (children : List Child) (kept new : List Branch) → AreCopies floor children kept → IsPermutation kept new
+    → AreCopies floor children new
+copies-permuted floor children kept new copies same = record {
+  each = λ branch c. copies.each branch (Contains-permutation new kept branch (IsPermutation-sym kept new same) c);
+  all = λ child c. elim (copies.all child c) [
+    | inl has ↦ inl (record { branch = has.branch; among = Contains-permutation kept new has.branch same has.among; is = has.is })
+    | inr low ↦ inr low
+  ];
+}
+
+-- ---- best bound first
+
+-- whether a branch stands before another: its bound is greater
+abbrev pub stands_before : Branch → Branch → Bool
+stands_before a b = is_lt (flip_args int_cmp a.bound b.bound)
+
+pub stands_before_order : IsStrictWeakOrder stands_before
+stands_before_order = ranks_by (back_total int_cmp_total) (λ (branch : Branch). branch.bound)
+
+not_before : (a b : Branch) → stands_before b a ≡ false → b.bound ≤ℤ a.bound
+not_before a b h = by_lt_z a.bound b.bound
+    (λ less. absurd (let is : Less ≡ int_cmp a.bound b.bound = int_cmp_is a.bound b.bound Less less in let yes : true ≡ false = ap is_lt is ∙ h in cc))
+    (λ le. le)
+
+FallsTo : ℤ → List Branch → Type 0
+FallsTo bound branches = AllByRecursion (λ later. later.bound ≤ℤ bound) branches
+
+falls_to : (bound : ℤ) (branches : List Branch) → ((k : ℕ) (d : Branch) → k < length branches → (get_or branches k d).bound ≤ℤ bound) → FallsTo bound branches
+unfolding FallsTo
+falls_to bound [] each = tt
+falls_to bound (c ∷ cs) each = (each 0 c (omega arith), falls_to bound cs (λ k d within. each (suc k) d (omega arith)))
+
+fall-far : (branches : List Branch) → ((i j : ℕ) (d : Branch) → i ≤ j → j < length branches → (get_or branches j d).bound ≤ℤ (get_or branches i d).bound)
+    → Fall branches
+unfolding FallsTo
+fall-far [] far = tt
+fall-far (c ∷ cs) far = (
+  falls_to c.bound cs (λ k d within. far 0 (suc k) d (omega arith) (omega arith)),
+  fall-far cs
+      (λ i j d upto within. far (suc i) (suc j) d (omega arith) (omega arith)),
+)
+
+pub fall-sorted : (branches : List Branch) → IsSortedBy stands_before branches → Fall branches
+fall-sorted branches up =
+    fall-far branches (λ i j d upto within. not_before (get_or branches i d) (get_or branches j d)
+    (sorted_far stands_before stands_before_order branches up i j d upto within))
+
+-- a later one is no greater
+pub fall-later : (branches : List Branch) (i : ℕ) (d branch : Branch) → Fall branches → Member branch (drop i branches)
+    → branch.bound ≤ℤ (get_or branches i d).bound
+fall-later [] zero d branch fall m = absurd m
+fall-later [] (suc i) d branch fall m = absurd m
+fall-later (b ∷ bs) zero d branch fall (inl e) = subst (λ other. other.bound ≤ℤ b.bound) e (omega (arith, ints))
+fall-later (b ∷ bs) zero d branch fall (inr m) = at_member (λ later. later.bound ≤ℤ b.bound) branch bs fall.0 m
+fall-later (b ∷ bs) (suc i) d branch fall m = fall-later bs i d branch fall.1 m
+
+pub fall-past : (branches : List Branch) (i : ℕ) (branch : Branch) → length branches ≤ i → Member branch (drop i branches) → ⊥
+fall-past [] zero branch past m = m
+fall-past [] (suc i) branch past m = m
+fall-past (b ∷ bs) zero branch past m = absurd (omega arith)
+fall-past (b ∷ bs) (suc i) branch past m = fall-past bs i branch (omega arith) m
