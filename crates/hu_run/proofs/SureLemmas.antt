@@ -122,7 +122,7 @@ pub done_in_memory : NamedFilesNeverFail → RoomySinksNeverFail → IsDoneInMem
 done_in_memory reads puts words files files_after out out_after err err_after status untroubled runs =
     ends_as_told s status runs
     (known_ok (job words) _ (λ asked is name among.
-    reads files files_after name untroubled.no_failing_get (if_of_ok (job words) asked _ is untroubled.there name among) runs.files_plan runs.contents))
+    reads files files_after name untroubled.no_failing_get (if_of_ok (job words) asked _ is untroubled.there name among) runs.spares.files_plan runs.spares.contents))
     (known_ok (job words) _ (λ asked is. known_some _ _ (λ e comes.
     unbroken e (of_some _ e _ comes (if_of_ok (job words) asked _ is untroubled.room)))))
   where

@@ -4,7 +4,8 @@ use Rattle.hu_input.specs.Names.{texts_of}
 use Rattle.hu_run.specs.Job.{job, asked_of, names_of, files_of}
 use Rattle.hu_run.specs.Answer.{text_of}
 use Rattle.hu_io.specs.State.{Appended}
-use Rattle.hu_run.proofs.EndLemmas.{err_of, has-text, names-of-texts}
+use Rattle.hu_run.proofs.EndLemmas.{has-text, names-of-texts}
+use Rattle.hu_run.proofs.ResultLemmas.{err_of}
 use Rattle.hu_run.proofs.top.attempt.Goals as goal
 
 pub returns-in_err-job-clause-ends : goal.returns-in_err-job-clause-ends
