@@ -1,6 +1,5 @@
 -- The lemmas that proofs of other crates may cite.
 pub mod Ranked
-pub mod EntryOrder
 pub mod Answers
 pub mod Fronts
 pub mod Sums

@@ -8,27 +8,11 @@ use Rattle.std.specs.BTreeSet.{insert_key}
 use Rattle.std.proofs.lemmas.Map.Lookups.{CmpEqualImpliesEq, exact_unsigned, exact_signed}
 use Rattle.hu_kind.specs.declared.entry.Entry.{Entry}
 use Rattle.hu_kind.specs.Order.{ranking}
-use Rattle.hu_kind.proofs.lemmas.Members.{Member, Member-append_left, Member-append_right, Member-append_cases}
-use Rattle.hu_kind.proofs.lemmas.RankingLemmas.{IsExactOrder}
-use Rattle.hu_answer.proofs.lemmas.EntryOrder.{entry-same}
+use Rattle.hu_kind.proofs.lemmas.Members.{Member}
+use Rattle.hu_kind.proofs.lemmas.RankingLemmas.{IsExactOrder, ranking-append_comm}
+use Rattle.hu_kind.proofs.lemmas.EntryOrder.{then_equal, exact_key, entry-same}
 use Rattle.hu_answer.proofs.lemmas.Ranked.{Member-ranked, Member-from_ranked, sorted-ranked, sorted-same}
 use Rattle.hu_average.specs.Order.{average_cmp, average_cmp_total, times-eq_cancel}
-
--- both of two comparisons in turn answer `Equal` where they do together
-then_equal : (a b : Ordering) → ordering_then a b ≡ Equal → (a ≡ Equal) × (b ≡ Equal)
-then_equal Less b h = cc
-then_equal Equal b h = (refl, h)
-then_equal Greater b h = cc
-
-exact_key : CmpEqualImpliesEq (slice_cmp int_cmp)
-exact_key [] [] h = refl
-exact_key [] (y ∷ ys) h = cc
-exact_key (x ∷ xs) [] h = cc
-exact_key (x ∷ xs) (y ∷ ys) h =
-    let both = then_equal (int_cmp x y) (slice_cmp int_cmp xs ys) h in
-    let head = exact_signed x y both.0 in
-    let tail = exact_key xs ys both.1 in
-    cc
 
 average_exact : (a b : Entry) → average_cmp a b ≡ Equal → a ≡ b
 unfolding average_cmp
@@ -56,6 +40,4 @@ ranking-same cmp e xs ys there back = sorted-same cmp e (ranking cmp xs) (rankin
 -- one more element is put in, wherever it stands
 pub ranking-push : {A : Type 0} (cmp : A → A → Ordering) → IsExactOrder cmp → (xs : List A) (x : A)
     → ranking cmp (xs ++ x ∷ []) ≡ insert_key cmp (ranking cmp xs) x
-ranking-push cmp e xs x = ranking-same cmp e (xs ++ x ∷ []) (x ∷ xs)
-    (λ z m. elim (Member-append_cases z xs (x ∷ []) m) [ inl k ↦ inr k | inr k ↦ elim k [ inl s ↦ inl s | inr none ↦ absurd none ] ])
-    (λ z m. elim m [ inl s ↦ Member-append_right z xs (x ∷ []) (inl s) | inr k ↦ Member-append_left z xs (x ∷ []) k ])
+ranking-push cmp e xs x = ranking-append_comm cmp e xs (x ∷ [])

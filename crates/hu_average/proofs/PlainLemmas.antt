@@ -11,7 +11,7 @@ use Rattle.hu_kind.proofs.lemmas.Members.{Member, Member-from_map, Member-filter
 use Rattle.hu_kind.proofs.lemmas.Occurring.{by_members, Occurs-from_member}
 use Rattle.hu_collect.specs.Rule.{rule_of, passes}
 use Rattle.hu_collect.specs.State.{fresh, offered}
-use Rattle.hu_answer.proofs.lemmas.EntryOrder.{entry_order}
+use Rattle.hu_kind.proofs.lemmas.EntryOrder.{entry_order}
 use Rattle.hu_answer.proofs.lemmas.Ranked.{Member-ranked, Member-from_ranked}
 use Rattle.hu_average.specs.Order.{average_cmp, times-suc}
 use Rattle.hu_average.specs.Answer.{reaches, reaching, average_answer}

@@ -27,15 +27,6 @@ impl<T: Drop> From<AllocFailed<T>> for AddFault {
     }
 }
 
-/// Records in order, with the sum of the absolute values of all their utilities, which is at most 2^127 - 1. It may
-/// carry the sum of records accepted earlier. It is seen as the carried sum and the list of the records.
-#[derive(Drop)]
-pub struct Base<R: Absolute> {
-    carried: i128,
-    sum: i128,
-    records: Vec<R>,
-}
-
 impl From<AllocError> for AddFault {
     ghost use Rattle.hu_base.specs.declared.base.AddFault.TheVariants.{NoMemory};
 
@@ -44,6 +35,25 @@ impl From<AllocError> for AddFault {
     fn from(_error: AllocError) -> AddFault {
         AddFault::NoMemory
     }
+}
+
+impl From<NoMemory> for AddFault {
+    ghost use Rattle.hu_base.specs.declared.base.AddFault.TheVariants.{NoMemory};
+
+    ghost from_gives = { λ _ e. e ≡ NoMemory };
+
+    fn from(_fault: NoMemory) -> AddFault {
+        AddFault::NoMemory
+    }
+}
+
+/// Records in order, with the sum of the absolute values of all their utilities, which is at most 2^127 - 1. It may
+/// carry the sum of records accepted earlier. It is seen as the carried sum and the list of the records.
+#[derive(Drop)]
+pub struct Base<R: Absolute> {
+    carried: i128,
+    sum: i128,
+    records: Vec<R>,
 }
 
 impl<R: Absolute> Model for Base<R> {

@@ -24,7 +24,7 @@ use Rattle.hu_proof.specs.Bounds.{cut_bound, stands_with}
 use Rattle.hu_proof.specs.declared.fault.CheckFault.TheVariants.{WrongMinimum, WrongOrder}
 use Rattle.hu_proof.specs.Check.{root, walk, is_order, order_fault, minimum_fault, from_minimum}
 use Rattle.hu_proof.specs.Text.{minimum_of, order_of}
-use Rattle.hu_seq.proofs.lemmas.Numerals.{Lacks}
+use Rattle.hu_kind.proofs.lemmas.Written.{Lacks}
 use Rattle.hu_totals.specs.Ranked.{by_twu, cells_from}
 use Rattle.hu_totals.proofs.lemmas.SortedLists.{Once, Member-from_ranking, Member-to_ranking, ranking-members}
 use Rattle.hu_totals.proofs.lemmas.WeightLemmas.{by_twu_exact}

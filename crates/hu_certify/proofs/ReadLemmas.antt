@@ -16,8 +16,8 @@ use Rattle.hu_kind.proofs.lemmas.Each.{each-append}
 use Rattle.hu_proof.specs.Text.{pieces, has_idle_zero, plain_number, plain_signed, item_in, plain_item, each, and_more}
 use Rattle.hu_proof.specs.Text.{words, minimum_of, order_of, token_of, token_from, said_of, said_in, said_by}
 use Rattle.hu_seq.proofs.lemmas.Cuts.{slice_split-append, split-whole}
-use Rattle.hu_seq.proofs.lemmas.Numerals.{Lacks, IsWritten, written-decimal, written-signed_decimal, number-decimal}
-use Rattle.hu_seq.proofs.lemmas.Numerals.{signed_number-signed_decimal, decimal-begins}
+use Rattle.hu_kind.proofs.lemmas.Written.{Lacks, IsWritten, written-decimal, written-signed_decimal, number-decimal}
+use Rattle.hu_kind.proofs.lemmas.Written.{signed_number-signed_decimal, decimal-begins}
 use Rattle.hu_certify.specs.Text.{bound_text, token_text, tokens_text, prefix_text, spaced, minimum_line, order_line, lines_text}
 use Rattle.hu_certify.proofs.AcceptLemmas.{said_from}
 

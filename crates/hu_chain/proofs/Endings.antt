@@ -6,7 +6,7 @@ use Rattle.std.proofs.lemmas.Int.{ints, clamps}
 use Rattle.hu_kind.specs.Record.{holds, values_of}
 use Rattle.hu_kind.specs.Sequence.{better, best_utility}
 use Rattle.hu_chain.specs.Pattern.{earlier, last_itemset, Ends}
-use Rattle.hu_chain.proofs.Better.{better-none, better-assoc, better-swap, map-better}
+use Rattle.hu_kind.proofs.lemmas.Better.{better-none, better-assoc, better-swap, map-better}
 use Rattle.hu_chain.proofs.lemmas.Patterns.{pattern-split}
 
 -- the best utility of some itemsets before an element, and one more in it

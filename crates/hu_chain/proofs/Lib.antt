@@ -1,5 +1,4 @@
 pub mod lemmas
-pub mod Better
 pub mod Endings
 pub mod Places
 pub mod Finding

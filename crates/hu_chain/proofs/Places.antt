@@ -8,7 +8,7 @@ use Rattle.hu_chain.specs.declared.place.Place.{Place}
 use Rattle.hu_chain.specs.Pattern.{earlier, last_item, last_itemset, Ends}
 use Rattle.hu_chain.specs.Place.{cell_of, chain_of, element_at, place_at, places_from, totals}
 use Rattle.hu_chain.specs.Bound.{best_of}
-use Rattle.hu_chain.proofs.Better.{better-none, better-assoc}
+use Rattle.hu_kind.proofs.lemmas.Better.{better-none, better-assoc}
 use Rattle.hu_chain.proofs.Endings.{ended, best_utility-more, best_utility-nowhere}
 
 -- the elements of a sequence before one, it, and those after it

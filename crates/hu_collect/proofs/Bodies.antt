@@ -19,9 +19,9 @@ use Rattle.hu_kind.specs.Order.{entry_cmp, entry_cmp_total, ranking}
 use Rattle.hu_collect.specs.Rule.{rule_of, passes, made, IsKept, last_utility, floor_of, floor_by}
 use Rattle.hu_collect.specs.State.{State}
 use Rattle.hu_collect.specs.Top.{IsTop}
-use Rattle.hu_collect.proofs.Ranking.{ranking-same_members}
-use Rattle.hu_collect.proofs.lemmas.Cutting.{ranking-sorted, cut-ranking-in_turn}
-use Rattle.hu_collect.proofs.lemmas.Entries.{entry_order, entry_exact}
+use Rattle.hu_kind.proofs.lemmas.RankingLemmas.{ranking-same_members, ranking-sorted}
+use Rattle.hu_collect.proofs.lemmas.Cutting.{cut-ranking-in_turn}
+use Rattle.hu_kind.proofs.lemmas.EntryOrder.{entry_order, entry_exact}
 use Rattle.hu_collect.proofs.lemmas.Floor.{floor_by-start}
 use Rattle.hu_collect.proofs.lemmas.Made.{leaves_below_floor, made-passing, made-not_passing, by_passing, start-passes, kept-made, keeps_floor}
 

@@ -1,6 +1,5 @@
 -- The lemmas that proofs of other crates may cite.
 pub mod Cutting
-pub mod Entries
 pub mod Floor
 pub mod Made
 pub mod Searching

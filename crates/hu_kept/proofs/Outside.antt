@@ -21,7 +21,7 @@ use Rattle.hu_kind.specs.Answer.{answer, found}
 use Rattle.hu_kind.proofs.lemmas.Members.{Contains-from_member, Member, Member-filter, Member-from_contains, Member-from_filter, Member-from_map, Member-map}
 use Rattle.hu_kind.proofs.lemmas.Occurring.{by_members}
 use Rattle.hu_collect.proofs.lemmas.Cutting.{sorted-cut, sorted-ranking}
-use Rattle.hu_collect.proofs.lemmas.Entries.{entry_exact, entry_order}
+use Rattle.hu_kind.proofs.lemmas.EntryOrder.{entry_exact, entry_order}
 use Rattle.hu_collect.proofs.lemmas.Floor.{utility-before}
 use Rattle.hu_totals.proofs.lemmas.SortedLists.{Member-from_ranking, Member-to_ranking}
 use Rattle.hu_kept.specs.Kept.{Keeping, answer_of, patterns_of, with_batch}

@@ -1,11 +1,14 @@
 -- The lemmas that proofs of other crates may cite.
 pub mod Ascending
+pub mod Better
 pub mod CellsLemmas
 pub mod Each
 pub mod Earned
+pub mod EntryOrder
 pub mod FirstLemmas
 pub mod Members
 pub mod Numerals
 pub mod Occurring
 pub mod RankingLemmas
 pub mod RecordLemmas
+pub mod Written

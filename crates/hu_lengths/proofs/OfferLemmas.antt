@@ -13,7 +13,7 @@ use Rattle.hu_totals.proofs.lemmas.RankingRules.{All-from_each}
 use Rattle.hu_totals.proofs.lemmas.SortedLists.{Member-from_ranking, Member-to_ranking}
 use Rattle.hu_kind.proofs.lemmas.Occurring.{by_members}
 use Rattle.hu_collect.specs.State.{State, offered, floor_in, IsInOrder, OfferedSome, Mines}
-use Rattle.hu_collect.proofs.lemmas.Entries.{entry_exact}
+use Rattle.hu_kind.proofs.lemmas.EntryOrder.{entry_exact}
 use Rattle.hu_collect.proofs.lemmas.Searching.{offered-then, offered-reaching}
 use Rattle.hu_lengths.specs.Lengths.{has_length, of_lengths, upto_length, sized_answer}
 

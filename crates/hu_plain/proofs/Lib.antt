@@ -7,7 +7,6 @@ pub mod RowLemmas
 pub mod Parts
 pub mod GrownLemmas
 pub mod SearchLemmas
-pub mod Better
 pub mod PlaceGrowth
 pub mod Reach
 pub mod Steps

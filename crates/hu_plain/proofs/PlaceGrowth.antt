@@ -8,7 +8,7 @@ use Rattle.hu_kind.specs.Sequence.{better, best_utility}
 use Rattle.hu_kind.specs.Order.{Ascend}
 use Rattle.hu_plain.specs.Row.{Cells, RowOf, grown_row, grown_rows, IsRising}
 use Rattle.hu_plain.specs.Place.{Places, after, best_from, best_of, best_sum, fresh, grown_best, into, itemsets_of, AreAscending}
-use Rattle.hu_plain.proofs.Better.{some_cases, better-none, better-assoc, plus, plus-none, plus-better, better-plus}
+use Rattle.hu_kind.proofs.lemmas.Better.{some_cases, better-none, better-assoc, plus, plus-none, plus-better, better-plus}
 use Rattle.hu_plain.proofs.Cut.{AllAbove, cut}
 
 -- what a set earns in a whole row, with a utility after it

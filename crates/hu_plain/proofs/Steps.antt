@@ -20,7 +20,7 @@ use Rattle.hu_plain.specs.Growth.{closed, grown_support, grown_utility, growth_e
 use Rattle.hu_plain.specs.Place.{PlaceOf, Places, after, all_stepped, begun, best_from, best_of, best_sum, fresh}
 use Rattle.hu_plain.specs.Place.{grown_best, into, itemsets_of, occurs_at, stepped, IsAscending, AreAscending, IsBegun}
 use Rattle.hu_plain.specs.PlaceView.{following, joining, HasSteps}
-use Rattle.hu_plain.proofs.Better.{some_cases, some_left}
+use Rattle.hu_kind.proofs.lemmas.Better.{some_cases, some_left}
 use Rattle.hu_plain.proofs.Cut.{AllAbove}
 use Rattle.hu_plain.proofs.Growth.{IsCut, cut-grown_rows}
 use Rattle.hu_plain.proofs.PlaceGrowth.{grown_best-into, grown_best-after, grown_best-alone, here_or_later}

@@ -17,7 +17,7 @@ use Rattle.hu_kind.proofs.lemmas.Members.{Member-from_filter}
 use Rattle.hu_kind.proofs.lemmas.Occurring.{Member-sublists, Ascend-sublist, each-sublist, at_member, by_members, counted, count-member, holds-members}
 use Rattle.hu_plain.specs.Growth.{grown_support, grown_utility, growth_entry, IsSet, Grows}
 use Rattle.hu_plain.specs.Place.{Places, best_from, first_places, grown_best, itemsets_of}
-use Rattle.hu_plain.proofs.Better.{some_cases, some_left, some_right, some_map}
+use Rattle.hu_kind.proofs.lemmas.Better.{some_cases, some_left, some_right, some_map}
 use Rattle.hu_plain.specs.Row.{Cells, RowOf}
 
 -- the itemsets of a record ascend

@@ -14,7 +14,7 @@ use Rattle.hu_kind.specs.Itemsets.{occurring_sets, item_entry, item_patterns}
 use Rattle.hu_kind.specs.Order.{ranking}
 use Rattle.hu_kind.proofs.lemmas.Members.{Member, Contains-from_member, Member-from_contains, Member-map, Member-from_map, Member-filter, Member-from_filter}
 use Rattle.hu_kind.proofs.lemmas.Occurring.{Occurs, Occurs-from_member, Member-from_occurs, at_member, held-members, Member-ranking, Ascend-ranking}
-use Rattle.hu_answer.proofs.lemmas.EntryOrder.{entry-same}
+use Rattle.hu_kind.proofs.lemmas.EntryOrder.{entry-same}
 use Rattle.hu_collect.specs.Rule.{rule_of, passes}
 use Rattle.hu_collect.proofs.lemmas.Made.{makes_by_passing, start-passes}
 use Rattle.hu_proof.specs.declared.fault.CheckFault.{CheckFault}

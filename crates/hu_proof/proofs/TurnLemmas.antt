@@ -11,7 +11,7 @@ use Rattle.std.proofs.lemmas.List.Splits.{join_with_byte-slice_split, length-sli
 use Rattle.hu_kind.specs.declared.entry.Entry.{Entry}
 use Rattle.hu_collect.specs.State.{State, offered}
 use Rattle.hu_collect.proofs.lemmas.Searching.{offered-then}
-use Rattle.hu_answer.proofs.lemmas.EntryOrder.{entry-same}
+use Rattle.hu_kind.proofs.lemmas.EntryOrder.{entry-same}
 use Rattle.hu_proof.specs.Opened.{prefixes_in, prefix_entry}
 use Rattle.hu_kind.specs.Record.{absolute_of}
 use Rattle.hu_kind.proofs.lemmas.FirstLemmas.{first_skip, first_here, first_alone}

@@ -26,7 +26,7 @@ use Rattle.hu_totals.proofs.lemmas.AddingLemmas.{Once-first_seen, Member-from_fi
 use Rattle.hu_totals.proofs.lemmas.SortedLists.{Once, Member-from_ranking, Member-to_ranking}
 use Rattle.hu_collect.specs.Rule.{Rule, rule_of, passes, made, last_utility, floor_of}
 use Rattle.hu_collect.proofs.lemmas.Cutting.{AllByRecursion-take}
-use Rattle.hu_collect.proofs.lemmas.Entries.{entry_exact}
+use Rattle.hu_kind.proofs.lemmas.EntryOrder.{entry_exact}
 use Rattle.hu_collect.proofs.lemmas.Floor.{floor_by-full}
 use Rattle.hu_collect.proofs.lemmas.Made.{makes_in_turn, makes_by_members, makes_by_reaching, kept-made}
 use Rattle.hu_raise.proofs.NumberLists.{Once-filter}

@@ -10,7 +10,7 @@ use Rattle.std.proofs.lemmas.List.Folds.{list_any_more}
 use Rattle.std.proofs.lemmas.List.Sums.{sum_by-cons}
 use Rattle.hu_kind.specs.Order.{Ascend}
 use Rattle.hu_kind.specs.Record.{has, items_in, gain, positive_part, absolute_of}
-use Rattle.hu_totals.proofs.lemmas.RoomLemmas.{positive_part-within}
+use Rattle.hu_kind.proofs.lemmas.Earned.{positive_part-within}
 use Rattle.hu_raise.specs.Places.{IsOverRanks}
 use Rattle.hu_raise.specs.Sums.{sum_at, gain_at}
 

@@ -11,7 +11,7 @@ use Rattle.hu_kind.specs.Record.{has, holds, gain, absolute_of}
 use Rattle.hu_kind.specs.Database.{twu}
 use Rattle.hu_kind.proofs.lemmas.Members.{Member, Member-from_filter}
 use Rattle.hu_collect.specs.Pairs.{pair_twu}
-use Rattle.hu_totals.proofs.lemmas.RoomLemmas.{gain-within}
+use Rattle.hu_kind.proofs.lemmas.Earned.{gain-within}
 use Rattle.hu_raise.specs.Partners.{partners}
 use Rattle.hu_raise.specs.Places.{places_from}
 use Rattle.hu_raise.specs.Sums.{sum_at, ranks_reaching, gain_at}

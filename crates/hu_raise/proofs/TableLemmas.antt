@@ -11,7 +11,7 @@ use Rattle.std.proofs.lemmas.List.FromFn.{length-map-range_with_len, get_or-map-
 use Rattle.hu_kind.specs.Order.{Ascend}
 use Rattle.hu_kind.specs.Record.{has, holds, gain, items_in}
 use Rattle.hu_kind.proofs.lemmas.Members.{Member, Member-from_filter}
-use Rattle.hu_kind.proofs.lemmas.Occurring.{above_all}
+use Rattle.hu_kind.proofs.lemmas.Ascending.{Ascend-adjacent}
 use Rattle.hu_collect.specs.Pairs.{pair_twu}
 use Rattle.hu_totals.specs.Ranked.{Ranking, IsRanking}
 use Rattle.hu_raise.specs.Partners.{partners, pair_table, RefusesJustLow}
@@ -19,22 +19,6 @@ use Rattle.hu_raise.specs.Places.{IsOverRanks, AreOverRanks}
 use Rattle.hu_raise.proofs.NumberLists.{filter-range_ascends, Member-filter_range}
 
 -- ---- ranked records are over ranks
-
-Ascend-from : (first : ℕ × ℤ) (cells : List (ℕ × ℤ)) → AllAdjacentBelow (λ a b. a.0 < b.0) (first ∷ cells)
-    (length (first ∷ cells)) → Ascend (items_in (first ∷ cells))
-Ascend-from first [] up = (tt, tt)
-Ascend-from first (next ∷ cells) up =
-    let up' : AllAdjacentBelow (λ (a b : ℕ × ℤ). a.0 < b.0) (next ∷ cells) (length (next ∷ cells)) =
-    λ k d within. let e : suc k + 1 ≡ suc (k + 1) =
-    omega arith in subst (λ j. (get_or (next ∷ cells) k d).0 < (get_or (first ∷ next ∷ cells) j d).0) e
-    (up (suc k) d (omega arith)) in
-    let rest = Ascend-from next cells up' in
-    let before : first.0 < next.0 = up 0 first (omega arith) in
-    ((before, above_all first.0 next.0 (items_in cells) before rest.0), rest)
-
-Ascend-adjacent : (cells : List (ℕ × ℤ)) → AllAdjacentBelow (λ a b. a.0 < b.0) cells (length cells) → Ascend (items_in cells)
-Ascend-adjacent [] up = tt
-Ascend-adjacent (first ∷ cells) up = Ascend-from first cells up
 
 each-rank : (n : ℕ) (cells : List (ℕ × ℤ)) → All (λ cell. cell.0 < n) cells → AllByRecursion (λ rank. rank < n) (items_in cells)
 each-rank n [] all = tt

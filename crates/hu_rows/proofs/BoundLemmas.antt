@@ -7,6 +7,7 @@ use Rattle.std.proofs.lemmas.Int.{ints}
 use Rattle.std.proofs.lemmas.List.Sums.{sum_by-cons}
 use Rattle.hu_kind.specs.Order.{Ascend}
 use Rattle.hu_kind.specs.Record.{has, holds, value_of, values_of, items_in, absolute_of, positive_part}
+use Rattle.hu_kind.proofs.lemmas.Earned.{positive_part-upper, positive_part-within}
 use Rattle.hu_kind.proofs.lemmas.Occurring.{above_all}
 use Rattle.hu_rows.specs.Rows.{RowOf, AreRows, over, over_row, ranks_of, size_of}
 use Rattle.hu_rows.specs.Projection.{after}
@@ -16,23 +17,17 @@ use Rattle.hu_rows.proofs.CellLemmas.{holds-after, values_of-after, Ascend-after
 -- ---- positive parts
 
 pub positive-least : (z : ℤ) → pos 0 ≤ℤ positive_part z
-positive-least (pos n) = omega (arith, ints)
-positive-least (negsuc n) = omega (arith, ints)
+positive-least z = (positive_part-upper z).1
 
 pub positive-above : (z : ℤ) → z ≤ℤ positive_part z
-positive-above (pos n) = omega (arith, ints)
-positive-above (negsuc n) = omega (arith, ints)
-
-pub positive-within : (z : ℤ) → unsigned_abs (positive_part z) ≤ unsigned_abs z
-positive-within (pos n) = omega (arith, ints)
-positive-within (negsuc n) = omega (arith, ints)
+positive-above z = (positive_part-upper z).0
 
 part-least : (b : Bool) (z : ℤ) → pos 0 ≤ℤ cond b (positive_part z) (pos 0)
 part-least true z = positive-least z
 part-least false z = omega (arith, ints)
 
 part-within : (b : Bool) (z : ℤ) → unsigned_abs (cond b (positive_part z) (pos 0)) ≤ unsigned_abs z
-part-within true z = positive-within z
+part-within true z = positive_part-within z
 part-within false z = omega (arith, ints)
 
 pub kept_gain-least : (keep : List ℕ) (cells : List (ℕ × ℤ)) → pos 0 ≤ℤ kept_gain keep cells
@@ -169,13 +164,13 @@ BoundsLeast-subtree rows keep setting rules is z set kept =
 -- ---- shares are within the sizes of rows
 
 pub local_share-within : (keep : List ℕ) (row : RowOf) → unsigned_abs (local_share keep row) ≤ size_of row
-local_share-within keep row = omega (arith, ints, positive-within (row.before +ℤ kept_gain keep row.cells), kept_gain-within keep row.cells)
+local_share-within keep row = omega (arith, ints, positive_part-within (row.before +ℤ kept_gain keep row.cells), kept_gain-within keep row.cells)
 
 pub subtree_share-within : (keep : List ℕ) (z : ℕ) (row : RowOf) → unsigned_abs (subtree_share keep z row) ≤ size_of row
 subtree_share-within keep z row = omega (
   arith,
   ints,
-  positive-within (row.before +ℤ value_of z row.cells +ℤ kept_gain keep (after z row.cells)),
+  positive_part-within (row.before +ℤ value_of z row.cells +ℤ kept_gain keep (after z row.cells)),
   kept_gain-within keep (after z row.cells),
   absolute_of-after z row.cells,
 )

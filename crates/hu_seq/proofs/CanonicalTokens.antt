@@ -21,7 +21,7 @@ use Rattle.hu_seq.specs.declared.token.Token.TheVariants.{Cell, ItemsetEnd, Sequ
 use Rattle.hu_seq.specs.Token.{token_of, is_unknown, total_of, cell_of, cell_inside, cell_from}
 use Rattle.hu_seq.proofs.lemmas.Cuts.{tokens-append, tokens-word}
 use Rattle.hu_seq.proofs.lemmas.Firsts.{position-append, position-none, none-any}
-use Rattle.hu_seq.proofs.lemmas.Numerals.{Lacks, written-decimal, written-signed_decimal, number-decimal, signed_number-signed_decimal, decimal-begins}
+use Rattle.hu_kind.proofs.lemmas.Written.{Lacks, written-decimal, written-signed_decimal, number-decimal, signed_number-signed_decimal, decimal-begins}
 
 -- ---- a cell is read
 

@@ -14,7 +14,7 @@ use Rattle.hu_seq.proofs.CanonicalLemmas.{small-sequence, filled-sequence}
 use Rattle.hu_seq.proofs.CanonicalShape.{AreFilled}
 use Rattle.hu_seq.proofs.CanonicalTokens.{IsSmall, AreSmall, begins-append, cell-begins, cell-lacks}
 use Rattle.hu_seq.proofs.lemmas.Firsts.{none-any}
-use Rattle.hu_seq.proofs.lemmas.Numerals.{Lacks, written-decimal, length-item, length-value}
+use Rattle.hu_kind.proofs.lemmas.Written.{Lacks, written-decimal, length-item, length-value}
 
 -- ---- a byte that stands in no text
 

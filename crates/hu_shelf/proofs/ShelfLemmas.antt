@@ -10,7 +10,7 @@ use Rattle.std.proofs.lemmas.List.{length-append}
 use Rattle.std.proofs.lemmas.Int.{ints}
 use Rattle.std.specs.Fmt.{signed_decimal}
 use Rattle.std.specs.Prelude.{IfSome}
-use Rattle.hu_shelf.proofs.NumeralLemmas.{length-decimal}
+use Rattle.hu_kind.proofs.lemmas.Written.{length-item}
 use Rattle.std.proofs.lemmas.List.Sums.{sum_by-append}
 use Rattle.hu_kind.specs.Record.{absolute_of}
 use Rattle.hu_kept.specs.Kept.{Keeping, fresh, with_batch}
@@ -121,10 +121,10 @@ length-word false = omega arith
 
 length-top : (top : Option ℕ) → IfSome top (λ k. k ≤ 1000000) → length (top_word top) ≤ 39
 length-top None few = omega arith
-length-top (Some k) few = length-decimal k (omega (arith, few))
+length-top (Some k) few = length-item k (omega (arith, few))
 
 length-least : (least : ℤ) → pos 1 ≤ℤ least → unsigned_abs least < 2 ^ 127 → length (signed_decimal least) ≤ 39
-length-least (pos n) low small = length-decimal n small
+length-least (pos n) low small = length-item n small
 length-least (negsuc n) low small = absurd (omega (arith, ints))
 
 fresh_short : (s : Keeping) → s.records ≡ [] → pos 1 ≤ℤ s.least → unsigned_abs s.least < 2 ^ 127

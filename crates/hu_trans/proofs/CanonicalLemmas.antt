@@ -27,7 +27,8 @@ use Rattle.hu_trans.specs.Reading.{not_three_parts, bad_number, reading, judged}
 use Rattle.hu_trans.specs.Canonical.{canonical_line}
 use Rattle.hu_trans.proofs.JudgedLemmas.{AreFine, sum_faults, judged-sums, item_faults-none, sum_faults-none}
 use Rattle.hu_trans.proofs.NumbersLemmas.{bad_from, bad_token-bad_from}
-use Rattle.hu_trans.proofs.NumeralLemmas.{Lacks, IsToken, number-decimal, signed_number-signed_decimal, IsToken-decimal, IsToken-signed_decimal}
+use Rattle.hu_kind.proofs.lemmas.Written.{number-decimal, signed_number-signed_decimal}
+use Rattle.hu_trans.proofs.NumeralLemmas.{Lacks, IsToken, IsToken-decimal, IsToken-signed_decimal}
 
 -- pieces that are joined by a byte which none of them has are cut at it again
 split-join : (c : ℕ) (pieces : List (List ℕ)) → 0 < length pieces → All (Lacks c) pieces → slice_split (λ b. b == c) (join_with_byte c pieces) ≡ pieces

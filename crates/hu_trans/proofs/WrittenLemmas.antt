@@ -9,7 +9,8 @@ use Rattle.std.proofs.lemmas.List.Elements.{All-nil, All-cons, All-head, All-tai
 use Rattle.hu_kind.specs.Record.{total, IsRecord}
 use Rattle.hu_trans.specs.Canonical.{canonical_line, IsPlainLine}
 use Rattle.hu_trans.proofs.CanonicalLemmas.{values_small, total_within}
-use Rattle.hu_trans.proofs.NumeralLemmas.{Lacks, IsToken-decimal, IsToken-signed_decimal, length-item, length-value, decimal-begins}
+use Rattle.hu_kind.proofs.lemmas.Written.{length-item, length-value, decimal-begins}
+use Rattle.hu_trans.proofs.NumeralLemmas.{Lacks, IsToken-decimal, IsToken-signed_decimal}
 
 feed-join : (c : ℕ) (texts : List (List ℕ)) → (c == 10) ≡ false → All (Lacks 10) texts → Lacks 10 (join_with_byte c texts)
 feed-join c [] other all = All-nil (λ b. (b == 10) ≡ false)

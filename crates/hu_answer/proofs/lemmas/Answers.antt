@@ -11,7 +11,7 @@ use Rattle.hu_kind.proofs.lemmas.Members.{Member, Contains-from_member, Member-f
 use Rattle.hu_kind.proofs.lemmas.Occurring.{Occurs, Occurs-from_member, Member-from_occurs}
 use Rattle.hu_answer.specs.Entries.{IsEntryOf, IsFoundSet}
 use Rattle.hu_answer.specs.Laws.{IsItemAnswer}
-use Rattle.hu_answer.proofs.lemmas.EntryOrder.{entry-same, entry_order}
+use Rattle.hu_kind.proofs.lemmas.EntryOrder.{entry-same, entry_order}
 use Rattle.hu_answer.proofs.lemmas.Ranked.{Member-ranked, Member-from_ranked}
 
 pub true_from_T : (b : Bool) → T b → b ≡ true

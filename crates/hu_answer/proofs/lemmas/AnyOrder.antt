@@ -15,7 +15,7 @@ use Rattle.hu_answer.specs.Entries.{IsEntryOf, IsFoundSet}
 use Rattle.hu_answer.specs.Laws.{ItemsInAnyOrder, ClosedInAnyOrder, SequencesInAnyOrder}
 use Rattle.hu_answer.proofs.lemmas.Answers.{Member-answer, Member-from_answer, is_item_answer}
 use Rattle.hu_answer.proofs.lemmas.Closed.{is_closed_answer}
-use Rattle.hu_answer.proofs.lemmas.EntryOrder.{entry_order, entry-same}
+use Rattle.hu_kind.proofs.lemmas.EntryOrder.{entry_order, entry-same}
 use Rattle.hu_answer.proofs.lemmas.Fronts.{sorted-answer}
 use Rattle.hu_answer.proofs.lemmas.Ranked.{sorted-same}
 use Rattle.hu_answer.proofs.lemmas.Sequences.{patterns_of}

@@ -22,7 +22,7 @@ use Rattle.hu_kind.proofs.lemmas.Members.{Member, Contains-from_member, Member-f
 use Rattle.hu_kind.proofs.lemmas.Occurring.{at_member}
 use Rattle.hu_answer.specs.Laws.{AnswerAscends, StandsOnce, IsFirstOfAnswer, OutsideComesAfter, GreaterTopKeepsFront, HigherMinimumKeepsFront}
 use Rattle.hu_answer.proofs.lemmas.Answers.{true_from_T, Member-answer, Member-from_answer}
-use Rattle.hu_answer.proofs.lemmas.EntryOrder.{entry_order}
+use Rattle.hu_kind.proofs.lemmas.EntryOrder.{entry_order}
 use Rattle.hu_answer.proofs.lemmas.Ranked.{sorted-ranked, sorted-same, not_before_itself}
 
 -- ---- in the one order

@@ -20,7 +20,7 @@ use Rattle.hu_kind.proofs.lemmas.Occurring.{at_member, by_members, each-sublist,
 use Rattle.hu_answer.specs.Entries.{IsSequenceEntryOf, IsFoundSequence}
 use Rattle.hu_answer.specs.Laws.{IsSequenceAnswer}
 use Rattle.hu_answer.proofs.lemmas.Answers.{Member-answer, Member-from_answer}
-use Rattle.hu_answer.proofs.lemmas.EntryOrder.{entry-same}
+use Rattle.hu_kind.proofs.lemmas.EntryOrder.{entry-same}
 use Rattle.hu_answer.proofs.lemmas.Occurrences.{first_utility}
 use Rattle.hu_answer.proofs.lemmas.Tests.{or-left, or-right, all-by_members}
 

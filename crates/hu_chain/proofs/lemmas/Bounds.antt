@@ -19,7 +19,7 @@ use Rattle.hu_chain.specs.Grown.{grown, CanGrow, Leads, IsGrownFrom}
 use Rattle.hu_chain.specs.Place.{cell_of, chain_of, totals}
 use Rattle.hu_chain.specs.Bound.{best_of, extension_bound, greatest, reach, reduced_bound, IsAtMost, IsFit}
 use Rattle.hu_chain.specs.Search.{found, occurs, IsPlain}
-use Rattle.hu_chain.proofs.Better.{better-assoc, map-better}
+use Rattle.hu_kind.proofs.lemmas.Better.{better-assoc, map-better}
 use Rattle.hu_chain.proofs.lemmas.Patterns.{Ends-can_grow, Ends-grown}
 use Rattle.hu_chain.proofs.Endings.{ended, best_utility-more, best_utility-nowhere}
 use Rattle.hu_chain.proofs.Places.{best_of-chain_of, chain_of-places, place_by, place_in, places_in}

@@ -10,7 +10,7 @@ use Rattle.hu_kind.specs.declared.item.Cell.{Cell}
 use Rattle.hu_kind.specs.Cell.{pairs_of, pair_of}
 use Rattle.hu_kind.specs.Record.{any_negative, has, items_in, total, value_of, IsItemset}
 use Rattle.hu_kind.specs.Order.{Ascend}
-use Rattle.hu_kind.proofs.lemmas.Occurring.{above_all}
+use Rattle.hu_kind.proofs.lemmas.Ascending.{Ascend-adjacent}
 use Rattle.hu_chain.specs.Place.{cell_of}
 use Rattle.hu_chain.specs.Search.{cell_in}
 
@@ -88,21 +88,8 @@ cell_of-within item (cell ∷ cells) h = by (cell_of-within item cells) (eqb ite
 
 -- ---- the rules of an itemset
 
-pub Ascend-from : (first : ℕ × ℤ) (cells : List (ℕ × ℤ))
-    → AllAdjacentBelow (λ a b. a.0 < b.0) (first ∷ cells) (length (first ∷ cells)) → Ascend (items_in (first ∷ cells))
-Ascend-from first [] up = (tt, tt)
-Ascend-from first (next ∷ cells) up =
-    let up' : AllAdjacentBelow (λ (a b : ℕ × ℤ). a.0 < b.0) (next ∷ cells) (length (next ∷ cells)) =
-    λ k d within. let e : suc k + 1 ≡ suc (k + 1) =
-    omega arith in subst (λ j. (get_or (next ∷ cells) k d).0 < (get_or (first ∷ next ∷ cells) j d).0) e
-    (up (suc k) d (omega arith)) in
-    let rest = Ascend-from next cells up' in
-    let before : first.0 < next.0 = up 0 first (omega arith) in
-    ((before, above_all first.0 next.0 (items_in cells) before rest.0), rest)
-
 pub Ascend-itemset : (cells : List (ℕ × ℤ)) → IsItemset cells → Ascend (items_in cells)
-Ascend-itemset [] is = tt
-Ascend-itemset (first ∷ cells) is = Ascend-from first cells is.ascending
+Ascend-itemset cells is = Ascend-adjacent cells is.ascending
 
 -- a cell whose value is at least 0
 abbrev pub IsAbove : ℕ × ℤ → Type 0

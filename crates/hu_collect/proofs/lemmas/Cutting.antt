@@ -7,7 +7,7 @@ use Rattle.std.specs.List.Sorted.{IsStrictlySortedBy}
 use Rattle.std.specs.BTreeSet.{insert_key}
 use Rattle.std.proofs.lemmas.List.{take-take}
 use Rattle.hu_kind.specs.Order.{ranking, cut}
-use Rattle.hu_collect.proofs.Ranking.{IsExactOrder, before, same, after, compared, ranking-append_comm}
+use Rattle.hu_kind.proofs.lemmas.RankingLemmas.{IsExactOrder, before, same, after, compared, ranking-append_comm, ranking-sorted}
 
 -- what holds of each element holds after an insertion, and of the first k
 AllByRecursion-insert : {A : Type 0} (P : A → Type 0) (cmp : A → A → Ordering) → IsExactOrder cmp → (xs : List A) (x : A)
@@ -56,16 +56,6 @@ sorted-take cmp (suc k) (x ∷ xs) h = (AllByRecursion-take (λ y. cmp x y ≡ L
 pub sorted-cut : {A : Type 0} (cmp : A → A → Ordering) (limit : Option ℕ) (xs : List A) → IsStrictlySortedBy cmp xs → IsStrictlySortedBy cmp (cut limit xs)
 sorted-cut cmp None xs h = h
 sorted-cut cmp (Some k) xs h = sorted-take cmp k xs h
-
--- a list in order is its own ranking
-insert-first : {A : Type 0} (cmp : A → A → Ordering) (x : A) (xs : List A) → AllByRecursion (λ y. cmp x y ≡ Less) xs → insert_key cmp xs x ≡ x ∷ xs
-insert-first cmp x [] h = refl
-insert-first cmp x (y ∷ ys) h = rw (h.0) refl
-
-pub ranking-sorted : {A : Type 0} (cmp : A → A → Ordering) (xs : List A) → IsStrictlySortedBy cmp xs → ranking cmp xs ≡ xs
-unfolding IsStrictlySortedBy
-ranking-sorted cmp [] h = refl
-ranking-sorted cmp (x ∷ xs) h = rw (ranking-sorted cmp xs h.1) (insert-first cmp x xs h.0)
 
 -- the first k after an insertion need the first k before it alone
 take-cons_take : {A : Type 0} (k : ℕ) (x : A) (xs : List A) → take k (x ∷ take k xs) ≡ take k (x ∷ xs)

@@ -15,9 +15,9 @@ use borrow.Author.Tests.{ltb-true}
 use Rattle.hu_kind.specs.declared.entry.Entry.{Entry}
 use Rattle.hu_kind.specs.Order.{entry_cmp, cut}
 use Rattle.hu_collect.specs.Rule.{last_utility, floor_by}
-use Rattle.hu_collect.proofs.Ranking.{before, same, after, compared}
+use Rattle.hu_kind.proofs.lemmas.RankingLemmas.{before, same, after, compared}
 use Rattle.hu_collect.proofs.lemmas.Cutting.{AllByRecursion-take, AllByRecursion-weaker}
-use Rattle.hu_collect.proofs.lemmas.Entries.{entry_order}
+use Rattle.hu_kind.proofs.lemmas.EntryOrder.{entry_order}
 
 -- an entry of less utility comes later
 pub later-by_utility : (a b : Entry) → a.utility <ℤ b.utility → entry_cmp a b ≡ Greater

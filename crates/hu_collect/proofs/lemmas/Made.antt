@@ -15,9 +15,9 @@ use Rattle.hu_kind.specs.declared.entry.Entry.{Entry}
 use Rattle.hu_kind.specs.Order.{entry_cmp, ranking, cut}
 use Rattle.hu_collect.specs.Rule.{Rule, passes, made, IsKept, floor_of}
 use Rattle.hu_collect.specs.Laws.{MakesInTurn, MakesByMembers, MakesByPassing, MakesByReaching, LeavesBelowFloor, KeepsFloor}
-use Rattle.hu_collect.proofs.Ranking.{ranking-append_comm, ranking-same_members, first_or_later}
-use Rattle.hu_collect.proofs.lemmas.Cutting.{AllByRecursion-weaker, sorted-ranking, sorted-cut, ranking-sorted, cut-cut, cut-ranking-in_turn}
-use Rattle.hu_collect.proofs.lemmas.Entries.{entry_order}
+use Rattle.hu_kind.proofs.lemmas.RankingLemmas.{ranking-append_comm, ranking-same_members, ranking-sorted, first_or_later}
+use Rattle.hu_collect.proofs.lemmas.Cutting.{AllByRecursion-weaker, sorted-ranking, sorted-cut, cut-cut, cut-ranking-in_turn}
+use Rattle.hu_kind.proofs.lemmas.EntryOrder.{entry_order}
 use Rattle.hu_collect.proofs.lemmas.Floor.{floor_by-insert, cut-insert_below}
 
 -- making of one list and then of another is making of both

@@ -1,14 +1,14 @@
 -- What sets and sequences earn in a record, beside what the record gains and what its absolute values sum to.
 use Rattle.std.proofs.Common.{◌≡◌, ℕ, ◌<◌, ◌≤◌, ◌+◌, Bool, true, false, not, cond, eqb, ℤ, pos, negsuc, ◌+ℤ◌, ◌≤ℤ◌}
 use Rattle.std.proofs.Common.{unsigned_abs, Option, None, Some, option_map, unwrap_or, List, [], ◌∷◌, map, filter, refl}
-use Rattle.std.proofs.Common.{sym, ap, subst, inl, inr, arith, sum_by}
+use Rattle.std.proofs.Common.{sym, ap, ◌∙◌, subst, inl, inr, arith, sum_by}
 use Rattle.std.specs.List.{AllByRecursion}
-use Rattle.std.proofs.lemmas.Bool.{eq-eqb, ne_eqb, cases_eq}
+use Rattle.std.proofs.lemmas.Bool.{eq-eqb, ne_eqb, cases_eq, and_parts}
 use Rattle.std.proofs.lemmas.Int.{ints, clamps}
 use Rattle.std.proofs.lemmas.List.Sums.{sum_by-cons}
 use Rattle.hu_kind.specs.declared.entry.Entry.{Entry}
 use Rattle.hu_kind.specs.Order.{Ascend}
-use Rattle.hu_kind.specs.Record.{holds, value_of, values_of, utility_in, positive_part, gain, absolute_of, items_in, IsItemset}
+use Rattle.hu_kind.specs.Record.{has, holds, value_of, values_of, utility_in, positive_part, gain, absolute_of, items_in, IsItemset}
 use Rattle.hu_kind.specs.Database.{utility}
 use Rattle.hu_kind.specs.Itemsets.{sublists, occurring_sets, item_entry}
 use Rattle.hu_kind.specs.Sequence.{better, best_utility, led_by, sequence_utility, sequence_entry, subsequences, IsSequence}
@@ -123,6 +123,12 @@ values_of-within (cell ∷ cells) set up =
     let step = values_of-cell cell cells set up in
     let ih = values_of-within cells (others cell.0 set) (Ascend-others cell.0 set up) in
     omega (arith, ints, step.is, step.within, sum_by-cons (λ (c : ℕ × ℤ). unsigned_abs c.1) cell cells)
+
+-- a record that holds a set has each of its items
+pub has-held : (x : ℕ) (set : List ℕ) (cells : List (ℕ × ℤ)) → holds set cells ≡ true → Member x set → has x cells ≡ true
+has-held x [] cells h m = absurd m
+has-held x (y ∷ ys) cells h (inl e) = ap (λ i. has i cells) (sym e) ∙ (and_parts (has y cells) (holds ys cells) h).0
+has-held x (y ∷ ys) cells h (inr m) = has-held x ys cells (and_parts (has y cells) (holds ys cells) h).1 m
 
 -- ---- a set in a database
 

@@ -1,5 +1,5 @@
 -- Ranking by an order in which equal elements are the same: the members alone decide it.
-use Rattle.std.proofs.Common.{◌≡◌, List, [], ◌∷◌, ◌++◌, refl, sym, ap, ◌∙◌, ◌⊎◌, inl, inr, append-nil, arith}
+use Rattle.std.proofs.Common.{◌≡◌, ◌↔◌, List, [], ◌∷◌, ◌++◌, refl, sym, ap, ◌∙◌, ◌⊎◌, inl, inr, append-nil, arith}
 use Rattle.std.specs.List.{Contains}
 use Rattle.std.specs.List.Sorted.{IsPermutation, IsStrictlySortedBy}
 use Rattle.std.specs.declared.cmp.Ordering.{Ordering}
@@ -19,7 +19,7 @@ pub record IsExactOrder {A : Type 0} (cmp : A → A → Ordering) : Type 0 where
   pub exact : CmpEqualImpliesEq cmp
 
 -- the three ways in which two elements compare
-data Compared {A : Type 0} (cmp : A → A → Ordering) (x y : A) : Type 0 where
+pub data Compared {A : Type 0} (cmp : A → A → Ordering) (x y : A) : Type 0 where
   before : cmp x y ≡ Less → cmp y x ≡ Greater → Compared cmp x y
   same : x ≡ y → cmp x y ≡ Equal → cmp y x ≡ Equal → Compared cmp x y
   after : cmp x y ≡ Greater → cmp y x ≡ Less → Compared cmp x y
@@ -29,7 +29,7 @@ compared-by cmp e x y Less h = before h (rw (e.total.antisymm y x, h) refl)
 compared-by cmp e x y Equal h = same (e.exact x y h) h (rw (e.total.antisymm y x, h) refl)
 compared-by cmp e x y Greater h = after h (rw (e.total.antisymm y x, h) refl)
 
-compared : {A : Type 0} (cmp : A → A → Ordering) → IsExactOrder cmp → (x y : A) → Compared cmp x y
+pub compared : {A : Type 0} (cmp : A → A → Ordering) → IsExactOrder cmp → (x y : A) → Compared cmp x y
 compared cmp e x y = compared-by cmp e x y (cmp x y) refl
 
 -- insertions commute, whatever the list
@@ -56,7 +56,7 @@ insert_comm-cons cmp e z zs x y ih (after a a') (before b b') c = let t : cmp y 
 insert_comm-cons cmp e z zs x y ih (after a a') (same b f f') c = simp (a, f)
 insert_comm-cons cmp e z zs x y ih (after a a') (after b b') c = simp (a, b) (ap (λ w. z ∷ w) ih)
 
-insert_comm : {A : Type 0} (cmp : A → A → Ordering) → IsExactOrder cmp → (xs : List A) (x y : A)
+pub insert_comm : {A : Type 0} (cmp : A → A → Ordering) → IsExactOrder cmp → (xs : List A) (x y : A)
     → insert_key cmp (insert_key cmp xs x) y ≡ insert_key cmp (insert_key cmp xs y) x
 insert_comm cmp e [] x y = insert_comm-nil cmp x y (compared cmp e x y)
 insert_comm cmp e (z ∷ zs) x y =
@@ -70,7 +70,7 @@ insert_twice-cons cmp e z zs x ih (before a a') = simp (a, tied_itself e.total x
 insert_twice-cons cmp e z zs x ih (same a d d') = simp (d)
 insert_twice-cons cmp e z zs x ih (after a a') = simp (a) (ap (λ w. z ∷ w) ih)
 
-insert_twice : {A : Type 0} (cmp : A → A → Ordering) → IsExactOrder cmp → (xs : List A) (x : A)
+pub insert_twice : {A : Type 0} (cmp : A → A → Ordering) → IsExactOrder cmp → (xs : List A) (x : A)
     → insert_key cmp (insert_key cmp xs x) x ≡ insert_key cmp xs x
 insert_twice cmp e [] x = rw (tied_itself e.total x) refl
 insert_twice cmp e (z ∷ zs) x = insert_twice-cons cmp e z zs x (insert_twice cmp e zs x) (compared cmp e x z)
@@ -82,7 +82,7 @@ ranking-middle cmp e [] y ys = refl
 ranking-middle cmp e (x ∷ xs) y ys =
     ap (λ s. insert_key cmp s x) (ranking-middle cmp e xs y ys) ∙ insert_comm cmp e (ranking cmp (xs ++ ys)) y x
 
-ranking-append_comm : {A : Type 0} (cmp : A → A → Ordering) → IsExactOrder cmp → (xs ys : List A)
+pub ranking-append_comm : {A : Type 0} (cmp : A → A → Ordering) → IsExactOrder cmp → (xs ys : List A)
     → ranking cmp (xs ++ ys) ≡ ranking cmp (ys ++ xs)
 ranking-append_comm cmp e xs [] = rw append-nil refl
 ranking-append_comm cmp e xs (y ∷ ys) =
@@ -93,7 +93,7 @@ empty_or_later : {A : Type 0} (y : A) (ys : List A) (x : A) → Contains [] x �
 empty_or_later y ys x (inl none) = absurd (omega (arith, none.1))
 empty_or_later y ys x (inr at_head) = inl at_head
 
-first_or_later : {A : Type 0} (y : A) (ys : List A) (x : A) → Contains (y ∷ ys) x → (y ≡ x) ⊎ Contains ys x
+pub first_or_later : {A : Type 0} (y : A) (ys : List A) (x : A) → Contains (y ∷ ys) x → (y ≡ x) ⊎ Contains ys x
 first_or_later y ys x h =
     elim (Contains-append_cases (y ∷ []) ys x h) [
       | inl first ↦ empty_or_later y ys x (Contains-push_cases [] y x first)
@@ -108,7 +108,7 @@ ranking-member-cons cmp e y ys x ih (inl at_head) = rw at_head (insert_twice cmp
 ranking-member-cons cmp e y ys x ih (inr later) =
     insert_comm cmp e (ranking cmp ys) y x ∙ ap (λ s. insert_key cmp s y) (ih later)
 
-ranking-member : {A : Type 0} (cmp : A → A → Ordering) → IsExactOrder cmp → (xs : List A) (x : A) → Contains xs x
+pub ranking-member : {A : Type 0} (cmp : A → A → Ordering) → IsExactOrder cmp → (xs : List A) (x : A) → Contains xs x
     → insert_key cmp (ranking cmp xs) x ≡ ranking cmp xs
 ranking-member cmp e [] x h = absurd (omega (arith, h.1))
 ranking-member cmp e (y ∷ ys) x h =
@@ -122,13 +122,19 @@ ranking-append_members cmp e (x ∷ xs) ys h =
     ap (λ s. insert_key cmp s x) (ranking-append_members cmp e xs ys (λ z k. h z (Contains-append_right (x ∷ []) xs z k)))
     ∙ ranking-member cmp e ys x (h x (Contains-append_left (x ∷ []) xs x (Contains-push [] x)))
 
--- a list in another order has the same ranking
+-- lists with the same members have the same ranking
+pub ranking-same_members : {A : Type 0} (cmp : A → A → Ordering) → IsExactOrder cmp → (xs ys : List A)
+    → ((x : A) → Contains xs x ↔ Contains ys x) → ranking cmp xs ≡ ranking cmp ys
+ranking-same_members cmp e xs ys h =
+    sym (ranking-append_members cmp e ys xs (λ x. (h x).1))
+    ∙ ranking-append_comm cmp e ys xs
+    ∙ ranking-append_members cmp e xs ys (λ x. (h x).0)
+
+-- so has a list in another order
 pub ranking-permutation : {A : Type 0} (cmp : A → A → Ordering) → IsExactOrder cmp → (xs ys : List A) → IsPermutation xs ys
     → ranking cmp xs ≡ ranking cmp ys
-ranking-permutation cmp e xs ys h =
-    sym (ranking-append_members cmp e ys xs (λ x. Contains-permutation ys xs x (IsPermutation-sym xs ys h)))
-    ∙ ranking-append_comm cmp e ys xs
-    ∙ ranking-append_members cmp e xs ys (λ x. Contains-permutation xs ys x h)
+ranking-permutation cmp e xs ys h = ranking-same_members cmp e xs ys
+    (λ x. (Contains-permutation xs ys x h, Contains-permutation ys xs x (IsPermutation-sym xs ys h)))
 
 insert_key-least : {A : Type 0} (cmp : A → A → Ordering) (x : A) (xs : List A) → IsStrictlySortedBy cmp (x ∷ xs) → insert_key cmp xs x ≡ x ∷ xs
 insert_key-least cmp x [] h = refl

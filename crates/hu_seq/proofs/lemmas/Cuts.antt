@@ -4,7 +4,7 @@ use Rattle.std.specs.List.{AllByRecursion, slice_split, onto_first}
 use Rattle.std.proofs.lemmas.List.{append-nil}
 use Rattle.std.proofs.lemmas.List.Elements.{filter-append}
 use Rattle.hu_kind.specs.Token.{tokens, is_space, has_byte}
-use Rattle.hu_seq.proofs.lemmas.Numerals.{Lacks, IsWritten}
+use Rattle.hu_kind.proofs.lemmas.Written.{Lacks, IsWritten}
 
 onto_first-append : {A : Type 0} (x : A) (pieces more : List (List A)) → 0 < length pieces → onto_first x (pieces ++ more) ≡ onto_first x pieces ++ more
 onto_first-append x [] more some = absurd (omega (arith, some))

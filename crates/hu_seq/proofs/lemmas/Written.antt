@@ -5,7 +5,7 @@ use Rattle.hu_seq.specs.Canonical.{canonical_line, IsPlainLine}
 use Rattle.hu_seq.specs.Reading.{reading}
 use Rattle.hu_seq.proofs.CanonicalLemmas.{reading-canonical}
 use Rattle.hu_seq.proofs.PlainLemmas.{IsPlainLine-canonical, canonical-lacks}
-use Rattle.hu_seq.proofs.lemmas.Numerals.{Lacks}
+use Rattle.hu_kind.proofs.lemmas.Written.{Lacks}
 
 -- it says the sequence
 pub canonical-read : (elements : List (List (ℕ × ℤ))) → IsSequence elements → reading (canonical_line elements) ≡ Ok elements

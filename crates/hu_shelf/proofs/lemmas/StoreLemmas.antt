@@ -16,7 +16,8 @@ use Rattle.hu_kept.specs.Kept.{Keeping, fresh, with_batch}
 use Rattle.hu_shelf.specs.Store.{IsStore, IsWritten, closed_said, least_said, top_said, is_least, is_lawful, is_top}
 use Rattle.hu_shelf.specs.Store.{record_in, records_in, records_text, settings_in, settings_line, store_of, store_text}
 use Rattle.hu_shelf.specs.Store.{task_word, told_by, top_word, before_byte, after_byte}
-use Rattle.hu_shelf.proofs.NumeralLemmas.{Lacks, decimal-lacks, number-decimal}
+use Rattle.hu_kind.proofs.lemmas.Written.{number-decimal}
+use Rattle.hu_shelf.proofs.NumeralLemmas.{Lacks, decimal-lacks}
 use Rattle.hu_shelf.proofs.TextLemmas.{lacks_by_test, before_byte-lacks, after_byte-lacks, then_some-given}
 
 -- ---- records

@@ -16,7 +16,7 @@ use Rattle.hu_lines.specs.Skipped.{is_skipped_line}
 use Rattle.hu_input.specs.declared.reason.Reason.{Reason}
 use Rattle.hu_input.specs.Input.{Unread, with_front, line_record, piece_record, after_line, records_from, records_of}
 use Rattle.hu_input.specs.Input.{after_file, content_length, input_from, input, limit_reason}
-use Rattle.hu_seq.proofs.lemmas.Numerals.{Lacks}
+use Rattle.hu_kind.proofs.lemmas.Written.{Lacks}
 use Rattle.hu_text.specs.Texts.{AreFilesOf, all_of}
 use Rattle.hu_text.proofs.lemmas.Lines.{IsLine, fed, line_of-fed, pieces-written}
 

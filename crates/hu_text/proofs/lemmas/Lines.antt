@@ -6,7 +6,7 @@ use Rattle.std.proofs.Math.Seq.{get_or-append_seam}
 use Rattle.std.proofs.lemmas.List.{take-append-le, take_all}
 use Rattle.hu_kind.proofs.lemmas.Each.{each-get}
 use Rattle.hu_lines.specs.Pieces.{in_front, pieces, without_last, line_of, lines}
-use Rattle.hu_seq.proofs.lemmas.Numerals.{Lacks}
+use Rattle.hu_kind.proofs.lemmas.Written.{Lacks}
 
 -- a line that stands as it is where a line feed follows it: without a line feed, and without a carriage return
 pub record IsLine (line : List ℕ) : Type 0 where

@@ -12,7 +12,7 @@ use Rattle.hu_trans.specs.Canonical.{canonical_line}
 use Rattle.hu_trans.proofs.lemmas.Written as trans
 use Rattle.hu_seq.specs.Canonical.{canonical_line as sequence_line}
 use Rattle.hu_seq.proofs.lemmas.Written as seq
-use Rattle.hu_seq.proofs.lemmas.Numerals.{Lacks, written-decimal, written-signed_decimal}
+use Rattle.hu_kind.proofs.lemmas.Written.{Lacks, written-decimal, written-signed_decimal}
 use Rattle.hu_input.specs.declared.reason.Reason.TheVariants.{Transaction, Sequence}
 use Rattle.hu_input.specs.Formats.{transaction_reading, sequence_reading}
 use Rattle.hu_text.specs.RecordLaws.{RecordsAreReadAgain, RecordsAreInput, SequencesAreReadAgain, SequencesAreInput}

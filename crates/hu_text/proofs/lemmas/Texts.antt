@@ -12,7 +12,7 @@ use Rattle.hu_kind.proofs.lemmas.Each.{each-append, each-weaker}
 use Rattle.hu_report.specs.Text.{key_text, line_of}
 use Rattle.hu_seq.proofs.lemmas.Cuts.{tokens-append, tokens-word, tokens-spaced}
 use Rattle.hu_seq.proofs.lemmas.Firsts.{none-any}
-use Rattle.hu_seq.proofs.lemmas.Numerals.{Lacks, IsWritten, written-signed_decimal}
+use Rattle.hu_kind.proofs.lemmas.Written.{Lacks, IsWritten, written-signed_decimal}
 use Rattle.hu_text.specs.Laws.{TextTellsEntries, HaveOneText, OneTextOneKeys, OneTextOneUtilities, OneTextOneAnswer}
 use Rattle.hu_text.specs.Told.{Told, told, words_tell, printed, IsReadable, IsSmall}
 use Rattle.hu_text.proofs.lemmas.Lines.{IsLine, fed, lines-written}

@@ -9,7 +9,7 @@ use Rattle.std.specs.Str.{bytes_eq}
 use Rattle.std.proofs.lemmas.Bool.Decides.{nat_tests}
 use Rattle.hu_text.specs.Told.{number_in, is_label, number_after, words_tell, IsSmall}
 use Rattle.hu_seq.proofs.lemmas.Firsts.{before_first-append, after_first-append, after_first-later, after_first-here}
-use Rattle.hu_seq.proofs.lemmas.Numerals.{IsWritten, written-signed_decimal, signed_number-signed_decimal}
+use Rattle.hu_kind.proofs.lemmas.Written.{IsWritten, written-signed_decimal, signed_number-signed_decimal}
 
 -- ---- numbers are no labels, and are read
 

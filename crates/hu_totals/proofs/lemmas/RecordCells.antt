@@ -4,24 +4,11 @@ use Rattle.std.specs.List.{AllByRecursion, AllAdjacentBelow}
 use Rattle.std.proofs.lemmas.Bool.{ne_eqb}
 use Rattle.hu_kind.specs.Order.{Ascend}
 use Rattle.hu_kind.specs.Record.{has, value_of, items_in, IsRecord}
-use Rattle.hu_kind.proofs.lemmas.Occurring.{above_all}
-
-Ascend-from : (first : ℕ × ℤ) (cells : List (ℕ × ℤ)) → AllAdjacentBelow (λ a b. a.0 < b.0) (first ∷ cells)
-    (length (first ∷ cells)) → Ascend (items_in (first ∷ cells))
-Ascend-from first [] up = (tt, tt)
-Ascend-from first (next ∷ cells) up =
-    let up' : AllAdjacentBelow (λ (a b : ℕ × ℤ). a.0 < b.0) (next ∷ cells) (length (next ∷ cells)) =
-    λ k d within. let e : suc k + 1 ≡ suc (k + 1) =
-    omega arith in subst (λ j. (get_or (next ∷ cells) k d).0 < (get_or (first ∷ next ∷ cells) j d).0) e
-    (up (suc k) d (omega arith)) in
-    let rest = Ascend-from next cells up' in
-    let before : first.0 < next.0 = up 0 first (omega arith) in
-    ((before, above_all first.0 next.0 (items_in cells) before rest.0), rest)
+use Rattle.hu_kind.proofs.lemmas.Ascending.{Ascend-adjacent}
 
 -- its items ascend
 pub Ascend-record : (cells : List (ℕ × ℤ)) → IsRecord cells → Ascend (items_in cells)
-Ascend-record [] is = tt
-Ascend-record (first ∷ cells) is = Ascend-from first cells is.itemset.ascending
+Ascend-record cells is = Ascend-adjacent cells is.itemset.ascending
 
 -- an item before all others isn't there
 pub has-below : (item : ℕ) (cells : List (ℕ × ℤ)) → AllByRecursion (λ other. item < other) (items_in cells) → has item cells ≡ false

@@ -14,22 +14,12 @@ use Rattle.hu_kind.specs.Cell.{pair_of, pairs_of}
 use Rattle.hu_kind.specs.Order.{Ascend}
 use Rattle.hu_kind.specs.Record.{holds, value_of, utility_in, positive_part, gain, items_in, absolute_of}
 use Rattle.hu_kind.specs.Database.{utility, support, twu}
+use Rattle.hu_kind.proofs.lemmas.Earned.{positive_part-within, gain-within}
 use Rattle.hu_totals.specs.declared.totals.ItemTotal.{ItemTotal}
 use Rattle.hu_totals.specs.Totals.{positive, total_of}
 use Rattle.hu_totals.specs.Adding.{no_total, total_in, with_cell, HasRoom}
 
-pub positive_part-within : (value : ℤ) → unsigned_abs (positive_part value) ≤ unsigned_abs value
-positive_part-within (pos n) = omega arith
-positive_part-within (negsuc n) = omega arith
-
 -- ---- a record's gain
-
-pub gain-within : (cells : List (ℕ × ℤ)) → unsigned_abs (gain cells) ≤ absolute_of cells
-gain-within [] = omega arith
-gain-within (cell ∷ cells) =
-    let ih = gain-within cells in
-    let head = positive_part-within cell.1 in
-    omega (arith, ints, sum_by-cons (λ (c : ℕ × ℤ). unsigned_abs c.1) cell cells)
 
 pub gain-more : (cells : List Cell) (i : ℕ) (d : Cell) → i < length cells → gain (pairs_of (take (suc i) cells))
     ≡ gain (pairs_of (take i cells)) +ℤ positive_part (get_or cells i d).value

@@ -5,7 +5,8 @@ use Rattle.hu_kind.specs.declared.item.Cell.{Cell}
 use Rattle.hu_kind.specs.Cell.{pairs_of}
 use Rattle.hu_kind.specs.Record.{absolute_of}
 use Rattle.hu_totals.specs.Adding.{pairs_with, total_in, HasRoom}
-use Rattle.hu_totals.proofs.lemmas.RoomLemmas.{total_in-before, value-within, gain-within, HasRoom-less}
+use Rattle.hu_kind.proofs.lemmas.Earned.{gain-within}
+use Rattle.hu_totals.proofs.lemmas.RoomLemmas.{total_in-before, value-within, HasRoom-less}
 use Rattle.hu_totals.proofs.totals.add_record.Goals as goal
 
 -- a cell past the end

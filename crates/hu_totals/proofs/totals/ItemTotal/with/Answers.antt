@@ -2,7 +2,7 @@ use Rattle.std.proofs.Common.{arith}
 use Rattle.std.specs.Int.{w128}
 use Rattle.std.proofs.lemmas.Int.{ints, to_z-of_z}
 use Rattle.hu_totals.proofs.lemmas.AddingLemmas.{same_total}
-use Rattle.hu_totals.proofs.lemmas.RoomLemmas.{positive_part-within}
+use Rattle.hu_kind.proofs.lemmas.Earned.{positive_part-within}
 use Rattle.hu_totals.proofs.totals.ItemTotal.with.Goals as goal
 
 pub overflow_add-result-2 : goal.overflow_add-result-2

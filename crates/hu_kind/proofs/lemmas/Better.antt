@@ -1,5 +1,5 @@
--- The greater of two utilities, and a sum before a utility.
-use Rattle.std.proofs.Common.{◌≡◌, true, ℤ, ◌+ℤ◌, Option, None, Some, is_some, option_map, refl, ap, ◌⊎◌, inl, inr, arith}
+-- The greater of two utilities, and utilities with a number or a sum in front.
+use Rattle.std.proofs.Common.{◌≡◌, true, ℤ, ◌+ℤ◌, Option, None, Some, is_some, option_map, refl, sym, ap, ◌∙◌, ◌⊎◌, inl, inr, arith}
 use Rattle.std.proofs.lemmas.Int.{ints, clamps}
 use Rattle.hu_kind.specs.Sequence.{better}
 
@@ -12,6 +12,24 @@ better-assoc None b c = refl
 better-assoc (Some x) None c = refl
 better-assoc (Some x) (Some y) None = refl
 better-assoc (Some x) (Some y) (Some z) = ap (λ n. Some n) (omega (arith, ints, clamps))
+
+pub better-comm : (a b : Option ℤ) → better a b ≡ better b a
+better-comm None b = sym (better-none b)
+better-comm (Some x) None = refl
+better-comm (Some x) (Some y) = ap (λ n. Some n) (omega (arith, ints, clamps))
+
+-- the inner two of four change places
+pub better-swap : (a b c d : Option ℤ) → better (better a b) (better c d) ≡ better (better a c) (better b d)
+better-swap a b c d =
+    better-assoc a b (better c d)
+    ∙ ap (better a) (sym (better-assoc b c d) ∙ ap (λ o. better o d) (better-comm b c) ∙ better-assoc c b d)
+    ∙ sym (better-assoc a c (better b d))
+
+-- a number in front of the greater
+pub map-better : (x : ℤ) (a b : Option ℤ) → option_map (λ u. x +ℤ u) (better a b) ≡ better (option_map (λ u. x +ℤ u) a) (option_map (λ u. x +ℤ u) b)
+map-better x None b = refl
+map-better x (Some y) None = refl
+map-better x (Some y) (Some z) = ap (λ n. Some n) (omega (arith, ints, clamps))
 
 -- a utility after a sum
 abbrev pub plus : Option ℤ → Option ℤ → Option ℤ
