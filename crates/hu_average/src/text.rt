@@ -37,14 +37,16 @@ fn push_line<S: Sink>(entry: &Entry, page: &mut Page, sink: &mut S) -> Result<()
 }
 
 fn push_length<S: Sink>(count: usize, page: &mut Page, sink: &mut S) -> Result<(), Failed>
-    ensures { Passes (S.state sink.old) (S.state sink.new) result page.old page.new (length_text count) }
+    ensures { Passes (S.state sink.old) (S.state sink.new) result page.old page.new
+        (length_text count) }
 {
     page.push_field(b" #LEN: ", count as i128, sink)?;
     page.push(b"\n", sink)
 }
 
 fn push_key<S: Sink>(numbers: &[i64], page: &mut Page, sink: &mut S) -> Result<(), Failed>
-    ensures { Passes (S.state sink.old) (S.state sink.new) result page.old page.new (key_text numbers.now) }
+    ensures { Passes (S.state sink.old) (S.state sink.new) result page.old page.new
+        (key_text numbers.now) }
 {
     let Some((first, others)) = numbers.split_first() else {
         return Ok(());

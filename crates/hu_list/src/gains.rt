@@ -67,8 +67,8 @@ fn add_kept(
 ) -> Result<(), NoMemory>
     requires len { length gains.old.items ≡ length found.old.ranks }
     requires within { rank < found.old.room }
-    requires fits { unsigned_abs (at (pos 0) found.old.ranks gains.old.items rank) + unsigned_abs share < 2 ^
-        127 }
+    requires fits { unsigned_abs (at (pos 0) found.old.ranks gains.old.items rank)
+        + unsigned_abs share < 2 ^ 127 }
     ensures room { found.new.room ≡ found.old.room }
     ensures len { OnOk result (length gains.new.items ≡ length found.new.ranks) }
     ensures gains { OnOk result ((z : ℕ) → at (pos 0) found.new.ranks gains.new.items z
@@ -92,8 +92,8 @@ fn add_gain(
 ) -> Result<(), NoMemory>
     requires len { length gains.old.items ≡ length found.old.ranks }
     requires within { rank < found.old.room }
-    requires fits { unsigned_abs (at (pos 0) found.old.ranks gains.old.items rank) + unsigned_abs share < 2 ^
-        127 }
+    requires fits { unsigned_abs (at (pos 0) found.old.ranks gains.old.items rank)
+        + unsigned_abs share < 2 ^ 127 }
     ensures room { found.new.room ≡ found.old.room }
     ensures len { OnOk result (length gains.new.items ≡ length found.new.ranks) }
     ensures gains { OnOk result ((z : ℕ) → at (pos 0) found.new.ranks gains.new.items z

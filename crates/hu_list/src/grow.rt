@@ -32,7 +32,8 @@ pub(crate) fn grown<'a>(
 /// So many lists without tails.
 fn empty_lists<'a>(alloc: Global, count: usize) -> Result<Vec<Vec<Tail<'a>>>, NoMemory>
     ensures len { IfOk result (λ lists. length lists.items ≡ count) }
-    ensures none { IfOk result (λ lists. (ranks : List ℕ) → (z : ℕ) → at [] ranks (lists_of lists.items) z
+    ensures none { IfOk result
+        (λ lists. (ranks : List ℕ) → (z : ℕ) → at [] ranks (lists_of lists.items) z
         ≡ []) }
 {
     let mut lists = Vec::with_capacity(alloc, count)?;

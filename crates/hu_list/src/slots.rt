@@ -50,7 +50,8 @@ impl Slots {
 
     /// The slot of a rank, if it has one.
     pub(crate) fn find(&self, rank: u32) -> Option<usize>
-        ensures { MatchOption result (among rank self.now.ranks ≡ false) (IsPlace self.now.ranks rank) }
+        ensures { MatchOption result (among rank self.now.ranks ≡ false)
+            (IsPlace self.now.ranks rank) }
     {
         let place = *self.places.get(rank as usize)?;
         match self.ranks.get(place) {

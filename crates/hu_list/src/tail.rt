@@ -42,8 +42,9 @@ fn kept_gain(kept: &Slots, cells: &[Dense]) -> i128
 
 /// A cell's value where its rank is kept and it is above 0, else 0.
 fn kept_part(kept: &Slots, cell: &Dense) -> i128
-    ensures { result ≡ (if among cell.now.rank kept.now.ranks then positive_part cell.now.value else pos
-        0) }
+    ensures { result
+        ≡ (if among cell.now.rank kept.now.ranks then positive_part cell.now.value
+        else pos 0) }
 {
     if kept.has(cell.rank) {
         above_none(cell)

@@ -27,7 +27,8 @@ pub fn average_entries(
     requires fit { sum_by absolute_of (records_in batches.items) < 2 ^ 127 }
     requires least { pos 1 ≤ℤ least }
     requires some { IfSome top (λ k. 1 ≤ k) }
-    ensures { IfOk result (λ entries. entries.items ≡ average_answer (records_in batches.items) least top) }
+    ensures { IfOk result
+        (λ entries. entries.items ≡ average_answer (records_in batches.items) least top) }
 {
     let base = joined(alloc, batches)?;
     match engine {

@@ -38,7 +38,8 @@ pub fn item_entries(
     requires fit { sum_by absolute_of (records_in batches.items) < 2 ^ 127 }
     requires least { pos 1 ≤ℤ least }
     requires some { IfSome top (λ k. 1 ≤ k) }
-    ensures { IfOk result (λ entries. entries.items ≡ item_answer (records_in batches.items) least top) }
+    ensures { IfOk result
+        (λ entries. entries.items ≡ item_answer (records_in batches.items) least top) }
 {
     match engine {
         Engine::Kept => kept_entries(alloc, batches, least, top, false),
@@ -60,7 +61,8 @@ pub fn closed_entries(
     requires fit { sum_by absolute_of (records_in batches.items) < 2 ^ 127 }
     requires least { pos 1 ≤ℤ least }
     requires some { IfSome top (λ k. 1 ≤ k) }
-    ensures { IfOk result (λ entries. entries.items ≡ closed_answer (records_in batches.items) least top) }
+    ensures { IfOk result
+        (λ entries. entries.items ≡ closed_answer (records_in batches.items) least top) }
 {
     match engine {
         Engine::Kept => kept_entries(alloc, batches, least, top, true),
@@ -77,7 +79,8 @@ pub fn sequence_entries(
     top: Option<u32>,
 ) -> Result<Vec<Entry>, NoMemory>
     requires offered { offers Sequences engine ≡ true }
-    requires fit { sum_by (λ elements. sum_by absolute_of elements) (records_in batches.items) < 2 ^ 127 }
+    requires fit { sum_by (λ elements. sum_by absolute_of elements) (records_in batches.items)
+        < 2 ^ 127 }
     requires least { pos 1 ≤ℤ least }
     requires some { IfSome top (λ k. 1 ≤ k) }
     ensures { IfOk result (λ entries. entries.items ≡ sequence_answer

@@ -57,7 +57,8 @@ fn search_sized(
     requires floor { least ≤ℤ floor_in (⟦<LengthsOnly<Limited> as Collect>⟧.state collect.old) }
     requires table { (⟦<LengthsOnly<Limited> as Collect>⟧.state collect.old).rule.table ≡ None }
     ensures { OnOk result (⟦<LengthsOnly<Limited> as Collect>⟧.state collect.new
-        ≡ offered (⟦<LengthsOnly<Limited> as Collect>⟧.state collect.old) (item_patterns (records_of base))) }
+        ≡ offered (⟦<LengthsOnly<Limited> as Collect>⟧.state collect.old)
+        (item_patterns (records_of base))) }
 {
     // This tells the proof that the content is in order.
     let _floor = collect.floor();
