@@ -1,10 +1,11 @@
 //! What the tails that hold a rank can give.
 
 ghost use Rattle.std.specs.Prelude.{◌≡◌, ◌<◌, ◌+◌, ◌^◌, ◌==◌, ◌+ℤ◌, ℕ, pos, false, true, unsigned_abs, length, if◌then◌else◌, IfOk, OnOk};
-ghost use Rattle.hu_list.specs.Slots.{among, at};
+ghost use Rattle.hu_list.specs.Slots.{at};
 ghost use Rattle.hu_list.specs.Tails.{size_of};
 ghost use Rattle.hu_list.specs.Passes.{met, met_in, gaining};
 ghost use Rattle.hu_list.specs.View.{tail_of, tails_of, IsTail, AreTails};
+ghost use Rattle.hu_totals.specs.Cells.{among};
 
 use crate::slots::Slots;
 use crate::tail::Tail;

@@ -3,11 +3,12 @@
 ghost use Rattle.std.specs.Prelude.{◌≡◌, ◌<◌, ◌≤ℤ◌, ◌<ℤ◌, ◌⊎◌, ℕ, true, false, pos, [], ◌∷◌, ◌++◌, ⊤, ◌≤◌, get_or, length, nat_eq, if◌then◌else◌, IfOk, IfSome, OnOk, MatchOption};
 ghost use Rattle.std.specs.List.{AllByRecursion, Contains, IsDistinct};
 ghost use Rattle.hu_totals.specs.Ranked.{IsRanking};
+ghost use Rattle.hu_totals.specs.Cells.{among};
 ghost use Rattle.hu_collect.specs.State.{floor_in};
 ghost use Rattle.hu_search.specs.declared.child.Child.{Child};
 ghost use Rattle.hu_search.specs.Growth.{InTable};
 ghost use Rattle.hu_search.specs.Children.{AreChildren, AreEnough, ranks_of};
-ghost use Rattle.hu_list.specs.Slots.{among, at};
+ghost use Rattle.hu_list.specs.Slots.{at};
 ghost use Rattle.hu_list.specs.Passes.{no_sum};
 ghost use Rattle.hu_list.specs.View.{tails_of, lists_of};
 ghost use Rattle.hu_list.specs.Level.{IsLeft, IsRefused, IsLevel, AreKept, AreChosen, AreGrown, sum_of};

@@ -10,7 +10,7 @@ ghost use Rattle.hu_collect.specs.Ranks.{RestsOn};
 ghost use Rattle.hu_search.specs.Growth.{Grows, InTable};
 ghost use Rattle.hu_search.specs.Children.{AreEnough};
 ghost use Rattle.hu_list.specs.View.{tails_of};
-ghost use Rattle.hu_list.specs.Slots.{among};
+ghost use Rattle.hu_totals.specs.Cells.{among};
 ghost use Rattle.hu_list.specs.Level.{IsLeft};
 ghost use Rattle.hu_list.specs.Board.{HasRoom};
 ghost use Rattle.hu_list.specs.Lengths.{WantsUpto};

@@ -2,7 +2,8 @@
 
 ghost use Rattle.std.specs.Prelude.{◌≡◌, ◌<◌, [], ◌∷◌, ◌++◌, false, nat_eq, length, IfOk, OnOk, MatchOption};
 ghost use Rattle.std.specs.List.{AllByRecursion, IsDistinct};
-ghost use Rattle.hu_list.specs.Slots.{IsPlace, among};
+ghost use Rattle.hu_list.specs.Slots.{IsPlace};
+ghost use Rattle.hu_totals.specs.Cells.{among};
 
 use hu_kind::NoMemory;
 use std::alloc::Global;

@@ -3,7 +3,8 @@
 ghost use Rattle.std.specs.Prelude.{◌≡◌, ◌<◌, ◌+◌, ◌^◌, ◌==◌, ◌+ℤ◌, ℕ, pos, unsigned_abs, length, if◌then◌else◌, IfOk};
 ghost use Rattle.hu_kind.specs.Record.{positive_part};
 ghost use Rattle.hu_totals.specs.View.{dense_pair};
-ghost use Rattle.hu_list.specs.Slots.{among, at, IsPlace};
+ghost use Rattle.hu_totals.specs.Cells.{among};
+ghost use Rattle.hu_list.specs.Slots.{at, IsPlace};
 ghost use Rattle.hu_list.specs.Tails.{size_of};
 ghost use Rattle.hu_list.specs.Passes.{met, met_in, summing, sum_with, no_sum, SumsFit};
 ghost use Rattle.hu_list.specs.Level.{sum_of};

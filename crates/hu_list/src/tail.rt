@@ -3,8 +3,8 @@
 ghost use Rattle.std.specs.Prelude.{◌≡◌, ◌<◌, ◌^◌, ◌+ℤ◌, if◌then◌else◌, pos};
 ghost use Rattle.hu_kind.specs.Record.{positive_part, absolute_of};
 ghost use Rattle.hu_totals.specs.View.{dense_pair};
-ghost use Rattle.hu_list.specs.Slots.{among};
-ghost use Rattle.hu_list.specs.Tails.{kept_gain, share, size_of};
+ghost use Rattle.hu_totals.specs.Cells.{among, kept_gain};
+ghost use Rattle.hu_list.specs.Tails.{share, size_of};
 ghost use Rattle.hu_list.specs.View.{cells_of, tail_of};
 
 use crate::single::above_none;
