@@ -1,10 +1,12 @@
 -- What a run of mining wrote.
-use Rattle.std.proofs.Common.{◌≡◌, ℕ, ℤ, List, Result, Ok, Err, Option, None, refl, ap, sym, subst}
+use Rattle.std.proofs.Common.{◌≡◌, ◌↔◌, ℕ, ℤ, List, Result, Ok, Err, Option, None, refl, ap, sym, subst}
 use Rattle.std.specs.Prelude.{IfSome, IsOkAnd}
+use Rattle.std.specs.List.{Contains}
 use Rattle.std.specs.List.Sorted.{IsPermutation}
 use Rattle.hu_kind.specs.declared.task.Task.{Task}
 use Rattle.hu_kind.specs.declared.task.Task.TheVariants.{Items, Closed, Sequences}
-use Rattle.hu_kind.specs.Answer.{item_answer, closed_answer, sequence_answer}
+use Rattle.hu_kind.specs.declared.entry.Entry.{Entry}
+use Rattle.hu_kind.specs.Answer.{answer}
 use Rattle.hu_kind.specs.Itemsets.{item_patterns, closed_patterns}
 use Rattle.hu_kind.specs.Sequence.{sequence_patterns}
 use Rattle.hu_answer.specs.Laws.{IsItemAnswer, IsClosedAnswer, IsSequenceAnswer, AnswerAscends}
@@ -17,7 +19,8 @@ use Rattle.hu_report.specs.Text.{answer_text}
 use Rattle.hu_run.specs.Job.{mining, names_of}
 use Rattle.hu_run.specs.Ending.{Ending, writes, ending, ending_by, transactions, sequences, mining_ending}
 use Rattle.hu_run.specs.Run.{Streams, Writing}
-use Rattle.hu_run.specs.Summary.{HasMined, ItemRunsWriteFound, ClosedRunsWriteFound}
+use Rattle.hu_run.specs.Summary.{HasMined, RunsWriteFound, ItemRunsWriteFound, ClosedRunsWriteFound}
+use Rattle.hu_run.specs.Summary.{IsFoundItemset, IsFoundClosed, IsFoundPattern}
 use Rattle.hu_run.specs.Summary.{SequenceRunsWriteFound, Reads, HasMinedRecords, SameRecordsWriteSame}
 
 -- what was appended is the text of the ending
@@ -38,69 +41,52 @@ text-of-input fact text (Ok r) wrote = (r, refl, wrote)
 text-of-input fact text (Err (refused_line name refusal)) wrote = absurd wrote
 text-of-input fact text (Err (missing_file name)) wrote = absurd wrote
 
-pub item-runs : IsItemAnswer → AnswerAscends → ItemRunsWriteFound
-item-runs is ascends s engine least top told mined =
-    let names = names_of (mining Items engine least top) s.words in
-    let wrote = text-of-input (Appended s.out s.out_after) (λ records. answer_text Items (item_answer records least top)) (transactions told names)
-    (mined-text s Items engine least top told mined) in (
-      wrote.0,
-      wrote.1,
-      (
-        item_answer wrote.0 least top,
-        record {
-          whole = item_answer wrote.0 least None;
-          each = is wrote.0 least;
-          ascends = ascends least None (item_patterns wrote.0);
-          first = refl;
-        },
-        wrote.2,
-      ),
-    )
-
-pub closed-runs : IsClosedAnswer → AnswerAscends → ClosedRunsWriteFound
-closed-runs is ascends s engine least top told mined =
-    let names = names_of (mining Closed engine least top) s.words in
-    let wrote = text-of-input (Appended s.out s.out_after) (λ records. answer_text Closed (closed_answer records least top)) (transactions told names)
-    (mined-text s Closed engine least top told mined) in (
-      wrote.0,
-      wrote.1,
-      (
-        closed_answer wrote.0 least top,
-        record {
-          whole = closed_answer wrote.0 least None;
-          each = is wrote.0 least;
-          ascends = ascends least None (closed_patterns wrote.0);
-          first = refl;
-        },
-        wrote.2,
-      ),
-    )
-
-pub sequence-runs : IsSequenceAnswer → AnswerAscends → SequenceRunsWriteFound
-sequence-runs is ascends s engine least top told mined =
-    let names = names_of (mining Sequences engine least top) s.words in
-    let wrote = text-of-input (Appended s.out s.out_after) (λ records. answer_text Sequences (sequence_answer records least top)) (sequences told names)
-    (mined-text s Sequences engine least top told mined) in (
-      wrote.0,
-      wrote.1,
-      (
-        sequence_answer wrote.0 least top,
-        record {
-          whole = sequence_answer wrote.0 least None;
-          each = is wrote.0 (sequences-lawful told names wrote.0 wrote.1) least;
-          ascends = ascends least None (sequence_patterns wrote.0);
-          first = refl;
-        },
-        wrote.2,
-      ),
-    )
-
 -- a task writes this text of the records that it reads
 abbrev WritesTextOf : {R : Type 0} → Task → Reads R → (ℤ → Option ℕ → List R → List ℕ) → Type 0
 WritesTextOf task reads text =
     (engine : Engine) (least : ℤ) (top : Option ℕ) (told : List ℕ → Option (List ℕ)) (names : List (List ℕ))
     → mining_ending (record { task = task; engine = engine; least = least; top = top }) told names
     ≡ ending_by (λ records. writes (text least top records)) (reads told names)
+
+-- the text of the answer over some patterns of the records
+abbrev answer_of : {R : Type 0} → Task → (List R → List Entry) → ℤ → Option ℕ → List R → List ℕ
+answer_of task patterns least top records = answer_text task (answer least top (patterns records))
+
+-- where the whole answer lists what is found, a run wrote that
+runs-found : {R : Type 0} (task : Task) (reads : Reads R) (patterns : List R → List Entry) (IsFound : List R → ℤ → Entry → Type 0)
+    → WritesTextOf task reads (answer_of task patterns)
+    → ((told : List ℕ → Option (List ℕ)) (names : List (List ℕ)) (records : List R) → reads told names ≡ Ok records
+    → (least : ℤ) (entry : Entry) → Contains (answer least None (patterns records)) entry ↔ IsFound records least entry)
+    → AnswerAscends → RunsWriteFound task reads IsFound
+runs-found task reads patterns IsFound is each ascends s engine least top told mined =
+    let names = names_of (mining task engine least top) s.words in
+    let written = subst (Writing (Appended s.out s.out_after)) (is engine least top told names) (mined-text s task engine least top told mined) in
+    let wrote = text-of-input (Appended s.out s.out_after) (answer_of task patterns least top) (reads told names) written in (
+      wrote.0,
+      wrote.1,
+      (
+        answer least top (patterns wrote.0),
+        record {
+          whole = answer least None (patterns wrote.0);
+          each = each told names wrote.0 wrote.1 least;
+          ascends = ascends least None (patterns wrote.0);
+          first = refl;
+        },
+        wrote.2,
+      ),
+    )
+
+pub item-runs : IsItemAnswer → AnswerAscends → ItemRunsWriteFound
+item-runs is = runs-found Items transactions item_patterns IsFoundItemset (λ engine least top told names. refl)
+    (λ told names records read. is records)
+
+pub closed-runs : IsClosedAnswer → AnswerAscends → ClosedRunsWriteFound
+closed-runs is = runs-found Closed transactions closed_patterns IsFoundClosed (λ engine least top told names. refl)
+    (λ told names records read. is records)
+
+pub sequence-runs : IsSequenceAnswer → AnswerAscends → SequenceRunsWriteFound
+sequence-runs is = runs-found Sequences sequences sequence_patterns IsFoundPattern (λ engine least top told names. refl)
+    (λ told names records read. is records (sequences-lawful told names records read))
 
 module _ {R : Type 0} (task : Task) (reads : Reads R) (text : ℤ → Option ℕ → List R → List ℕ)
     (is : WritesTextOf task reads text) where
@@ -126,18 +112,18 @@ module _ {R : Type 0} (task : Task) (reads : Reads R) (text : ℤ → Option ℕ
 
 pub same_items : ItemsInAnyOrder → SameRecordsWriteSame Items transactions
 same_items same =
-    same-runs Items transactions (λ least top records. answer_text Items (item_answer records least top))
+    same-runs Items transactions (answer_of Items item_patterns)
     (λ engine least top told names. refl)
     (λ records others least top moved. ap (answer_text Items) (same records others least top moved))
 
 pub same_closed : ClosedInAnyOrder → SameRecordsWriteSame Closed transactions
 same_closed same =
-    same-runs Closed transactions (λ least top records. answer_text Closed (closed_answer records least top))
+    same-runs Closed transactions (answer_of Closed closed_patterns)
     (λ engine least top told names. refl)
     (λ records others least top moved. ap (answer_text Closed) (same records others least top moved))
 
 pub same_sequences : SequencesInAnyOrder → SameRecordsWriteSame Sequences sequences
 same_sequences same =
-    same-runs Sequences sequences (λ least top records. answer_text Sequences (sequence_answer records least top))
+    same-runs Sequences sequences (answer_of Sequences sequence_patterns)
     (λ engine least top told names. refl)
     (λ records others least top moved. ap (answer_text Sequences) (same records others least top moved))

@@ -54,36 +54,30 @@ IsFoundPattern records least entry =
     (pattern : List (List ℕ)) × IsFoundSequence records least pattern
     × IsSequenceEntryOf records pattern entry
 
--- a run of `items` read the records of its files, and wrote all itemsets that earn the minimum in these
-abbrev pub ItemRunsWriteFound : Type 0
-ItemRunsWriteFound =
-    (s : Streams) (engine : Engine) (least : ℤ) (top : Option ℕ) (told : List ℕ → Option (List ℕ)) →
-    HasMined s Items engine least top told →
-    (records : List (List (ℕ × ℤ)))
-    × (transactions told (names_of (mining Items engine least top) s.words) ≡ Ok records)
-    × WritesFound s Items (IsFoundItemset records least) top
-
--- a run of `closed` wrote all closed ones
-abbrev pub ClosedRunsWriteFound : Type 0
-ClosedRunsWriteFound =
-    (s : Streams) (engine : Engine) (least : ℤ) (top : Option ℕ) (told : List ℕ → Option (List ℕ)) →
-    HasMined s Closed engine least top told →
-    (records : List (List (ℕ × ℤ)))
-    × (transactions told (names_of (mining Closed engine least top) s.words) ≡ Ok records)
-    × WritesFound s Closed (IsFoundClosed records least) top
-
--- a run of `seq` wrote all sequences
-abbrev pub SequenceRunsWriteFound : Type 0
-SequenceRunsWriteFound =
-    (s : Streams) (engine : Engine) (least : ℤ) (top : Option ℕ) (told : List ℕ → Option (List ℕ)) →
-    HasMined s Sequences engine least top told →
-    (records : List (List (List (ℕ × ℤ))))
-    × (sequences told (names_of (mining Sequences engine least top) s.words) ≡ Ok records)
-    × WritesFound s Sequences (IsFoundPattern records least) top
-
 -- how the records of named files are read of contents
 abbrev pub Reads : Type 0 → Type 0
 Reads R = (List ℕ → Option (List ℕ)) → List (List ℕ) → Result (List R) Unread
+
+-- a run of a task read the records of its files, and wrote all that is found in these
+abbrev pub RunsWriteFound : {R : Type 0} → Task → Reads R → (List R → ℤ → Entry → Type 0) → Type 0
+RunsWriteFound {R} task reads IsFound =
+    (s : Streams) (engine : Engine) (least : ℤ) (top : Option ℕ) (told : List ℕ → Option (List ℕ)) →
+    HasMined s task engine least top told →
+    (records : List R)
+    × (reads told (names_of (mining task engine least top) s.words) ≡ Ok records)
+    × WritesFound s task (IsFound records least) top
+
+-- a run of `items` wrote all itemsets that earn the minimum in the records of its files
+abbrev pub ItemRunsWriteFound : Type 0
+ItemRunsWriteFound = RunsWriteFound Items transactions IsFoundItemset
+
+-- a run of `closed` wrote all closed ones
+abbrev pub ClosedRunsWriteFound : Type 0
+ClosedRunsWriteFound = RunsWriteFound Closed transactions IsFoundClosed
+
+-- a run of `seq` wrote all sequences
+abbrev pub SequenceRunsWriteFound : Type 0
+SequenceRunsWriteFound = RunsWriteFound Sequences sequences IsFoundPattern
 
 -- a run of a task that ended with status 0, by some engine and over some told contents: its files
 -- hold these records

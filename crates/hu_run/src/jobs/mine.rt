@@ -30,72 +30,19 @@ pub(crate) fn answer<'a, F: Files>(
     ensures { Answers (mining task engine least top)
         (F.state files.old) (F.state files.new) (texts_of names.now) result }
 {
-    match task {
-        Task::Items => items(alloc, files, engine, least, top, names),
-        Task::Closed => closed(alloc, files, engine, least, top, names),
-        Task::Sequences => sequences(alloc, files, engine, least, top, names),
-    }
-}
-
-/// Those itemsets.
-fn items<'a, F: Files>(
-    alloc: Global,
-    files: &mut F,
-    engine: Engine,
-    least: i128,
-    top: Option<u32>,
-    names: &'a [String],
-) -> Result<Answer, Stop<'a>>
-    requires offered { offers Task.Items engine ≡ true }
-    requires least { pos 1 ≤ℤ least }
-    requires some { IfSome top (λ k. 1 ≤ k) }
-    ensures { Answers (mining Task.Items engine least top)
-        (F.state files.old) (F.state files.new) (texts_of names.now) result }
-{
-    let batches = read_files::<Transactions, F>(alloc, files, names, 0)?;
-    let entries = item_entries(alloc, batches, engine, least, top)?;
-    let task = Task::Items;
-    Ok(Answer::Entries { task, entries })
-}
-
-/// Those closed itemsets.
-fn closed<'a, F: Files>(
-    alloc: Global,
-    files: &mut F,
-    engine: Engine,
-    least: i128,
-    top: Option<u32>,
-    names: &'a [String],
-) -> Result<Answer, Stop<'a>>
-    requires offered { offers Task.Closed engine ≡ true }
-    requires least { pos 1 ≤ℤ least }
-    requires some { IfSome top (λ k. 1 ≤ k) }
-    ensures { Answers (mining Task.Closed engine least top)
-        (F.state files.old) (F.state files.new) (texts_of names.now) result }
-{
-    let batches = read_files::<Transactions, F>(alloc, files, names, 0)?;
-    let entries = closed_entries(alloc, batches, engine, least, top)?;
-    let task = Task::Closed;
-    Ok(Answer::Entries { task, entries })
-}
-
-/// Those sequences.
-fn sequences<'a, F: Files>(
-    alloc: Global,
-    files: &mut F,
-    engine: Engine,
-    least: i128,
-    top: Option<u32>,
-    names: &'a [String],
-) -> Result<Answer, Stop<'a>>
-    requires offered { offers Task.Sequences engine ≡ true }
-    requires least { pos 1 ≤ℤ least }
-    requires some { IfSome top (λ k. 1 ≤ k) }
-    ensures { Answers (mining Task.Sequences engine least top)
-        (F.state files.old) (F.state files.new) (texts_of names.now) result }
-{
-    let batches = read_files::<Sequences, F>(alloc, files, names, 0)?;
-    let entries = sequence_entries(alloc, batches, engine, least, top)?;
-    let task = Task::Sequences;
+    let entries = match task {
+        Task::Items => {
+            let batches = read_files::<Transactions, F>(alloc, files, names, 0)?;
+            item_entries(alloc, batches, engine, least, top)?
+        }
+        Task::Closed => {
+            let batches = read_files::<Transactions, F>(alloc, files, names, 0)?;
+            closed_entries(alloc, batches, engine, least, top)?
+        }
+        Task::Sequences => {
+            let batches = read_files::<Sequences, F>(alloc, files, names, 0)?;
+            sequence_entries(alloc, batches, engine, least, top)?
+        }
+    };
     Ok(Answer::Entries { task, entries })
 }
