@@ -6,7 +6,8 @@ use Rattle.std.specs.List.Sorted.{IsStrictlySortedBy}
 use Rattle.std.specs.BTreeSet.{insert_key}
 use Rattle.hu_kind.specs.declared.entry.Entry.{Entry}
 use Rattle.hu_kind.specs.Order.{ranking, cut}
-use Rattle.hu_collect.proofs.lemmas.Cutting.{cut-ranking-in_turn, sorted-ranking, sorted-cut, ranking-sorted}
+use Rattle.hu_kind.proofs.lemmas.RankingLemmas.{ranking-sorted}
+use Rattle.hu_collect.proofs.lemmas.Cutting.{cut-ranking-in_turn, sorted-ranking, sorted-cut}
 use Rattle.hu_average.specs.Order.{average_cmp}
 use Rattle.hu_average.specs.Answer.{reaches, reaching}
 use Rattle.hu_average.specs.Best.{BestOf, HasKey, offered, IsKept}

@@ -15,7 +15,8 @@ use Rattle.hu_kind.specs.declared.entry.Entry.{Entry}
 use Rattle.hu_kind.specs.Order.{ranking, cut}
 use Rattle.hu_kind.proofs.lemmas.Each.{each-take, each-append, each-weaker}
 use Rattle.hu_kind.proofs.lemmas.Members.{Member, Member-append_left, Member-append_right, Member-append_cases, Member-filter, Member-from_filter}
-use Rattle.hu_collect.proofs.lemmas.Cutting.{sorted-ranking, sorted-cut, ranking-sorted}
+use Rattle.hu_kind.proofs.lemmas.RankingLemmas.{ranking-sorted}
+use Rattle.hu_collect.proofs.lemmas.Cutting.{sorted-ranking, sorted-cut}
 use Rattle.hu_kind.proofs.lemmas.Occurring.{by_members}
 use Rattle.hu_average.specs.Order.{Average, average_of, fraction_cmp, average_cmp, average_cmp_total, times-swap, times-le, times-lt, times-lt_cancel}
 use Rattle.hu_average.specs.Answer.{reaches, reaching}
