@@ -22,7 +22,8 @@ pub fn mine_plain(
 ) -> Result<Vec<Entry>, NoMemory>
     requires least { pos 1 ≤ℤ least }
     requires some { IfSome top (λ k. 1 ≤ k) }
-    ensures { IfOk result (λ entries. entries.items ≡ average_answer (records_of base.now) least top) }
+    ensures { IfOk result
+        (λ entries. entries.items ≡ average_answer (records_of base.now) least top) }
 {
     let mut all = All::new(alloc, least);
     mine_items(alloc, base, &mut all)?;

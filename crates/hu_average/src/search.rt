@@ -32,7 +32,8 @@ pub fn mine(
 ) -> Result<Vec<Entry>, NoMemory>
     requires least { pos 1 ≤ℤ least }
     requires some { IfSome top (λ k. 1 ≤ k) }
-    ensures { IfOk result (λ entries. entries.items ≡ average_answer (unranked ranked.now) least top) }
+    ensures { IfOk result
+        (λ entries. entries.items ≡ average_answer (unranked ranked.now) least top) }
 {
     let tails = record_tails(alloc, ranked)?;
     let later = all_ranks(alloc, ranked)?;

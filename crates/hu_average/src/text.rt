@@ -3,12 +3,12 @@
 ghost use Rattle.std.specs.Prelude.{◌≡◌, []};
 ghost use Rattle.hu_io.specs.State.{PutsAll};
 ghost use Rattle.hu_report.specs.Page.{Passes};
-ghost use Rattle.hu_report.specs.Text.{key_text, spaced_text};
+ghost use Rattle.hu_report.specs.Text.{key_text};
 ghost use Rattle.hu_average.specs.Text.{average_text, average_line, length_text};
 
 use hu_io::{Failed, Sink};
 use hu_kind::Entry;
-use hu_report::Page;
+use hu_report::{Page, push_key};
 
 /// Writes a line for each entry, in order: its numbers, its utility and how many numbers they are. It takes no memory, and puts
 /// some 4,096 bytes at a time. A failure leaves a proper front of the text put, and the sink's count rose. Where there is no
@@ -37,29 +37,9 @@ fn push_line<S: Sink>(entry: &Entry, page: &mut Page, sink: &mut S) -> Result<()
 }
 
 fn push_length<S: Sink>(count: usize, page: &mut Page, sink: &mut S) -> Result<(), Failed>
-    ensures { Passes (S.state sink.old) (S.state sink.new) result page.old page.new (length_text count) }
+    ensures { Passes (S.state sink.old) (S.state sink.new) result page.old page.new
+        (length_text count) }
 {
     page.push_field(b" #LEN: ", count as i128, sink)?;
     page.push(b"\n", sink)
-}
-
-fn push_key<S: Sink>(numbers: &[i64], page: &mut Page, sink: &mut S) -> Result<(), Failed>
-    ensures { Passes (S.state sink.old) (S.state sink.new) result page.old page.new (key_text numbers.now) }
-{
-    let Some((first, others)) = numbers.split_first() else {
-        return Ok(());
-    };
-    page.push_number(i128::from(*first), sink)?;
-    push_spaced(others, page, sink)
-}
-
-/// The numbers, with a space before each.
-fn push_spaced<S: Sink>(numbers: &[i64], page: &mut Page, sink: &mut S) -> Result<(), Failed>
-    ensures { Passes (S.state sink.old) (S.state sink.new) result page.old page.new
-        (spaced_text numbers.now) }
-{
-    for number in numbers {
-        page.push_field(b" ", i128::from(*number), sink)?;
-    }
-    Ok(())
 }

@@ -58,7 +58,8 @@ pub(crate) fn put_line(
 ) -> Result<(), CertFault>
     requires { AllByRecursion (λ child. child.rank < length items.now) children.now }
     ensures { Writes text.old.items text.new.items
-        (line_text least (drop 1 prefix.now) utility (named_children items.now children.now) ++ 10 ∷ []) result }
+        (line_text least (drop 1 prefix.now) utility (named_children items.now children.now)
+        ++ 10 ∷ []) result }
 {
     push_line(text, prefix, utility, items, children, least)?;
     if text.len() > MOST_BYTES {
@@ -78,7 +79,8 @@ fn push_line(
 ) -> Result<(), NoMemory>
     requires { AllByRecursion (λ child. child.rank < length items.now) children.now }
     ensures { OnOk result (text.new.items ≡ text.old.items
-        ++ (line_text least (drop 1 prefix.now) utility (named_children items.now children.now) ++ 10 ∷ [])) }
+        ++ (line_text least (drop 1 prefix.now) utility (named_children items.now children.now)
+        ++ 10 ∷ [])) }
 {
     text.extend_from_slice(without_first(prefix))?;
     text.push(b':')?;

@@ -27,7 +27,8 @@ pub fn make_sequences(
     requires some { 1 ≤ elements }
     requires elements { elements ≤ 2048 }
     ensures value { IfOk result (λ base. base ≡ (0, drilled_sequences seed records elements)) }
-    ensures sum { IfOk result (λ base. sum_by (sum_by absolute_of) (records_of base) ≤ 409600 * records) }
+    ensures sum { IfOk result
+        (λ base. sum_by (sum_by absolute_of) (records_of base) ≤ 409600 * records) }
     ensures rules { IfOk result (λ base. AllByRecursion IsSequence (records_of base)) }
 {
     let mut draws = Draws { state: seed };

@@ -38,7 +38,8 @@ fn read_on<'a, F: Files>(
     buffer: &mut [u8],
 ) -> Result<usize, InputStop<'a>>
     requires some { 0 < length buffer.old }
-    ensures { ReadsOn (F.state files.old) (F.state files.new) name.now content.old.items content.new.items
+    ensures { ReadsOn (F.state files.old)
+        (F.state files.new) name.now content.old.items content.new.items
         result }
 {
     let count = match files.get(name, content.len() as u64, buffer) {

@@ -188,7 +188,8 @@ impl<T: Format> Intake<T> {
     /// Judges the line that is held.
     fn judge(&mut self) -> Result<(), LineStop>
         requires { HasLine self.old.lines }
-        ensures judged { Judges T.reading T.Record.absolute self.old.lines self.old.base self.new.base result }
+        ensures judged { Judges T.reading T.Record.absolute self.old.lines self.old.base
+            self.new.base result }
         ensures lines { self.new.lines ≡ self.old.lines }
     {
         let line = self.lines.line();

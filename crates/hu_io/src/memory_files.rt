@@ -62,7 +62,8 @@ impl MemoryFiles {
 
     /// Has the call of `get` with this number fail, where calls count from 1. No count changes.
     pub fn fail_at(&mut self, call: u64) -> Result<(), NoMemory>
-        ensures ok { OnOk result (self.new ≡ record self.old { plan = listing call self.old.plan }) }
+        ensures ok { OnOk result
+            (self.new ≡ record self.old { plan = listing call self.old.plan }) }
         ensures counts { (name : List ℕ) → faults_at self.new name ≡ faults_at self.old name }
         ensures err { OnErr result (self.new ≡ self.old) }
     {
@@ -91,7 +92,8 @@ impl Files for MemoryFiles {
     /// Compares the call with each that is to fail, and the name as often as the number of files doubles.
     fn get(&mut self, name: &str, at: u64, into: &mut [u8]) -> Result<usize, Failed>
         ensures bound { ReadsAtMost result into.new }
-        ensures gets { Gets (files_state self.old) (files_state self.new) name.now at into.new result }
+        ensures gets { Gets (files_state self.old)
+            (files_state self.new) name.now at into.new result }
         ensures fails { is_err result ≡ get_fails self.old name.now }
         ensures count { IfOk result (λ n. n ≡ bytes_given self.old name.now at (length into.new)) }
         ensures after { self.new ≡ after_get self.old name.now }

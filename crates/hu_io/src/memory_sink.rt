@@ -49,7 +49,8 @@ impl MemorySink {
 
     /// Has the call of `put` with this number fail, where calls count from 1. The count doesn't change.
     pub fn fail_at(&mut self, call: u64) -> Result<(), NoMemory>
-        ensures ok { OnOk result (self.new ≡ record self.old { plan = listing call self.old.plan }) }
+        ensures ok { OnOk result
+            (self.new ≡ record self.old { plan = listing call self.old.plan }) }
         ensures count { sink_faults self.new ≡ sink_faults self.old }
         ensures err { OnErr result (self.new ≡ self.old) }
     {

@@ -51,8 +51,10 @@ impl Files for SureFiles {
     /// Reads all that is there and fits.
     fn get(&mut self, name: &str, at: u64, into: &mut [u8]) -> Result<usize, Failed>
         ensures bound { ReadsAtMost result into.new }
-        ensures gets { Gets (sure_state self.old) (sure_state self.new) name.now at into.new result }
-        ensures all { result ≡ Ok (min (length into.new) (length (content_or_empty self.old name.now) - at)) }
+        ensures gets { Gets (sure_state self.old)
+            (sure_state self.new) name.now at into.new result }
+        ensures all { result
+            ≡ Ok (min (length into.new) (length (content_or_empty self.old name.now) - at)) }
         ensures same { self.new ≡ self.old }
     {
         let content = self.contents.content(name).unwrap_or(&[]);

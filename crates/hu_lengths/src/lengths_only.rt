@@ -61,14 +61,16 @@ impl<C: Collect> LengthsOnly<C> {
     /// The inner collector, with all that it keeps.
     pub fn into_inner(self) -> C
         ensures inner { result ≡ inner_of self }
-        ensures state { sized_in C.state self ≡ sized_state (short_of self) (long_of self) (C.state result) }
+        ensures state { sized_in C.state self
+            ≡ sized_state (short_of self) (long_of self) (C.state result) }
     {
         self.inner
     }
 
     /// Whether an entry may change the content: it is not below the floor, and its key has a wanted length.
     fn lets_in(&self, entry: &Entry) -> bool
-        ensures passes { result ≡ true → has_length (short_of self.now) (long_of self.now) entry.now.key ≡ true }
+        ensures passes { result ≡ true
+            → has_length (short_of self.now) (long_of self.now) entry.now.key ≡ true }
         ensures leaves { result ≡ false → Leaves (sized_in C.state self.now) entry.now }
     {
         entry.utility >= self.inner.floor() && self.has_length(&entry.key)

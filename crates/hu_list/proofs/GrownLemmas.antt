@@ -6,7 +6,7 @@ use Rattle.std.specs.List.{AllByRecursion, IsDistinct}
 use Rattle.std.proofs.lemmas.List.{length-map}
 use Rattle.hu_search.specs.declared.child.Child.{Child}
 use Rattle.hu_search.specs.Children.{AreChildren, ranks_of}
-use Rattle.hu_list.specs.Slots.{among, at, IsPlace}
+use Rattle.hu_list.specs.Slots.{at, IsPlace}
 use Rattle.hu_list.specs.Passes.{met_in, growing}
 use Rattle.hu_list.proofs.SlotLemmas.{at-place, place-among, distinct-before}
 use Rattle.hu_list.proofs.GrowthLemmas.{grew}
@@ -19,10 +19,11 @@ use Rattle.hu_kind.specs.Record.{has, holds, value_of, values_of, items_in}
 use Rattle.hu_totals.specs.Ranked.{Ranking}
 use Rattle.hu_kind.proofs.lemmas.Each.{each-weaker, each-left, each-right, each-append}
 use Rattle.hu_kind.proofs.lemmas.Ascending.{Ascend-right}
-use Rattle.hu_list.specs.Tails.{TailOf, earned, held, after, grown_at, grown, has_cells, size_of}
+use Rattle.hu_list.specs.Tails.{TailOf, earned, held, grown_at, grown, has_cells, size_of}
 use Rattle.hu_list.specs.View.{IsTail}
 use Rattle.hu_list.specs.Level.{IsLeft, AreGrown}
-use Rattle.hu_list.proofs.AfterLemmas.{holds-after, values_of-after, Ascend-after, each-after, absolute_of-after}
+use Rattle.hu_totals.specs.Cells.{after, among}
+use Rattle.hu_totals.proofs.lemmas.AfterLemmas.{Ascend-after, absolute_of-after, each-after, holds-after, values_of-after}
 use Rattle.hu_list.proofs.LeftLemmas.{at-has}
 
 abbrev earned_at : List ℕ → TailOf → ℤ

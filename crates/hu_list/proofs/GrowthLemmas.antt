@@ -10,11 +10,11 @@ use Rattle.hu_kind.specs.Order.{Ascend}
 use Rattle.hu_kind.specs.Record.{has, holds, value_of, values_of, items_in, positive_part}
 use Rattle.hu_kind.proofs.lemmas.Occurring.{at_member, has-member}
 use Rattle.hu_list.specs.declared.sums.Sum.{Sum}
-use Rattle.hu_list.specs.Slots.{among}
-use Rattle.hu_list.specs.Tails.{TailOf, earned, held, after, grown_at, grown, has_cells, kept_gain, share, gain_with}
+use Rattle.hu_totals.specs.Cells.{after, among, kept_gain}
+use Rattle.hu_totals.proofs.lemmas.AfterLemmas.{Ascend-after, after-all, holds-after, values_of-after}
+use Rattle.hu_list.specs.Tails.{TailOf, earned, held, grown_at, grown, has_cells, share, gain_with}
 use Rattle.hu_list.specs.Passes.{met, met_in, gaining, summing, sum_with, growing}
-use Rattle.hu_list.proofs.AfterLemmas.{holds-after, values_of-after, Ascend-after, after-all}
-use Rattle.hu_list.proofs.ShareLemmas.{positive-least, positive-above, values_of-kept}
+use Rattle.hu_totals.proofs.lemmas.KeptLemmas.{positive-least, positive-above, values_of-kept}
 
 -- ---- a rank in a tail's cells
 

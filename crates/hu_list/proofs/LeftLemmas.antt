@@ -20,8 +20,9 @@ use Rattle.hu_search.specs.Children.{IsChild, AreEnough, ranks_of}
 use Rattle.hu_kind.proofs.lemmas.Occurring.{at_member, by_members, has-member}
 use Rattle.hu_kind.proofs.lemmas.Each.{each-weaker, each-left, each-right, each-append}
 use Rattle.hu_kind.proofs.lemmas.Ascending.{Ascend-right, Ascend-across}
+use Rattle.hu_totals.specs.Cells.{among}
 use Rattle.hu_list.specs.declared.sums.Sum.{Sum}
-use Rattle.hu_list.specs.Slots.{among, at}
+use Rattle.hu_list.specs.Slots.{at}
 use Rattle.hu_list.specs.Tails.{TailOf, held, gain_with}
 use Rattle.hu_list.specs.Passes.{met_in, gaining, summing, no_sum}
 use Rattle.hu_list.specs.View.{IsTail}

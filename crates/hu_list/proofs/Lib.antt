@@ -1,6 +1,5 @@
 pub mod SlotLemmas
 pub mod PassLemmas
-pub mod AfterLemmas
 pub mod ShareLemmas
 pub mod GrowthLemmas
 pub mod LeftLemmas

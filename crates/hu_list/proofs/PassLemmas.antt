@@ -15,12 +15,13 @@ use Rattle.hu_totals.specs.View.{dense_pair}
 use Rattle.std.proofs.lemmas.Int.{ints}
 use Rattle.std.proofs.lemmas.List.Sums.{sum_by-cons}
 use Rattle.hu_list.specs.declared.tail.Tail.{Tail}
-use Rattle.hu_list.specs.Slots.{among}
-use Rattle.hu_list.specs.Tails.{TailOf, share, kept_gain, size_of}
+use Rattle.hu_totals.specs.Cells.{among, kept_gain}
+use Rattle.hu_list.specs.Tails.{TailOf, share, size_of}
 use Rattle.hu_list.specs.declared.sums.Sum.{Sum}
 use Rattle.hu_list.specs.Passes.{met, met_in, gaining, summing, sum_with, SumsFit}
 use Rattle.hu_list.specs.View.{cells_of, tail_of, tails_of}
-use Rattle.hu_list.proofs.ShareLemmas.{share-within, kept_gain-within}
+use Rattle.hu_totals.proofs.lemmas.KeptLemmas.{kept_gain-within}
+use Rattle.hu_list.proofs.ShareLemmas.{share-within}
 
 module _ {A : Type 0} (make : ℕ × ℤ → List (ℕ × ℤ) → A → A) where
   -- a rank below all cells has what it had

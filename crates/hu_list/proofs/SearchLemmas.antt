@@ -21,7 +21,7 @@ use Rattle.std.proofs.lemmas.List.Sums.{sum_by-cons}
 use Rattle.hu_kind.specs.Record.{items_in, holds, values_of, absolute_of}
 use Rattle.hu_totals.specs.Ranked.{IsRanking}
 use Rattle.hu_kind.proofs.lemmas.Ascending.{each-ascending, each-in_range}
-use Rattle.hu_list.specs.Slots.{among}
+use Rattle.hu_totals.specs.Cells.{among}
 use Rattle.hu_list.specs.Tails.{TailOf, tail_from, earned, held, size_of}
 use Rattle.hu_list.specs.View.{IsTail}
 use Rattle.hu_list.specs.Level.{IsLeft, IsMost, IsLevel, AreChosen}

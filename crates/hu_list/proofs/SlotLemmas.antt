@@ -5,7 +5,8 @@ use Rattle.std.specs.List.{AllByRecursion, IsDistinct}
 use Rattle.std.proofs.Math.Bool.{or-true}
 use Rattle.std.proofs.lemmas.Bool.{ne_eqb, eq-eqb, eqb-true, or_cases, cases_eq}
 use Rattle.std.proofs.lemmas.List.{take_all, length-set, length-append, get_or-set_same, get_or-set_other, get_or_append_left, get_or-append-add}
-use Rattle.hu_list.specs.Slots.{among, IsPlace, at, AreSlots}
+use Rattle.hu_list.specs.Slots.{IsPlace, at, AreSlots}
+use Rattle.hu_totals.specs.Cells.{among}
 
 -- ---- ranks among others
 

@@ -28,7 +28,7 @@ use Rattle.hu_collect.specs.State.{State}
 use Rattle.hu_search.specs.declared.child.Child.{Child}
 use Rattle.hu_search.specs.Children.{AreChildren, AreEnough, Fall, ranks_of}
 use Rattle.hu_list.specs.declared.sums.Sum.{Sum}
-use Rattle.hu_list.specs.Slots.{among}
+use Rattle.hu_totals.specs.Cells.{among}
 use Rattle.hu_list.specs.Tails.{TailOf, earned, held}
 use Rattle.hu_list.specs.View.{AreTails}
 

@@ -20,8 +20,8 @@ use Rattle.std.specs.Prelude.{
 }
 use Rattle.hu_kind.specs.Record.{positive_part}
 use Rattle.hu_list.specs.declared.sums.Sum.{Sum}
-use Rattle.hu_list.specs.Slots.{among}
-use Rattle.hu_list.specs.Tails.{TailOf, kept_gain, share}
+use Rattle.hu_totals.specs.Cells.{among, kept_gain}
+use Rattle.hu_list.specs.Tails.{TailOf, share}
 
 -- what a rank has after a pass over cells, where a cell makes something anew of what its rank has, by the cells after it
 abbrev pub met : {A : Type 0} → (ℕ × ℤ → List (ℕ × ℤ) → A → A) → ℕ → List (ℕ × ℤ) → A → A

@@ -15,15 +15,12 @@ use Rattle.std.specs.Prelude.{
   if◌then◌else◌,
 }
 use Rattle.std.specs.List.{list_any}
+use Rattle.hu_totals.specs.Cells.{among}
 
 -- some of the ranks below a number
 pub record SlotsOf : Type 0 where
   pub room : ℕ
   pub ranks : List ℕ
-
--- whether a rank is one of these
-abbrev pub among : ℕ → List ℕ → Bool
-among rank ranks = list_any (λ other. rank == other) ranks
 
 -- the first place of a rank among others
 pub record IsPlace (ranks : List ℕ) (rank place : ℕ) : Type 0 where

@@ -17,7 +17,7 @@ use Rattle.std.specs.Prelude.{
 }
 use Rattle.std.specs.List.{filter, flat_map}
 use Rattle.hu_kind.specs.Record.{has, holds, value_of, values_of, positive_part, absolute_of}
-use Rattle.hu_list.specs.Slots.{among}
+use Rattle.hu_totals.specs.Cells.{after, among, kept_gain}
 
 -- what a set earns in a record that holds it, and the record's cells after the set's last rank
 pub record TailOf : Type 0 where
@@ -40,10 +40,6 @@ abbrev pub held : List TailOf → List ℕ → ℕ
 held [] more = 0
 held (tail ∷ tails) more = (if holds more tail.cells then 1 else 0) + held tails more
 
--- the cells after a rank
-abbrev pub after : ℕ → List (ℕ × ℤ) → List (ℕ × ℤ)
-after z cells = filter (λ cell. nat_lt z cell.0) cells
-
 -- the tail that a tail leaves to the set with a rank more, where it holds the rank
 abbrev pub grown_at : ℕ → TailOf → List TailOf
 grown_at z tail =
@@ -60,12 +56,6 @@ grown z tails = flat_map (grown_at z) tails
 -- whether cells are left at a tail
 abbrev pub has_cells : TailOf → Bool
 has_cells tail = nat_lt 0 (length tail.cells)
-
--- the sum of the values above 0 at ranks that are kept
-abbrev pub kept_gain : List ℕ → List (ℕ × ℤ) → ℤ
-kept_gain keep [] = pos 0
-kept_gain keep (cell ∷ cells) =
-    (if among cell.0 keep then positive_part cell.1 else pos 0) +ℤ kept_gain keep cells
 
 -- the most that the set with kept ranks earns at a tail
 abbrev pub share : List ℕ → TailOf → ℤ

@@ -1,10 +1,11 @@
 //! What the tails that hold a rank can give.
 
 ghost use Rattle.std.specs.Prelude.{◌≡◌, ◌<◌, ◌+◌, ◌^◌, ◌==◌, ◌+ℤ◌, ℕ, pos, false, true, unsigned_abs, length, if◌then◌else◌, IfOk, OnOk};
-ghost use Rattle.hu_list.specs.Slots.{among, at};
+ghost use Rattle.hu_list.specs.Slots.{at};
 ghost use Rattle.hu_list.specs.Tails.{size_of};
 ghost use Rattle.hu_list.specs.Passes.{met, met_in, gaining};
 ghost use Rattle.hu_list.specs.View.{tail_of, tails_of, IsTail, AreTails};
+ghost use Rattle.hu_totals.specs.Cells.{among};
 
 use crate::slots::Slots;
 use crate::tail::Tail;
@@ -67,8 +68,8 @@ fn add_kept(
 ) -> Result<(), NoMemory>
     requires len { length gains.old.items ≡ length found.old.ranks }
     requires within { rank < found.old.room }
-    requires fits { unsigned_abs (at (pos 0) found.old.ranks gains.old.items rank) + unsigned_abs share < 2 ^
-        127 }
+    requires fits { unsigned_abs (at (pos 0) found.old.ranks gains.old.items rank)
+        + unsigned_abs share < 2 ^ 127 }
     ensures room { found.new.room ≡ found.old.room }
     ensures len { OnOk result (length gains.new.items ≡ length found.new.ranks) }
     ensures gains { OnOk result ((z : ℕ) → at (pos 0) found.new.ranks gains.new.items z
@@ -92,8 +93,8 @@ fn add_gain(
 ) -> Result<(), NoMemory>
     requires len { length gains.old.items ≡ length found.old.ranks }
     requires within { rank < found.old.room }
-    requires fits { unsigned_abs (at (pos 0) found.old.ranks gains.old.items rank) + unsigned_abs share < 2 ^
-        127 }
+    requires fits { unsigned_abs (at (pos 0) found.old.ranks gains.old.items rank)
+        + unsigned_abs share < 2 ^ 127 }
     ensures room { found.new.room ≡ found.old.room }
     ensures len { OnOk result (length gains.new.items ≡ length found.new.ranks) }
     ensures gains { OnOk result ((z : ℕ) → at (pos 0) found.new.ranks gains.new.items z

@@ -1,10 +1,11 @@
 //! The tails of the sets with one rank more.
 
 ghost use Rattle.std.specs.Prelude.{◌≡◌, ◌<◌, ◌+◌, ◌^◌, ◌==◌, ◌&&◌, nat_lt, ◌++◌, [], ◌∷◌, ℕ, List, pos, length, if◌then◌else◌, IfOk, OnOk};
-ghost use Rattle.hu_list.specs.Slots.{among, at, IsPlace};
+ghost use Rattle.hu_list.specs.Slots.{at, IsPlace};
 ghost use Rattle.hu_list.specs.Tails.{size_of};
 ghost use Rattle.hu_list.specs.Passes.{met, met_in, growing};
 ghost use Rattle.hu_list.specs.View.{tail_of, tails_of, lists_of, IsTail, AreTails};
+ghost use Rattle.hu_totals.specs.Cells.{among};
 
 use crate::slots::Slots;
 use crate::tail::Tail;
@@ -32,7 +33,8 @@ pub(crate) fn grown<'a>(
 /// So many lists without tails.
 fn empty_lists<'a>(alloc: Global, count: usize) -> Result<Vec<Vec<Tail<'a>>>, NoMemory>
     ensures len { IfOk result (λ lists. length lists.items ≡ count) }
-    ensures none { IfOk result (λ lists. (ranks : List ℕ) → (z : ℕ) → at [] ranks (lists_of lists.items) z
+    ensures none { IfOk result
+        (λ lists. (ranks : List ℕ) → (z : ℕ) → at [] ranks (lists_of lists.items) z
         ≡ []) }
 {
     let mut lists = Vec::with_capacity(alloc, count)?;

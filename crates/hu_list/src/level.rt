@@ -3,11 +3,12 @@
 ghost use Rattle.std.specs.Prelude.{◌≡◌, ◌<◌, ◌≤ℤ◌, ◌<ℤ◌, ◌⊎◌, ℕ, true, false, pos, [], ◌∷◌, ◌++◌, ⊤, ◌≤◌, get_or, length, nat_eq, if◌then◌else◌, IfOk, IfSome, OnOk, MatchOption};
 ghost use Rattle.std.specs.List.{AllByRecursion, Contains, IsDistinct};
 ghost use Rattle.hu_totals.specs.Ranked.{IsRanking};
+ghost use Rattle.hu_totals.specs.Cells.{among};
 ghost use Rattle.hu_collect.specs.State.{floor_in};
 ghost use Rattle.hu_search.specs.declared.child.Child.{Child};
 ghost use Rattle.hu_search.specs.Growth.{InTable};
 ghost use Rattle.hu_search.specs.Children.{AreChildren, AreEnough, ranks_of};
-ghost use Rattle.hu_list.specs.Slots.{among, at};
+ghost use Rattle.hu_list.specs.Slots.{at};
 ghost use Rattle.hu_list.specs.Passes.{no_sum};
 ghost use Rattle.hu_list.specs.View.{tails_of, lists_of};
 ghost use Rattle.hu_list.specs.Level.{IsLeft, IsRefused, IsLevel, AreKept, AreChosen, AreGrown, sum_of};
@@ -54,7 +55,8 @@ pub(crate) fn children<C: Collect, G: Gate>(
     requires found_room { board.old.found.room ≡ length ranked.now.items }
     ensures kept_room { board.new.kept.room ≡ board.old.kept.room }
     ensures found_room { board.new.found.room ≡ board.old.found.room }
-    ensures level { IfOk result (λ children. IsLevel (C.state collect.now) ranked.now ranks.now children.items) }
+    ensures level { IfOk result
+        (λ children. IsLevel (C.state collect.now) ranked.now ranks.now children.items) }
 {
     let floor = collect.floor();
     let gains = gains(alloc, tails, &board.kept, &mut board.found)?;
@@ -89,7 +91,8 @@ fn keep_reaching<G: Gate>(
     requires len { length gains.now ≡ length found.now.ranks }
     requires room { kept.old.room ≡ found.now.room }
     requires least { pos 1 ≤ℤ floor }
-    requires later { (z : ℕ) → pos 1 ≤ℤ at (pos 0) found.now.ranks gains.now z → MatchOption last ⊤ (λ a. a < z) }
+    requires later { (z : ℕ) → pos 1 ≤ℤ at (pos 0) found.now.ranks gains.now z
+        → MatchOption last ⊤ (λ a. a < z) }
     ensures room { kept.new.room ≡ kept.old.room }
     ensures kept { OnOk result (AreKept (G.IsRightFor gate.now) (G.floor gate.now) floor last
         (at (pos 0) found.now.ranks gains.now) found.now.ranks kept.new.ranks) }
@@ -124,7 +127,8 @@ fn push_if(slots: &mut Slots, rank: u32, asked: bool) -> Result<(), NoMemory>
     requires within { rank < slots.old.room }
     requires fresh { among rank slots.old.ranks ≡ false }
     ensures room { slots.new.room ≡ slots.old.room }
-    ensures ranks { OnOk result (slots.new.ranks ≡ slots.old.ranks ++ (if asked then rank ∷ [] else [])) }
+    ensures ranks { OnOk result
+        (slots.new.ranks ≡ slots.old.ranks ++ (if asked then rank ∷ [] else [])) }
 {
     if asked {
         slots.push(rank)?;
@@ -165,7 +169,8 @@ pub(crate) fn chosen(
 /// How many children stand before the first whose bound is below a floor.
 fn reaching(children: &[Child], floor: i128) -> usize
     ensures within { result ≤ length children.now }
-    ensures cut { (d : Child) → result < length children.now → (get_or children.now result d).bound <ℤ floor }
+    ensures cut { (d : Child) → result < length children.now
+        → (get_or children.now result d).bound <ℤ floor }
 {
     for (at, child) in children.iter().enumerate() {
         if child.bound < floor {
@@ -201,7 +206,8 @@ pub(crate) fn grown_by<'a>(
     requires room { found.old.room ≡ length ranked.now.items }
     ensures room { found.new.room ≡ found.old.room }
     ensures len { IfOk result (λ lists. length lists.items ≡ length chosen.now) }
-    ensures lists { IfOk result (λ lists. AreGrown ranked.now ranks.now chosen.now (lists_of lists.items)) }
+    ensures lists { IfOk result
+        (λ lists. AreGrown ranked.now ranks.now chosen.now (lists_of lists.items)) }
 {
     if chosen.is_empty() {
         return Ok(Vec::new(alloc));

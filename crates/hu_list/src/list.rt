@@ -75,7 +75,8 @@ impl UtilityList {
     ) -> Result<UtilityList, NoMemory>
         requires { CanJoin (option_copied prefix) x.now y.now }
         ensures { (records : List (List (ℕ × ℤ))) → (ranks : List ℕ) → (a : ℕ) → (b : ℕ)
-            → Joins (option_copied prefix.entry) x.now y.now records ranks a b → IfOk result (λ list. list ≡ list_of records (ranks ++ a ∷ b ∷ [])) }
+            → Joins (option_copied prefix.entry) x.now y.now records ranks a b
+            → IfOk result (λ list. list ≡ list_of records (ranks ++ a ∷ b ∷ [])) }
     {
         let nodes = merged(alloc, nodes_before(prefix), x.nodes(), y.nodes())?;
         Ok(UtilityList { nodes })
@@ -92,7 +93,8 @@ impl UtilityList {
     /// What the set earns in all records, in one pass over the nodes.
     pub fn sum(&self) -> i128
         ensures value { result ≡ own_sum self.now }
-        ensures utility { (records : List (List (ℕ × ℤ))) → (ranks : List ℕ) → self.now ≡ list_of records ranks
+        ensures utility { (records : List (List (ℕ × ℤ))) → (ranks : List ℕ)
+            → self.now ≡ list_of records ranks
             → result ≡ utility records ranks }
     {
         own_sum(self.nodes())
@@ -102,7 +104,8 @@ impl UtilityList {
     /// it come to there, where that is above 0. The set itself earns no more either. It takes one pass over the nodes.
     pub fn bound(&self) -> i128
         ensures value { result ≡ bound_of self.now }
-        ensures records { (records : List (List (ℕ × ℤ))) → (ranks : List ℕ) → self.now ≡ list_of records ranks
+        ensures records { (records : List (List (ℕ × ℤ))) → (ranks : List ℕ)
+            → self.now ≡ list_of records ranks
             → result ≡ list_bound records ranks }
         ensures grown { BoundsGrown self.now result }
     {

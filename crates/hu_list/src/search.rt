@@ -10,7 +10,7 @@ ghost use Rattle.hu_collect.specs.Ranks.{RestsOn};
 ghost use Rattle.hu_search.specs.Growth.{Grows, InTable};
 ghost use Rattle.hu_search.specs.Children.{AreEnough};
 ghost use Rattle.hu_list.specs.View.{tails_of};
-ghost use Rattle.hu_list.specs.Slots.{among};
+ghost use Rattle.hu_totals.specs.Cells.{among};
 ghost use Rattle.hu_list.specs.Level.{IsLeft};
 ghost use Rattle.hu_list.specs.Board.{HasRoom};
 ghost use Rattle.hu_list.specs.Lengths.{WantsUpto};
@@ -86,7 +86,8 @@ pub fn mine_upto<C: Collect, G: Gate>(
 /// All ranks, each with itself as its slot.
 fn all_ranks(alloc: Global, ranked: &Ranked) -> Result<Slots, NoMemory>
     ensures room { IfOk result (λ slots. slots.room ≡ length ranked.now.items) }
-    ensures all { IfOk result (λ slots. (z : ℕ) → z < length ranked.now.items → among z slots.ranks ≡ true) }
+    ensures all { IfOk result
+        (λ slots. (z : ℕ) → z < length ranked.now.items → among z slots.ranks ≡ true) }
 {
     let mut slots = Slots::new(alloc, ranked.len())?;
     for rank in 0..ranked.len() {
@@ -126,7 +127,8 @@ fn search<C: Collect, G: Gate>(
     requires rules { IsRanking ranked.now }
     requires table { InTable ranked.now ranks.old.items }
     requires left { IsLeft ranked.now ranks.old.items (tails_of tails.now) }
-    requires enough { AreEnough (C.state collect.old) ranked.now ranks.old.items board.old.kept.ranks }
+    requires enough { AreEnough
+        (C.state collect.old) ranked.now ranks.old.items board.old.kept.ranks }
     requires ordered { IsInOrder (C.state collect.old) }
     requires floor { G.floor gate.now ≤ℤ floor_in (C.state collect.old) }
     requires right { G.IsRightFor gate.now ranked.now.records }
@@ -181,7 +183,8 @@ fn enter<C: Collect, G: Gate>(
     requires rules { IsRanking ranked.now }
     requires table { InTable ranked.now (ranks.old.items ++ child.now.rank ∷ []) }
     requires ascending { Ascend (ranks.old.items ++ child.now.rank ∷ []) }
-    requires left { IsLeft ranked.now (ranks.old.items ++ child.now.rank ∷ []) (tails_of tails.now) }
+    requires left { IsLeft ranked.now (ranks.old.items ++ child.now.rank ∷ [])
+        (tails_of tails.now) }
     requires enough { AreEnough (C.state collect.old) ranked.now
         (ranks.old.items ++ child.now.rank ∷ []) later.now }
     requires once { IsDistinct nat_eq later.now }
@@ -194,7 +197,8 @@ fn enter<C: Collect, G: Gate>(
     requires room { HasRoom board.old (length ranked.now.items) }
     ensures ranks { OnOk result (ranks.new.items ≡ ranks.old.items) }
     ensures room { HasRoom board.new (length ranked.now.items) }
-    ensures searches { Searches (C.state collect.old) (Grows ranked.now (ranks.old.items ++ child.now.rank ∷ []))
+    ensures searches { Searches (C.state collect.old)
+        (Grows ranked.now (ranks.old.items ++ child.now.rank ∷ []))
         (C.state collect.new) result }
 {
     if tails.is_empty() || !opens(alloc, ranked, ranks, child.rank, collect)? {

@@ -2,7 +2,8 @@
 
 ghost use Rattle.std.specs.Prelude.{◌≡◌, ◌<◌, [], ◌∷◌, ◌++◌, false, nat_eq, length, IfOk, OnOk, MatchOption};
 ghost use Rattle.std.specs.List.{AllByRecursion, IsDistinct};
-ghost use Rattle.hu_list.specs.Slots.{IsPlace, among};
+ghost use Rattle.hu_list.specs.Slots.{IsPlace};
+ghost use Rattle.hu_totals.specs.Cells.{among};
 
 use hu_kind::NoMemory;
 use std::alloc::Global;
@@ -50,7 +51,8 @@ impl Slots {
 
     /// The slot of a rank, if it has one.
     pub(crate) fn find(&self, rank: u32) -> Option<usize>
-        ensures { MatchOption result (among rank self.now.ranks ≡ false) (IsPlace self.now.ranks rank) }
+        ensures { MatchOption result (among rank self.now.ranks ≡ false)
+            (IsPlace self.now.ranks rank) }
     {
         let place = *self.places.get(rank as usize)?;
         match self.ranks.get(place) {

@@ -3,7 +3,8 @@
 ghost use Rattle.std.specs.Prelude.{◌≡◌, ◌<◌, ◌+◌, ◌^◌, ◌==◌, ◌+ℤ◌, ℕ, pos, unsigned_abs, length, if◌then◌else◌, IfOk};
 ghost use Rattle.hu_kind.specs.Record.{positive_part};
 ghost use Rattle.hu_totals.specs.View.{dense_pair};
-ghost use Rattle.hu_list.specs.Slots.{among, at, IsPlace};
+ghost use Rattle.hu_totals.specs.Cells.{among};
+ghost use Rattle.hu_list.specs.Slots.{at, IsPlace};
 ghost use Rattle.hu_list.specs.Tails.{size_of};
 ghost use Rattle.hu_list.specs.Passes.{met, met_in, summing, sum_with, no_sum, SumsFit};
 ghost use Rattle.hu_list.specs.Level.{sum_of};
@@ -77,7 +78,8 @@ pub(crate) fn sums(alloc: Global, tails: &[Tail<'_>], slots: &Slots) -> Result<V
 fn add_sums(slots: &Slots, sums: &mut Vec<Sum>, tail: &Tail<'_>)
     requires len { length sums.old.items ≡ length slots.now.ranks }
     requires rules { IsTail slots.now.room (tail_of tail.now) }
-    requires fits { (z : ℕ) → SumsFit (at no_sum slots.now.ranks sums.old.items z) (size_of (tail_of tail.now)) }
+    requires fits { (z : ℕ)
+        → SumsFit (at no_sum slots.now.ranks sums.old.items z) (size_of (tail_of tail.now)) }
     ensures len { length sums.new.items ≡ length slots.now.ranks }
     ensures sums { (z : ℕ) → at no_sum slots.now.ranks sums.new.items z
         ≡ met (summing slots.now.ranks (tail_of tail.now)) z (tail_of tail.now).cells
@@ -96,8 +98,9 @@ fn add_cell(slots: &Slots, sums: &mut Vec<Sum>, own: i128, cell: &Dense, rest: i
     requires fits { SumsFit (at no_sum slots.now.ranks sums.old.items cell.now.rank)
         (unsigned_abs own + unsigned_abs cell.now.value + unsigned_abs rest) }
     ensures len { length sums.new.items ≡ length slots.now.ranks }
-    ensures part { result ≡ (if among cell.now.rank slots.now.ranks then positive_part cell.now.value else pos
-        0) }
+    ensures part { result
+        ≡ (if among cell.now.rank slots.now.ranks then positive_part cell.now.value
+        else pos 0) }
     ensures sums { (z : ℕ) → at no_sum slots.now.ranks sums.new.items z
         ≡ (if z == cell.now.rank then (if among cell.now.rank slots.now.ranks then sum_with
         (at no_sum slots.now.ranks sums.old.items z)

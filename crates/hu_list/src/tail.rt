@@ -3,8 +3,8 @@
 ghost use Rattle.std.specs.Prelude.{◌≡◌, ◌<◌, ◌^◌, ◌+ℤ◌, if◌then◌else◌, pos};
 ghost use Rattle.hu_kind.specs.Record.{positive_part, absolute_of};
 ghost use Rattle.hu_totals.specs.View.{dense_pair};
-ghost use Rattle.hu_list.specs.Slots.{among};
-ghost use Rattle.hu_list.specs.Tails.{kept_gain, share, size_of};
+ghost use Rattle.hu_totals.specs.Cells.{among, kept_gain};
+ghost use Rattle.hu_list.specs.Tails.{share, size_of};
 ghost use Rattle.hu_list.specs.View.{cells_of, tail_of};
 
 use crate::single::above_none;
@@ -42,8 +42,9 @@ fn kept_gain(kept: &Slots, cells: &[Dense]) -> i128
 
 /// A cell's value where its rank is kept and it is above 0, else 0.
 fn kept_part(kept: &Slots, cell: &Dense) -> i128
-    ensures { result ≡ (if among cell.now.rank kept.now.ranks then positive_part cell.now.value else pos
-        0) }
+    ensures { result
+        ≡ (if among cell.now.rank kept.now.ranks then positive_part cell.now.value
+        else pos 0) }
 {
     if kept.has(cell.rank) {
         above_none(cell)

@@ -27,12 +27,13 @@ pub fn average_entries(
     requires fit { sum_by absolute_of (records_in batches.items) < 2 ^ 127 }
     requires least { pos 1 ≤ℤ least }
     requires some { IfSome top (λ k. 1 ≤ k) }
-    ensures { IfOk result (λ entries. entries.items ≡ average_answer (records_in batches.items) least top) }
+    ensures { IfOk result
+        (λ entries. entries.items ≡ average_answer (records_in batches.items) least top) }
 {
     let base = joined(alloc, batches)?;
     match engine {
         Engine::Plain => hu_average::mine_plain(alloc, &base, least, top),
-        _ => ranked_average(alloc, &base, least, top),
+        _ => ranked_average(alloc, base, least, top),
     }
 }
 
@@ -40,15 +41,16 @@ pub fn average_entries(
 /// reach that.
 fn ranked_average(
     alloc: Global,
-    base: &Base<Record>,
+    base: Base<Record>,
     least: i128,
     top: Option<u32>,
 ) -> Result<Vec<Entry>, NoMemory>
     requires least { pos 1 ≤ℤ least }
     requires some { IfSome top (λ k. 1 ≤ k) }
-    ensures { IfOk result (λ entries. entries.items ≡ average_answer (records_of base.now) least top) }
+    ensures { IfOk result (λ entries. entries.items ≡ average_answer (records_of base) least top) }
 {
-    let totals = Totals::of(alloc, base)?;
-    let ranked = Ranked::ordered(alloc, base, &totals, least, RankOrder::Value)?;
+    let totals = Totals::of(alloc, &base)?;
+    let ranked = Ranked::ordered(alloc, &base, &totals, least, RankOrder::Value)?;
+    drop(base);
     hu_average::mine(alloc, &ranked, least, top)
 }

@@ -23,7 +23,8 @@ pub fn joined<R: Absolute>(alloc: Global, batches: Vec<Base<R>>) -> Result<Base<
 /// Appends a batch that fits.
 fn join<R: Absolute>(base: &mut Base<R>, batch: Base<R>) -> Result<(), NoMemory>
     requires { sum_of R.absolute base.old + sum_by R.absolute (records_of batch) < 2 ^ 127 }
-    ensures { OnOk result (base.new ≡ (carried_of base.old, records_of base.old ++ records_of batch)) }
+    ensures { OnOk result
+        (base.new ≡ (carried_of base.old, records_of base.old ++ records_of batch)) }
 {
     match base.join(batch) {
         Ok(()) => Ok(()),

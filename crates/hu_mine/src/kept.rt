@@ -49,7 +49,8 @@ fn append_all(kept: &mut Kept, batches: Vec<Base<Record>>) -> Result<(), NoMemor
 
 /// Appends a batch that fits.
 fn append(kept: &mut Kept, batch: Base<Record>) -> Result<(), NoMemory>
-    requires { sum_by absolute_of (kept.old).records + sum_by absolute_of (records_of batch) < 2 ^ 127 }
+    requires { sum_by absolute_of (kept.old).records + sum_by absolute_of (records_of batch)
+        < 2 ^ 127 }
     ensures { OnOk result (kept.new ≡ with_batch kept.old (records_of batch)) }
 {
     match kept.append(batch) {

@@ -38,12 +38,13 @@ pub fn item_entries(
     requires fit { sum_by absolute_of (records_in batches.items) < 2 ^ 127 }
     requires least { pos 1 ≤ℤ least }
     requires some { IfSome top (λ k. 1 ≤ k) }
-    ensures { IfOk result (λ entries. entries.items ≡ item_answer (records_in batches.items) least top) }
+    ensures { IfOk result
+        (λ entries. entries.items ≡ item_answer (records_in batches.items) least top) }
 {
     match engine {
         Engine::Kept => kept_entries(alloc, batches, least, top, false),
         Engine::Plain => plain_items(alloc, &joined(alloc, batches)?, least, top),
-        _ => ranked_items(alloc, &joined(alloc, batches)?, engine, least, top),
+        _ => ranked_items(alloc, joined(alloc, batches)?, engine, least, top),
     }
 }
 
@@ -60,11 +61,12 @@ pub fn closed_entries(
     requires fit { sum_by absolute_of (records_in batches.items) < 2 ^ 127 }
     requires least { pos 1 ≤ℤ least }
     requires some { IfSome top (λ k. 1 ≤ k) }
-    ensures { IfOk result (λ entries. entries.items ≡ closed_answer (records_in batches.items) least top) }
+    ensures { IfOk result
+        (λ entries. entries.items ≡ closed_answer (records_in batches.items) least top) }
 {
     match engine {
         Engine::Kept => kept_entries(alloc, batches, least, top, true),
-        _ => ranked_closed(alloc, &joined(alloc, batches)?, engine, least, top),
+        _ => ranked_closed(alloc, joined(alloc, batches)?, engine, least, top),
     }
 }
 
@@ -77,7 +79,8 @@ pub fn sequence_entries(
     top: Option<u32>,
 ) -> Result<Vec<Entry>, NoMemory>
     requires offered { offers Sequences engine ≡ true }
-    requires fit { sum_by (λ elements. sum_by absolute_of elements) (records_in batches.items) < 2 ^ 127 }
+    requires fit { sum_by (λ elements. sum_by absolute_of elements) (records_in batches.items)
+        < 2 ^ 127 }
     requires least { pos 1 ≤ℤ least }
     requires some { IfSome top (λ k. 1 ≤ k) }
     ensures { IfOk result (λ entries. entries.items ≡ sequence_answer
@@ -111,35 +114,35 @@ fn plain_items(
 /// The answer by an engine over ranks. With a k it begins with what k single items earn.
 fn ranked_items(
     alloc: Global,
-    base: &Base<Record>,
+    base: Base<Record>,
     engine: Engine,
     least: i128,
     top: Option<u32>,
 ) -> Result<Vec<Entry>, NoMemory>
     requires least { pos 1 ≤ℤ least }
     requires some { IfSome top (λ k. 1 ≤ k) }
-    ensures { IfOk result (λ entries. entries.items ≡ item_answer (records_of base.now) least top) }
+    ensures { IfOk result (λ entries. entries.items ≡ item_answer (records_of base) least top) }
 {
-    let totals = Totals::of(alloc, base)?;
+    let totals = Totals::of(alloc, &base)?;
     let start = start_of(alloc, &totals, least, top)?;
-    let ranked = Ranked::ordered(alloc, base, &totals, start, RankOrder::Value)?;
+    let ranked = Ranked::ordered(alloc, &base, &totals, start, RankOrder::Value)?;
     items_from(alloc, base, &ranked, engine, start, top)
 }
 
 /// The first itemsets that earn at least a start, over the ranks of the items that can reach it.
 fn items_from(
     alloc: Global,
-    base: &Base<Record>,
+    base: Base<Record>,
     ranked: &Ranked,
     engine: Engine,
     start: i128,
     top: Option<u32>,
 ) -> Result<Vec<Entry>, NoMemory>
-    requires patterns { KeepsPatterns (records_of base.now) ranked.now }
+    requires patterns { KeepsPatterns (records_of base) ranked.now }
     requires floor { ranked.now.floor ≤ℤ start }
     requires least { pos 1 ≤ℤ start }
     requires some { IfSome top (λ k. 1 ≤ k) }
-    ensures { IfOk result (λ entries. entries.items ≡ item_answer (records_of base.now) start top) }
+    ensures { IfOk result (λ entries. entries.items ≡ item_answer (records_of base) start top) }
 {
     let mut collect = Limited::new(alloc, top, start);
     search(alloc, base, ranked, engine, &mut collect)?;
@@ -149,25 +152,25 @@ fn items_from(
 /// The closed answer, over the ranks of the items that can reach the least utility.
 fn ranked_closed(
     alloc: Global,
-    base: &Base<Record>,
+    base: Base<Record>,
     engine: Engine,
     least: i128,
     top: Option<u32>,
 ) -> Result<Vec<Entry>, NoMemory>
     requires least { pos 1 ≤ℤ least }
     requires some { IfSome top (λ k. 1 ≤ k) }
-    ensures { IfOk result (λ entries. entries.items ≡ closed_answer (records_of base.now) least top) }
+    ensures { IfOk result (λ entries. entries.items ≡ closed_answer (records_of base) least top) }
 {
-    let totals = Totals::of(alloc, base)?;
-    let ranked = Ranked::ordered(alloc, base, &totals, least, RankOrder::Value)?;
-    let sets = RecordSets::of(alloc, base)?;
+    let totals = Totals::of(alloc, &base)?;
+    let ranked = Ranked::ordered(alloc, &base, &totals, least, RankOrder::Value)?;
+    let sets = RecordSets::of(alloc, &base)?;
     closed_from(alloc, base, &ranked, &sets, engine, least, top)
 }
 
 /// The first closed itemsets that earn at least a start, over the ranks of the items that can reach it.
 fn closed_from(
     alloc: Global,
-    base: &Base<Record>,
+    base: Base<Record>,
     ranked: &Ranked,
     sets: &RecordSets,
     engine: Engine,
@@ -175,12 +178,12 @@ fn closed_from(
     top: Option<u32>,
 ) -> Result<Vec<Entry>, NoMemory>
     requires ranks { IsRankingOf sets.now ranked.now }
-    requires patterns { KeepsPatterns (records_of base.now) ranked.now }
-    requires sets { sets.now ≡ records_of base.now }
+    requires patterns { KeepsPatterns (records_of base) ranked.now }
+    requires sets { sets.now ≡ records_of base }
     requires floor { ranked.now.floor ≤ℤ start }
     requires least { pos 1 ≤ℤ start }
     requires some { IfSome top (λ k. 1 ≤ k) }
-    ensures { IfOk result (λ entries. entries.items ≡ closed_answer (records_of base.now) start top) }
+    ensures { IfOk result (λ entries. entries.items ≡ closed_answer (records_of base) start top) }
 {
     let mut collect = ClosedOnly::new(Limited::new(alloc, top, start), sets, ranked);
     search(alloc, base, ranked, engine, &mut collect)?;

@@ -18,28 +18,33 @@ use hu_totals::{Ranked, Totals};
 use std::alloc::Global;
 
 /// Offers the itemsets of a base that may change what is collected: by utility lists, which join only ranks that gain the
-/// floor together, by projected rows, or else each of them.
+/// floor together, by projected rows, or else each of them. An engine over ranks needs the base no more, so that its memory
+/// is free for the search.
 pub(crate) fn search<C: Collect>(
     alloc: Global,
-    base: &Base<Record>,
+    base: Base<Record>,
     ranked: &Ranked,
     engine: Engine,
     collect: &mut C,
 ) -> Result<(), NoMemory>
-    requires patterns { KeepsPatterns (records_of base.now) ranked.now }
+    requires patterns { KeepsPatterns (records_of base) ranked.now }
     requires floor { ranked.now.floor ≤ℤ floor_in (C.state collect.old) }
     requires rests { RestsOn (C.state collect.old).rule.table ranked.now.items }
     ensures { OnOk result (C.state collect.new ≡ offered (C.state collect.old)
-        (item_patterns (records_of base.now))) }
+        (item_patterns (records_of base))) }
 {
     let floor = collect.floor();
     match engine {
         Engine::Lists => {
+            drop(base);
             let gate = PairTwu::of(alloc, ranked, floor)?;
             hu_list::mine(alloc, ranked, collect, &gate)
         }
-        Engine::Project => hu_project::mine(alloc, ranked, collect),
-        _ => mine_items(alloc, base, collect),
+        Engine::Project => {
+            drop(base);
+            hu_project::mine(alloc, ranked, collect)
+        }
+        _ => mine_items(alloc, &base, collect),
     }
 }
 

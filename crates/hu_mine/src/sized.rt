@@ -40,7 +40,7 @@ pub fn sized_entries(
 {
     let base = joined(alloc, batches)?;
     let mut collect = LengthsOnly::new(Limited::new(alloc, top, least), short, long);
-    search_sized(alloc, &base, engine, least, &mut collect)?;
+    search_sized(alloc, base, engine, least, &mut collect)?;
     collect.into_inner().into_entries()
 }
 
@@ -48,7 +48,7 @@ pub fn sized_entries(
 /// lists, or else each of them.
 fn search_sized(
     alloc: Global,
-    base: &Base<Record>,
+    base: Base<Record>,
     engine: Engine,
     least: i128,
     collect: &mut LengthsOnly<Limited>,
@@ -57,14 +57,16 @@ fn search_sized(
     requires floor { least ≤ℤ floor_in (⟦<LengthsOnly<Limited> as Collect>⟧.state collect.old) }
     requires table { (⟦<LengthsOnly<Limited> as Collect>⟧.state collect.old).rule.table ≡ None }
     ensures { OnOk result (⟦<LengthsOnly<Limited> as Collect>⟧.state collect.new
-        ≡ offered (⟦<LengthsOnly<Limited> as Collect>⟧.state collect.old) (item_patterns (records_of base.now))) }
+        ≡ offered (⟦<LengthsOnly<Limited> as Collect>⟧.state collect.old)
+        (item_patterns (records_of base))) }
 {
     // This tells the proof that the content is in order.
     let _floor = collect.floor();
     if engine == Engine::Plain {
-        return mine_items(alloc, base, collect);
+        return mine_items(alloc, &base, collect);
     }
-    let totals = Totals::of(alloc, base)?;
-    let ranked = Ranked::ordered(alloc, base, &totals, least, RankOrder::Value)?;
+    let totals = Totals::of(alloc, &base)?;
+    let ranked = Ranked::ordered(alloc, &base, &totals, least, RankOrder::Value)?;
+    drop(base);
     mine_sized(alloc, &ranked, collect)
 }

@@ -68,7 +68,8 @@ fn enter<C: Collect>(
     requires rows { AreRows (rows_of rows.now) }
     requires in_order { IsInOrder (C.state collect.old) }
     ensures prefix { OnOk result (prefix.new ≡ prefix.old) }
-    ensures searches { Searches (C.state collect.old) (IsGrowth (key_with prefix.old item.0) (rows_of rows.now))
+    ensures searches { Searches (C.state collect.old)
+        (IsGrowth (key_with prefix.old item.0) (rows_of rows.now))
         (C.state collect.new) result }
 {
     prefix.push(i64::from(item.0))?;

@@ -35,7 +35,8 @@ impl<'a> Place<'a> {
     /// The place at the same itemset that a row makes with an item more.
     fn ended(&self, row: Option<Row<'a>>, item: Item) -> Place<'a>
         requires { AreRows (rows_in row) }
-        ensures { place_of result ≡ (grown_rows item.0 (rows_in row.entry), pairs_of self.now.cells.now) }
+        ensures { place_of result
+            ≡ (grown_rows item.0 (rows_in row.entry), pairs_of self.now.cells.now) }
     {
         Place {
             end: grown_row(row, item),
@@ -133,7 +134,8 @@ pub(crate) fn first_places_of(
 fn into<'a>(alloc: Global, places: &[Place<'a>], item: Item) -> Result<Vec<Place<'a>>, NoMemory>
     requires ascending { AreAscending (places_of places.now) }
     requires sum_fits { reach_of (places_of places.now) < 2 ^ 127 }
-    ensures { IfOk result (λ grown. places_of grown.items ≡ begun (into item.0 (places_of places.now))) }
+    ensures { IfOk result
+        (λ grown. places_of grown.items ≡ begun (into item.0 (places_of places.now))) }
 {
     let mut grown = Vec::new(alloc);
     for place in places {
@@ -188,7 +190,8 @@ pub(crate) fn all_stepped<'a>(
     step: Step,
 ) -> Result<Vec<Vec<Place<'a>>>, NoMemory>
     requires { ArePlaces (all_places rows.now) }
-    ensures value { IfOk result (λ grown. all_places grown.items ≡ all_stepped step (all_places rows.now)) }
+    ensures value { IfOk result
+        (λ grown. all_places grown.items ≡ all_stepped step (all_places rows.now)) }
     ensures rules { IfOk result (λ grown. ArePlaces (all_places grown.items)) }
 {
     let mut grown = Vec::new(alloc);
@@ -252,7 +255,8 @@ fn push_after(steps: &mut Vec<Step>, items: &[Item]) -> Result<(), NoMemory>
 
 /// Appends the items that can join the last itemset in a record.
 fn push_joining(items: &mut Vec<Item>, places: &[Place<'_>]) -> Result<(), NoMemory>
-    ensures { OnOk result (Appends items.old.items (joining (places_of places.now)) items.new.items) }
+    ensures { OnOk result
+        (Appends items.old.items (joining (places_of places.now)) items.new.items) }
 {
     for place in places {
         push_tail(items, place.end)?;
@@ -262,7 +266,8 @@ fn push_joining(items: &mut Vec<Item>, places: &[Place<'_>]) -> Result<(), NoMem
 
 /// Appends the items after a row's prefix.
 fn push_tail(items: &mut Vec<Item>, row: Option<Row<'_>>) -> Result<(), NoMemory>
-    ensures { OnOk result (Appends items.old.items (items_after (rows_in row.entry)) items.new.items) }
+    ensures { OnOk result
+        (Appends items.old.items (items_after (rows_in row.entry)) items.new.items) }
 {
     match row {
         Some(row) => push_items(items, row.tail),
@@ -272,7 +277,8 @@ fn push_tail(items: &mut Vec<Item>, row: Option<Row<'_>>) -> Result<(), NoMemory
 
 /// Appends the items that can begin a new itemset in a record: those after the first place.
 fn push_following(items: &mut Vec<Item>, places: &[Place<'_>]) -> Result<(), NoMemory>
-    ensures { OnOk result (Appends items.old.items (following (places_of places.now)) items.new.items) }
+    ensures { OnOk result
+        (Appends items.old.items (following (places_of places.now)) items.new.items) }
 {
     match places.split_first() {
         Some((_, later)) => push_cells(items, later),
@@ -282,7 +288,8 @@ fn push_following(items: &mut Vec<Item>, places: &[Place<'_>]) -> Result<(), NoM
 
 /// Appends the items of all cells at places.
 fn push_cells(items: &mut Vec<Item>, places: &[Place<'_>]) -> Result<(), NoMemory>
-    ensures { OnOk result (Appends items.old.items (items_at (places_of places.now)) items.new.items) }
+    ensures { OnOk result
+        (Appends items.old.items (items_at (places_of places.now)) items.new.items) }
 {
     for place in places {
         push_items(items, place.cells)?;

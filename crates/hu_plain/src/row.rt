@@ -78,7 +78,8 @@ pub(crate) fn distinct(items: Vec<Item>) -> Vec<Item>
 
 /// Appends the items of cells.
 pub(crate) fn push_items(items: &mut Vec<Item>, cells: &[Cell]) -> Result<(), NoMemory>
-    ensures { OnOk result (Appends items.old.items (items_in (pairs_of cells.now)) items.new.items) }
+    ensures { OnOk result
+        (Appends items.old.items (items_in (pairs_of cells.now)) items.new.items) }
 {
     for cell in cells {
         items.push(cell.item)?;

@@ -49,7 +49,8 @@ pub(crate) fn kept_of(
     children: &[Child],
     floor: i128,
 ) -> Result<Vec<Child>, NoMemory>
-    ensures { IfOk result (λ kept. kept.items ≡ filter (λ child. int_le floor child.bound) children.now) }
+    ensures { IfOk result
+        (λ kept. kept.items ≡ filter (λ child. int_le floor child.bound) children.now) }
 {
     let mut kept = Vec::new(alloc);
     for child in children {
@@ -60,7 +61,8 @@ pub(crate) fn kept_of(
 
 /// Appends a child that is kept.
 fn push_if(kept: &mut Vec<Child>, child: Child, is_kept: bool) -> Result<(), NoMemory>
-    ensures { OnOk result (kept.new.items ≡ kept.old.items ++ (if is_kept then child ∷ [] else [])) }
+    ensures { OnOk result
+        (kept.new.items ≡ kept.old.items ++ (if is_kept then child ∷ [] else [])) }
 {
     if is_kept {
         kept.push(child)?;
@@ -93,7 +95,8 @@ fn push_open(
     floor: i128,
 ) -> Result<(), NoMemory>
     requires { child.now.rank < length tallies.now }
-    ensures { OnOk result (chosen.new.items ≡ chosen.old.items ++ open_if tallies.now floor child.now) }
+    ensures { OnOk result
+        (chosen.new.items ≡ chosen.old.items ++ open_if tallies.now floor child.now) }
 {
     let bound = tallies.of(child.rank).bound;
     if bound >= floor {

@@ -79,7 +79,8 @@ pub(crate) fn open_children<'a, C: Collect>(
     requires level { IsLevel (C.state collect.old) ranked.now ranks.now rows.now }
     requires board { IsBoard (length ranked.now.items) board.old }
     ensures board { OnOk result (IsBoard (length ranked.now.items) board.new) }
-    ensures ok { IfOk result (IsPrepared (C.state collect.old) (C.state collect.new) ranked.now ranks.now) }
+    ensures ok { IfOk result
+        (IsPrepared (C.state collect.old) (C.state collect.new) ranked.now ranks.now) }
     ensures err { OnErr result (ReachedSome (C.state collect.old) (Grows ranked.now ranks.now)
         (C.state collect.new)) }
 {
@@ -112,7 +113,8 @@ fn choose<'a>(
     requires met { AllByRecursion (λ rank. rank < length board.old.tallies) met.now }
     requires noted { (rank : ℕ) → 0 < count_over rows (rank ∷ []) → Contains met.now rank }
     requires kept { AllByRecursion (λ child. child.rank < length board.old.tallies) kept.now }
-    requires held { (rank : ℕ) → 0 < count_over rows (rank ∷ []) → Contains (ranks_of kept.now) rank }
+    requires held { (rank : ℕ) → 0 < count_over rows (rank ∷ [])
+        → Contains (ranks_of kept.now) rank }
     requires least { pos 1 ≤ℤ floor }
     ensures board { OnOk result (IsBoard (length board.old.tallies) board.new) }
     ensures ok { IfOk result (IsChoice rows.entry kept.now floor) }
@@ -151,7 +153,8 @@ fn places_of(
 /// Takes the places of these children away.
 fn clear(alloc: Global, places: &mut Places, children: &[Child])
     requires below { AllByRecursion (λ child. child.rank < length places.old) children.now }
-    requires each { (rank : ℕ) → Contains (ranks_of children.now) rank ⊎ (places_at places.old rank ≡ []) }
+    requires each { (rank : ℕ)
+        → Contains (ranks_of children.now) rank ⊎ (places_at places.old rank ≡ []) }
     ensures len { length places.new ≡ length places.old }
     ensures empty { AreEmpty places.new }
 {

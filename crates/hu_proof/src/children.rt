@@ -92,7 +92,8 @@ fn lowest(order: &Order, from: usize, named: &Order, before: usize, cells: &[Cel
     requires within { before ≤ length order.now }
     ensures within { result ≤ length order.now }
     ensures value { (test : ℕ → Bool) → IsLowest order.now named.now from test before
-        → IsLowest order.now named.now from (λ item. test item || has item (pairs_of cells.now)) result }
+        → IsLowest order.now named.now from
+        (λ item. test item || has item (pairs_of cells.now)) result }
 {
     let mut low = before;
     for cell in cells {
@@ -109,7 +110,8 @@ fn lower(order: &Order, from: usize, named: &Order, low: usize, item: Item) -> O
     requires within { low ≤ length order.now }
     ensures some { IfSome result (λ rank. IsLower order.now named.now from low item.0 rank) }
     ensures none { IfNone result ((rank : ℕ) → from ≤ rank → rank < low
-        → is_among (slice_index order.now rank) named.now ≡ false → slice_index order.now rank ≢ item.0) }
+        → is_among (slice_index order.now rank) named.now ≡ false
+        → slice_index order.now rank ≢ item.0) }
 {
     let rank = order.rank_of(item)?;
     if from <= rank && rank < low && named.rank_of(item).is_none() {

@@ -19,7 +19,8 @@ pub(crate) struct Line<'a> {
 
 /// What a line says, where it is of its form.
 pub(crate) fn line_of(text: &[u8]) -> Option<Line<'_>>
-    ensures some { IfSome result (λ line. IsLine text.now line.prefix.now line.utility line.tokens.now) }
+    ensures some { IfSome result
+        (λ line. IsLine text.now line.prefix.now line.utility line.tokens.now) }
     ensures none { IfNone result (said_of text.now ≡ None) }
 {
     let (prefix, utility, tokens) = parts_of(text)?;

@@ -41,7 +41,8 @@ pub(crate) fn next<'a>(
 ) -> Result<Option<Opened<'a>>, NoMemory>
     ensures some { IfOk result (λ next. IfSome next
         (λ node. Steps (numbers_of path.old.items) (stack_of waiting.old.items)
-        (numbers_of path.new.items) (stack_of waiting.new.items) node.from (places_of node.places.items))) }
+        (numbers_of path.new.items) (stack_of waiting.new.items) node.from
+        (places_of node.places.items))) }
     ensures none { IfOk result (λ next. IfNone next ((stack_of waiting.old.items
         ≡ []) × (stack_of waiting.new.items ≡ []))) }
 {
@@ -160,7 +161,8 @@ fn visit<'a>(
         (places_of node.now.places.items) (said_of text.now)) }
     ensures pushed { OnOk result ((tokens : List Token) × SaysTokens text.now tokens
         × Follows (drop node.now.from order.now) (token_items tokens)
-        × PushesChildren order.now (length path.now) node.now.from (places_of node.now.places.items) tokens
+        × PushesChildren order.now (length path.now) node.now.from
+        (places_of node.now.places.items) tokens
         (stack_of waiting.old.items) (stack_of waiting.new.items)) }
     ensures found { OnOk result (⟦<All as Collect>⟧.state found.new
         ≡ offered (⟦<All as Collect>⟧.state found.old)

@@ -15,7 +15,7 @@ use Rattle.hu_kind.proofs.lemmas.Earned.{gain-within}
 use Rattle.hu_raise.specs.Partners.{partners}
 use Rattle.hu_raise.specs.Places.{places_from}
 use Rattle.hu_raise.specs.Sums.{sum_at, ranks_reaching, gain_at}
-use Rattle.hu_raise.proofs.GainLemmas.{gain-least}
+use Rattle.hu_kind.proofs.lemmas.Earned.{gain-least}
 use Rattle.hu_raise.proofs.CellLemmas.{has-after}
 use Rattle.hu_raise.proofs.NumberLists.{ascending_same, filter-range_ascends, Member-filter_range, Member-from_range}
 

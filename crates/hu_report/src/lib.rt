@@ -10,4 +10,4 @@ mod tests;
 mod text;
 
 pub use page::Page;
-pub use text::write_entries;
+pub use text::{push_key, write_entries};

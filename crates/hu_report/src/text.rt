@@ -66,7 +66,8 @@ fn push_utility<S: Sink>(utility: i128, page: &mut Page, sink: &mut S) -> Result
     page.push(b"\n", sink)
 }
 
-fn push_key<S: Sink>(numbers: &[i64], page: &mut Page, sink: &mut S) -> Result<(), Failed>
+/// Puts the numbers of a key to a page, with one space between. It takes no memory, in linear time.
+pub fn push_key<S: Sink>(numbers: &[i64], page: &mut Page, sink: &mut S) -> Result<(), Failed>
     ensures { Passes (S.state sink.old) (S.state sink.new) result
         page.old page.new (key_text numbers.now) }
 {
@@ -77,7 +78,7 @@ fn push_key<S: Sink>(numbers: &[i64], page: &mut Page, sink: &mut S) -> Result<(
     push_spaced(others, page, sink)
 }
 
-// The numbers, with a space before each.
+/// The numbers, with a space before each.
 fn push_spaced<S: Sink>(numbers: &[i64], page: &mut Page, sink: &mut S) -> Result<(), Failed>
     ensures { Passes (S.state sink.old) (S.state sink.new) result
         page.old page.new (spaced_text numbers.now) }

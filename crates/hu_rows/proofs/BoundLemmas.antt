@@ -7,89 +7,25 @@ use Rattle.std.proofs.lemmas.Int.{ints}
 use Rattle.std.proofs.lemmas.List.Sums.{sum_by-cons}
 use Rattle.hu_kind.specs.Order.{Ascend}
 use Rattle.hu_kind.specs.Record.{has, holds, value_of, values_of, items_in, absolute_of, positive_part}
-use Rattle.hu_kind.proofs.lemmas.Earned.{positive_part-upper, positive_part-within}
+use Rattle.hu_kind.proofs.lemmas.Earned.{positive_part-within}
 use Rattle.hu_kind.proofs.lemmas.Occurring.{above_all}
 use Rattle.hu_rows.specs.Rows.{RowOf, AreRows, over, over_row, ranks_of, size_of}
-use Rattle.hu_rows.specs.Projection.{after}
-use Rattle.hu_rows.specs.Bounds.{among, kept_gain, local_share, subtree_share, local_bound, subtree_bound, set_to, IsKeptSet, BoundsEach, BoundsLeast}
-use Rattle.hu_rows.proofs.CellLemmas.{holds-after, values_of-after, Ascend-after, absolute_of-after}
-
--- ---- positive parts
-
-pub positive-least : (z : ℤ) → pos 0 ≤ℤ positive_part z
-positive-least z = (positive_part-upper z).1
-
-pub positive-above : (z : ℤ) → z ≤ℤ positive_part z
-positive-above z = (positive_part-upper z).0
-
-part-least : (b : Bool) (z : ℤ) → pos 0 ≤ℤ cond b (positive_part z) (pos 0)
-part-least true z = positive-least z
-part-least false z = omega (arith, ints)
-
-part-within : (b : Bool) (z : ℤ) → unsigned_abs (cond b (positive_part z) (pos 0)) ≤ unsigned_abs z
-part-within true z = positive_part-within z
-part-within false z = omega (arith, ints)
-
-pub kept_gain-least : (keep : List ℕ) (cells : List (ℕ × ℤ)) → pos 0 ≤ℤ kept_gain keep cells
-kept_gain-least keep [] = omega (arith, ints)
-kept_gain-least keep (cell ∷ cells) = omega (arith, ints, part-least (among cell.0 keep) cell.1, kept_gain-least keep cells)
-
-pub kept_gain-within : (keep : List ℕ) (cells : List (ℕ × ℤ)) → unsigned_abs (kept_gain keep cells) ≤ absolute_of cells
-kept_gain-within keep [] = omega arith
-kept_gain-within keep (cell ∷ cells) =
-    omega (arith, ints, sum_by-cons (λ (c : ℕ × ℤ). unsigned_abs c.1) cell cells, part-within (among cell.0 keep) cell.1, kept_gain-within keep cells)
+use Rattle.hu_totals.proofs.lemmas.KeptLemmas.{positive-least, positive-above, kept_gain-within, values_of-kept}
+use Rattle.hu_kind.proofs.lemmas.Each.{each-weaker}
+use Rattle.hu_totals.specs.Cells.{after, among, kept_gain}
+use Rattle.hu_totals.proofs.lemmas.AfterLemmas.{Ascend-after, absolute_of-after, holds-after, values_of-after}
+use Rattle.hu_rows.specs.Bounds.{local_share, subtree_share, local_bound, subtree_bound, set_to, IsKeptSet, BoundsEach, BoundsLeast}
 
 -- ---- what a set of kept ranks earns in a row is within the row's share
 
 -- ranks above that of the first cell stand among the others
-values_of-skip : (set : List ℕ) (cell : ℕ × ℤ) (cells : List (ℕ × ℤ)) → AllByRecursion (λ rank. cell.0 < rank) set
-    → values_of set (cell ∷ cells) ≡ values_of set cells
-values_of-skip [] cell cells above = refl
-values_of-skip (s ∷ set) cell cells above =
-    let other : eqb s cell.0 ≡ false = ne_eqb s cell.0 (λ e. absurd (omega arith)) in
-    rw other (λ j. value_of s cells +ℤ values_of-skip set cell cells above.1 j)
-
-holds-skip : (set : List ℕ) (cell : ℕ × ℤ) (cells : List (ℕ × ℤ)) → AllByRecursion (λ rank. cell.0 < rank) set → holds set (cell ∷ cells) ≡ holds set cells
-holds-skip [] cell cells above = refl
-holds-skip (s ∷ set) cell cells above =
-    let other : eqb s cell.0 ≡ false = ne_eqb s cell.0 (λ e. absurd (omega arith)) in
-    rw other (λ j. has s cells && holds-skip set cell cells above.1 j)
-
-has-later : (rank low : ℕ) (cells : List (ℕ × ℤ)) → AllByRecursion (λ other. low < other) (items_in cells) → has rank cells ≡ true → low < rank
-has-later rank low [] above h = cc
-has-later rank low (cell ∷ cells) above h = elim (or_cases (eqb rank cell.0) (has rank cells) h) [
-  | inl e ↦ let same = eqb-true rank cell.0 e in let first = above.0 in omega arith
-  | inr later ↦ has-later rank low cells above.1 later
-]
-
 true_from : (b : Bool) → IsTrue b → b ≡ true
 true_from true h = refl
 true_from false h = cc
 
-values_of-kept : (keep : List ℕ) (cells : List (ℕ × ℤ)) (set : List ℕ) → Ascend (items_in cells) → Ascend set
-    → AllByRecursion (λ rank. IsTrue (among rank keep)) set → holds set cells ≡ true
-    → values_of set cells ≤ℤ kept_gain keep cells
-values_of-kept keep cells [] up rise kept h = kept_gain-least keep cells
-values_of-kept keep [] (s ∷ set) up rise kept h = cc
-values_of-kept keep (cell ∷ cells) (s ∷ set) up rise kept h = elim (cases_eq s cell.0) [
-  | inl e ↦
-      let here : eqb s cell.0 ≡ true = eq-eqb s cell.0 e in
-      let above : AllByRecursion (λ rank. cell.0 < rank) set = subst (λ r. AllByRecursion (λ rank. r < rank) set) e rise.0 in
-      let both = and_parts (has s (cell ∷ cells)) (holds set (cell ∷ cells)) h in
-      let rest = values_of-kept keep cells set up.1 rise.1 kept.1 (sym (holds-skip set cell cells above) ∙ both.1) in
-      let is_kept : among cell.0 keep ≡ true = subst (λ r. among r keep ≡ true) e (true_from (among s keep) kept.0) in
-      let skip = values_of-skip set cell cells above in
-      rw (here, is_kept) (omega (arith, ints, positive-above cell.1, rest, skip))
-  | inr ne ↦
-      let other : eqb s cell.0 ≡ false = ne_eqb s cell.0 ne in
-      let both = and_parts (has s (cell ∷ cells)) (holds set (cell ∷ cells)) h in
-      let there : has s cells ≡ true = rw other at both.0 in
-      let low : cell.0 < s = has-later s cell.0 cells up.0 there in
-      let above : AllByRecursion (λ rank. cell.0 < rank) (s ∷ set) = (low, above_all cell.0 s set low rise.0) in
-      let rest = values_of-kept keep cells (s ∷ set) up.1 rise kept (sym (holds-skip (s ∷ set) cell cells above) ∙ h) in
-      let skip : values_of (s ∷ set) (cell ∷ cells) ≡ values_of (s ∷ set) cells = values_of-skip (s ∷ set) cell cells above in
-      omega (arith, ints, part-least (among cell.0 keep) cell.1, rest, skip)
-]
+kept_set : (keep set : List ℕ) → AllByRecursion (λ rank. IsTrue (among rank keep)) set → AllByRecursion (λ rank. among rank keep ≡ true) set
+kept_set keep set kept =
+    each-weaker (λ rank. IsTrue (among rank keep)) (λ rank. among rank keep ≡ true) set (λ rank h. true_from (among rank keep) h) kept
 
 -- a rank of a set that a row holds stands in it
 has-among : (z : ℕ) (set : List ℕ) (cells : List (ℕ × ℤ)) → among z set ≡ true → holds set cells ≡ true → has z cells ≡ true
@@ -107,7 +43,7 @@ over_row-local keep set z row up is m = by (holds set row.cells) (has z row.cell
   where
     by : (b c : Bool) → holds set row.cells ≡ b → has z row.cells ≡ c → cond b (row.before +ℤ values_of set row.cells) (pos 0)
         ≤ℤ cond c (local_share keep row) (pos 0)
-    by true true h k = omega (arith, ints, positive-above (row.before +ℤ kept_gain keep row.cells), values_of-kept keep row.cells set up is.ascending is.kept h)
+    by true true h k = omega (arith, ints, positive-above (row.before +ℤ kept_gain keep row.cells), values_of-kept keep row.cells set up is.ascending (kept_set keep set is.kept) h)
     by true false h k = let there = has-among z set row.cells m h in cc
     by false true h k = positive-least (row.before +ℤ kept_gain keep row.cells)
     by false false h k = omega (arith, ints)
@@ -120,7 +56,7 @@ over_row-subtree keep set z row up is = by (has z row.cells) (holds set row.cell
         ≤ℤ cond b (subtree_share keep z row) (pos 0)
     by true true h =
         let above = is.ascending.0 in
-        let kept = values_of-kept keep (after z row.cells) set (Ascend-after z row.cells up) is.ascending.1 is.kept.1 (holds-after z set row.cells above ∙ h) in
+        let kept = values_of-kept keep (after z row.cells) set (Ascend-after z row.cells up) is.ascending.1 (kept_set keep set is.kept.1) (holds-after z set row.cells above ∙ h) in
         omega (
           arith,
           ints,

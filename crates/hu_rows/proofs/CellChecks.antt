@@ -21,9 +21,10 @@ use Rattle.hu_totals.specs.Ranked.{Ranking, IsRanking}
 use Rattle.hu_totals.specs.View.{dense_pair}
 use Rattle.hu_rows.specs.declared.rows.Row.{Row}
 use Rattle.hu_rows.specs.Rows.{RowOf, AreRows, AreCounted, over, count_over, size_of, count_of, ranks_of, unmerged}
-use Rattle.hu_rows.specs.Projection.{after, projected_row}
+use Rattle.hu_rows.specs.Projection.{projected_row}
 use Rattle.hu_rows.specs.View.{cells_of, row_of, rows_of, row_with, KeepRules}
-use Rattle.hu_rows.proofs.CellLemmas.{IsPlace, IsPlace-at}
+use Rattle.hu_totals.specs.Cells.{after}
+use Rattle.hu_totals.proofs.lemmas.AfterLemmas.{IsPlace, IsPlace-at}
 use Rattle.hu_rows.proofs.AddedCells.{get_or-cells_of, drop-cells_of}
 use Rattle.hu_rows.proofs.RankOrder.{ranks, length-ranks, get_or-ranks}
 use Rattle.hu_kind.proofs.lemmas.Each.{each-from_all, each-get}

@@ -14,12 +14,12 @@ use Rattle.hu_totals.specs.View.{dense_pair}
 use Rattle.hu_rows.specs.declared.rows.Row.{Row}
 use Rattle.hu_rows.specs.declared.places.Place.{Place}
 use Rattle.hu_rows.specs.Rows.{RowOf, ranks_of}
-use Rattle.hu_rows.specs.Projection.{after}
+use Rattle.hu_totals.specs.Cells.{after}
+use Rattle.hu_totals.proofs.lemmas.AfterLemmas.{IsPlace, IsPlace-at}
 use Rattle.hu_rows.specs.Handed.{handed, handed_if, handed_row, row_if_some, row_after, row_at, no_row, no_cell, places_at, IsWithin, ArePlaces}
 use Rattle.hu_rows.specs.Places.{lists_in, places_from, places_in}
 use Rattle.hu_rows.specs.View.{cells_of, row_of, rows_of, row_with}
 use Rattle.hu_rows.proofs.AddedCells.{drop-cells_of}
-use Rattle.hu_rows.proofs.CellLemmas.{IsPlace, IsPlace-at}
 
 -- ---- a row projected at a place
 

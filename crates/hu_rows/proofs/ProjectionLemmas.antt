@@ -8,8 +8,9 @@ use Rattle.hu_kind.specs.Order.{Ascend}
 use Rattle.hu_kind.specs.Record.{has, holds, value_of, values_of}
 use Rattle.hu_kind.proofs.lemmas.Members.{Member, Member-from_flat_map, Member-flat_map}
 use Rattle.hu_rows.specs.Rows.{RowOf, AreRows, over, over_row, count_over, count_in, count_of, size_of, ranks_of, ranks_in}
-use Rattle.hu_rows.specs.Projection.{after, projected, projected_row}
-use Rattle.hu_rows.proofs.CellLemmas.{holds-after, values_of-after, Ascend-after, absolute_of-after, Member-after}
+use Rattle.hu_rows.specs.Projection.{projected, projected_row}
+use Rattle.hu_totals.specs.Cells.{after}
+use Rattle.hu_totals.proofs.lemmas.AfterLemmas.{Ascend-after, Member-after, absolute_of-after, holds-after, values_of-after}
 use Rattle.hu_kind.proofs.lemmas.Each.{each-append}
 
 pub over-append : (rows others : List RowOf) (set : List ℕ) → over (rows ++ others) set ≡ over rows set +ℤ over others set

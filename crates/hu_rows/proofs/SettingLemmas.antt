@@ -13,14 +13,16 @@ use Rattle.hu_totals.specs.declared.ranked.Dense.{Dense}
 use Rattle.hu_totals.specs.View.{dense_pair}
 use Rattle.hu_rows.specs.declared.rows.Row.{Row}
 use Rattle.hu_rows.specs.Rows.{RowOf, size_of}
-use Rattle.hu_rows.specs.Bounds.{among, value_at, kept_gain, local_share, subtree_share, local_bound, subtree_bound, set_to, AreKept}
+use Rattle.hu_rows.specs.Bounds.{value_at, local_share, subtree_share, local_bound, subtree_bound, set_to, AreKept}
 use Rattle.hu_rows.specs.Setting.{IsSetting, kept_part, local_part, subtree_part}
 use Rattle.hu_rows.specs.View.{cells_of, row_of, rows_of}
 use Rattle.hu_rows.proofs.AddedCells.{get_or-cells_of}
 use Rattle.hu_rows.proofs.CellChecks.{IsPlace-cells}
-use Rattle.hu_rows.proofs.BoundLemmas.{kept_gain-within, local_bound-within, subtree_bound-within, local_bound-push, subtree_bound-push, local_share-within}
+use Rattle.hu_totals.proofs.lemmas.KeptLemmas.{kept_gain-within}
+use Rattle.hu_rows.proofs.BoundLemmas.{local_bound-within, subtree_bound-within, local_bound-push, subtree_bound-push, local_share-within}
 use Rattle.hu_rows.proofs.RunLemmas.{rows_of-more, sum_by-more}
-use Rattle.hu_rows.proofs.CellLemmas.{rank-above}
+use Rattle.hu_totals.specs.Cells.{among, kept_gain}
+use Rattle.hu_totals.proofs.lemmas.AfterLemmas.{rank-above}
 
 -- ---- a setting
 

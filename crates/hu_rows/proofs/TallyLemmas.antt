@@ -15,11 +15,11 @@ use Rattle.hu_totals.specs.View.{dense_pair}
 use Rattle.hu_rows.specs.declared.rows.Row.{Row}
 use Rattle.hu_rows.specs.declared.tally.Tally.{Tally}
 use Rattle.hu_rows.specs.Rows.{RowOf, AreRows, ranks_of, size_of, count_of}
-use Rattle.hu_rows.specs.Projection.{after}
+use Rattle.hu_totals.specs.Cells.{after}
+use Rattle.hu_totals.proofs.lemmas.AfterLemmas.{IsPlace, absolute_of-after}
 use Rattle.hu_rows.specs.Tally.{tally_with, no_tally, plus, tally_at, share_if, row_share, most, most_with, tail_most, tail_share, most_over}
 use Rattle.hu_rows.specs.Tally.{tail_over, told, tail_told, Fits, HasRoom, AreNoted, Adds}
 use Rattle.hu_rows.specs.View.{cells_of, row_of, rows_of}
-use Rattle.hu_rows.proofs.CellLemmas.{IsPlace, absolute_of-after}
 use Rattle.hu_rows.proofs.CellChecks.{IsPlace-cells}
 use Rattle.hu_rows.proofs.RankOrder.{length-ranks, get_or-ranks}
 use Rattle.hu_rows.proofs.ProjectionLemmas.{over-append, count_over-append}

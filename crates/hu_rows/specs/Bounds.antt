@@ -20,17 +20,7 @@ use Rattle.std.specs.List.{AllByRecursion, list_any}
 use Rattle.hu_kind.specs.Order.{Ascend}
 use Rattle.hu_kind.specs.Record.{has, value_of, positive_part}
 use Rattle.hu_rows.specs.Rows.{RowOf, over}
-use Rattle.hu_rows.specs.Projection.{after}
-
--- whether a rank is one of these
-abbrev pub among : ℕ → List ℕ → Bool
-among rank ranks = list_any (λ other. rank == other) ranks
-
--- the sum of the kept values above 0
-abbrev pub kept_gain : List ℕ → List (ℕ × ℤ) → ℤ
-kept_gain keep [] = pos 0
-kept_gain keep (cell ∷ cells) =
-    (if among cell.0 keep then positive_part cell.1 else pos 0) +ℤ kept_gain keep cells
+use Rattle.hu_totals.specs.Cells.{after, among, kept_gain}
 
 -- the most that a row gives a set of kept ranks
 abbrev pub local_share : List ℕ → RowOf → ℤ

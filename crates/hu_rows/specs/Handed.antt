@@ -25,7 +25,7 @@ use Rattle.hu_kind.specs.Record.{has, value_of}
 use Rattle.hu_rows.specs.declared.places.Place.{Place}
 use Rattle.hu_rows.specs.declared.tally.Tally.{Tally}
 use Rattle.hu_rows.specs.Rows.{RowOf}
-use Rattle.hu_rows.specs.Projection.{after}
+use Rattle.hu_totals.specs.Cells.{after}
 use Rattle.hu_rows.specs.Tally.{tally_at}
 
 -- whether the bound of a rank reaches a floor

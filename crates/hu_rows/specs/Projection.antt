@@ -3,11 +3,8 @@
 use Rattle.std.specs.Prelude.{ℕ, nat_lt, ℤ, ◌+ℤ◌, List, [], ◌∷◌, if◌then◌else◌}
 use Rattle.std.specs.List.{filter, flat_map}
 use Rattle.hu_kind.specs.Record.{has, value_of}
+use Rattle.hu_totals.specs.Cells.{after}
 use Rattle.hu_rows.specs.Rows.{RowOf}
-
--- the cells after a rank
-abbrev pub after : ℕ → List (ℕ × ℤ) → List (ℕ × ℤ)
-after z cells = filter (λ cell. nat_lt z cell.0) cells
 
 -- a row that holds a rank, projected by it
 abbrev pub projected_row : ℕ → RowOf → List RowOf

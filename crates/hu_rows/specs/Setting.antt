@@ -15,8 +15,9 @@ use Rattle.std.specs.Prelude.{
 }
 use Rattle.std.specs.List.{AllByRecursion}
 use Rattle.hu_kind.specs.Record.{has, positive_part}
+use Rattle.hu_totals.specs.Cells.{among}
 use Rattle.hu_rows.specs.Rows.{RowOf}
-use Rattle.hu_rows.specs.Bounds.{BinsOf, value_at, among, local_share, subtree_share}
+use Rattle.hu_rows.specs.Bounds.{BinsOf, value_at, local_share, subtree_share}
 
 -- a setting: the ranks that were kept, and the values
 pub record SettingOf : Type 0 where

@@ -23,7 +23,7 @@ use Rattle.std.specs.List.{AllByRecursion, Contains}
 use Rattle.hu_kind.specs.Record.{has, value_of, gain, positive_part}
 use Rattle.hu_rows.specs.declared.tally.Tally.{Tally}
 use Rattle.hu_rows.specs.Rows.{RowOf, over, count_over, ranks_of, size_of}
-use Rattle.hu_rows.specs.Projection.{after}
+use Rattle.hu_totals.specs.Cells.{after}
 
 -- a tally of these numbers
 abbrev pub tally_with : ℤ → ℕ → ℤ → Tally

@@ -60,7 +60,8 @@ fn push_narrowed<'a, 'b: 'a>(
     floor: i128,
     arena: &'a Bump<Global>,
 ) -> Result<(), NoMemory>
-    requires below { AllByRecursion (λ rank. rank < length tallies.now) (ranks_of (row_of row.now)) }
+    requires below { AllByRecursion (λ rank. rank < length tallies.now)
+        (ranks_of (row_of row.now)) }
     ensures { OnOk result (rows_of narrowed.new.items ≡ rows_of narrowed.old.items
         ++ narrowed_row (reaches tallies.now floor) (row_of row.now)) }
 {
@@ -97,7 +98,8 @@ fn keep_cells(
     tallies: &Tallies,
     floor: i128,
 ) -> Result<(), NoMemory>
-    requires below { AllByRecursion (λ rank. rank < length tallies.now) (items_in (cells_of cells.now)) }
+    requires below { AllByRecursion (λ rank. rank < length tallies.now)
+        (items_in (cells_of cells.now)) }
     ensures { OnOk result (cells_of kept.new.items ≡ only (reaches tallies.now floor)
         (cells_of cells.now)) }
 {

@@ -32,7 +32,8 @@ pub fn project<'a, 'b: 'a>(
         → count_over answer set ≡ count_over rows.now (z ∷ set)) }
     ensures sums { IfOk result (AreSums (projected z rows.now)) }
     ensures apart { IfOk result AreApart }
-    ensures after { IfOk result (λ answer. (rank : ℕ) → Contains (ranks_in answer) rank → z < rank) }
+    ensures after { IfOk result
+        (λ answer. (rank : ℕ) → Contains (ranks_in answer) rank → z < rank) }
     ensures among { IfOk result (λ answer. (rank : ℕ) → Contains (ranks_in answer) rank
         → Contains (ranks_in rows.now) rank) }
 {

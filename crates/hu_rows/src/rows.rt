@@ -103,7 +103,8 @@ impl<'a> Rows<'a> {
         ranked: &'a Ranked,
         arena: &'a Bump<Global>,
     ) -> Result<Rows<'a>, NoMemory>
-        ensures over { IfOk result (λ rows. (set : List ℕ) → over rows set ≡ utility ranked.now.records set) }
+        ensures over { IfOk result
+            (λ rows. (set : List ℕ) → over rows set ≡ utility ranked.now.records set) }
         ensures count { IfOk result (λ rows. (set : List ℕ) → count_over rows set
             ≡ support ranked.now.records set) }
         ensures sums { IfOk result (AreSums (map unmerged ranked.now.records)) }
@@ -118,7 +119,8 @@ impl<'a> Rows<'a> {
 
 /// Rows and then one more.
 fn with_row<'a>(alloc: Global, rows: &[Row<'a>], row: Row<'a>) -> Result<Vec<Row<'a>>, NoMemory>
-    ensures { IfOk result (λ answer. rows_of answer.items ≡ rows_of rows.now ++ row_of row.entry ∷ []) }
+    ensures { IfOk result
+        (λ answer. rows_of answer.items ≡ rows_of rows.now ++ row_of row.entry ∷ []) }
 {
     let mut answer = Vec::from_slice(alloc, rows)?;
     answer.push(row)?;
@@ -160,7 +162,8 @@ fn all_ascend(rows: &[Row<'_>]) -> bool
 
 /// Whether ranks ascend strictly.
 fn ascends(cells: &[Dense]) -> bool
-    ensures { IsTrue result ↔ AllAdjacentBelow (λ a b. a.rank < b.rank) cells.now (length cells.now) }
+    ensures { IsTrue result ↔ AllAdjacentBelow (λ a b. a.rank < b.rank) cells.now
+        (length cells.now) }
 {
     for i in 1..cells.len() {
         if cells[i].rank <= cells[i - 1].rank {
@@ -185,7 +188,8 @@ fn total_size(rows: &[Row<'_>]) -> Option<u128>
 /// A sum with the absolute values of a row, where that is at most 2^127 - 1.
 fn size_after(sum: u128, row: &Row<'_>) -> Option<u128>
     requires { sum < 2 ^ 127 }
-    ensures { SomeIff result (sum + size_of (row_of row.now) < 2 ^ 127) (sum + size_of (row_of row.now)) }
+    ensures { SomeIff result (sum + size_of (row_of row.now) < 2 ^ 127)
+        (sum + size_of (row_of row.now)) }
 {
     let mut total = plus(sum, row.before)?;
     for cell in row.cells {

@@ -5,8 +5,9 @@ ghost use Rattle.std.specs.List.{AllByRecursion};
 ghost use Rattle.hu_kind.specs.Order.{Ascend};
 ghost use Rattle.hu_kind.specs.Record.{absolute_of, positive_part};
 ghost use Rattle.hu_totals.specs.View.{dense_pair};
+ghost use Rattle.hu_totals.specs.Cells.{among, kept_gain};
 ghost use Rattle.hu_rows.specs.Rows.{AreRows, ranks_of, size_of};
-ghost use Rattle.hu_rows.specs.Bounds.{local_bound, subtree_bound, kept_gain, set_to, value_at, among, AreKept};
+ghost use Rattle.hu_rows.specs.Bounds.{local_bound, subtree_bound, set_to, value_at, AreKept};
 ghost use Rattle.hu_rows.specs.Setting.{kept_part, local_part, subtree_part};
 ghost use Rattle.hu_rows.specs.View.{cells_of, row_of, rows_of};
 

@@ -123,7 +123,8 @@ fn tell_rows(tallies: &mut Vec<Tally>, met: &mut Vec<u32>, rows: &[Row<'_>]) -> 
     requires rules { AreRows (rows_of rows.now) }
     requires below { AreBelow (length tallies.old.items) (rows_of rows.now) }
     ensures len { length tallies.new.items ≡ length tallies.old.items }
-    ensures value { OnOk result ((rank : ℕ) → tally_at tallies.new.items rank ≡ told (rows_of rows.now) rank) }
+    ensures value { OnOk result
+        ((rank : ℕ) → tally_at tallies.new.items rank ≡ told (rows_of rows.now) rank) }
     ensures noted { OnOk result (AreNoted tallies.new.items met.new.items) }
 {
     for row in rows {
@@ -135,7 +136,8 @@ fn tell_rows(tallies: &mut Vec<Tally>, met: &mut Vec<u32>, rows: &[Row<'_>]) -> 
 /// Tells what a row says.
 fn tell_row(tallies: &mut Vec<Tally>, met: &mut Vec<u32>, row: &Row<'_>) -> Result<(), NoMemory>
     requires ascending { Ascend (ranks_of (row_of row.now)) }
-    requires below { AllByRecursion (λ rank. rank < length tallies.old.items) (ranks_of (row_of row.now)) }
+    requires below { AllByRecursion (λ rank. rank < length tallies.old.items)
+        (ranks_of (row_of row.now)) }
     requires room { (rank : ℕ) → HasRoom (tally_at tallies.old.items rank) (row_of row.now) }
     requires noted { AreNoted tallies.old.items met.old.items }
     ensures len { length tallies.new.items ≡ length tallies.old.items }
@@ -161,7 +163,8 @@ fn tell_row_tails(tallies: &mut Vec<Tally>, rows: &[Row<'_>])
     requires rules { AreRows (rows_of rows.now) }
     requires below { AreBelow (length tallies.old.items) (rows_of rows.now) }
     ensures len { length tallies.new.items ≡ length tallies.old.items }
-    ensures value { (rank : ℕ) → tally_at tallies.new.items rank ≡ tail_told (rows_of rows.now) rank }
+    ensures value { (rank : ℕ)
+        → tally_at tallies.new.items rank ≡ tail_told (rows_of rows.now) rank }
 {
     for row in rows {
         tell_tails(tallies, row);
@@ -171,10 +174,12 @@ fn tell_row_tails(tallies: &mut Vec<Tally>, rows: &[Row<'_>])
 /// Tells what a row says of what grows its ranks.
 fn tell_tails(tallies: &mut Vec<Tally>, row: &Row<'_>)
     requires ascending { Ascend (ranks_of (row_of row.now)) }
-    requires below { AllByRecursion (λ rank. rank < length tallies.old.items) (ranks_of (row_of row.now)) }
+    requires below { AllByRecursion (λ rank. rank < length tallies.old.items)
+        (ranks_of (row_of row.now)) }
     requires room { (rank : ℕ) → HasRoom (tally_at tallies.old.items rank) (row_of row.now) }
     ensures len { length tallies.new.items ≡ length tallies.old.items }
-    ensures value { Adds (λ rank. share_if (has rank (row_of row.now).cells) (tail_share (row_of row.now) rank))
+    ensures value { Adds
+        (λ rank. share_if (has rank (row_of row.now).cells) (tail_share (row_of row.now) rank))
         tallies.old.items tallies.new.items }
 {
     let mut rest = 0;
@@ -276,7 +281,8 @@ fn add(tallies: &mut Vec<Tally>, rank: u32, share: Tally)
     requires within { rank < length tallies.old.items }
     requires fits { Fits (tally_at tallies.old.items rank) share }
     ensures len { length tallies.new.items ≡ length tallies.old.items }
-    ensures value { Adds (λ other. share_if (other == rank) share) tallies.old.items tallies.new.items }
+    ensures value { Adds
+        (λ other. share_if (other == rank) share) tallies.old.items tallies.new.items }
 {
     tallies[rank as usize] = sum_of(tallies[rank as usize], share);
 }

@@ -48,7 +48,8 @@ pub fn run_all<F: Files, O: Sink, E: Sink, K: Keeper>(
     ensures unread { result ≡ 2 → files.new ≡ files.old }
     ensures unwritten { result ≢ 0 → result ≢ 4 → out.new ≡ out.old }
     ensures unkept { result ≡ 2 → keeper.new ≡ keeper.old }
-    ensures drilled { is_shelf (texts_of words.now) ≡ false → IsOkAnd (job (texts_of words.now)) IsDrill
+    ensures drilled { is_shelf (texts_of words.now) ≡ false
+        → IsOkAnd (job (texts_of words.now)) IsDrill
         → files.new ≡ files.old }
 {
     if !begins_with(words, "shelf") {

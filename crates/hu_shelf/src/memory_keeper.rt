@@ -56,7 +56,8 @@ impl MemoryKeeper {
     /// Has the call of `load` or `replace` with this number fail, where calls of both count together, from 1. The count
     /// doesn't change.
     pub fn fail_at(&mut self, call: u64) -> Result<(), NoMemory>
-        ensures ok { OnOk result (self.new ≡ record self.old { plan = listing call self.old.plan }) }
+        ensures ok { OnOk result
+            (self.new ≡ record self.old { plan = listing call self.old.plan }) }
         ensures count { keeper_faults self.new ≡ keeper_faults self.old }
         ensures err { OnErr result (self.new ≡ self.old) }
     {

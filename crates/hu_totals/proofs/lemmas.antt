@@ -1,6 +1,8 @@
 -- The lemmas that proofs of other crates may cite.
 pub mod AddingLemmas
+pub mod AfterLemmas
 pub mod DenseLemmas
+pub mod KeptLemmas
 pub mod RankingRules
 pub mod RecordCells
 pub mod RoomLemmas

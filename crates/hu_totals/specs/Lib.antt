@@ -1,5 +1,6 @@
 pub mod Totals
 pub mod Adding
+pub mod Cells
 pub mod Ranked
 pub mod Weights
 pub mod View

@@ -8,11 +8,12 @@ use Rattle.hu_kind.specs.Order.{Ascend}
 use Rattle.hu_kind.specs.Record.{has, holds, value_of, values_of, gain, positive_part}
 use Rattle.hu_kind.proofs.lemmas.Members.{Member}
 use Rattle.hu_rows.specs.Rows.{RowOf, AreRows, over, over_row, count_over, ranks_of}
-use Rattle.hu_rows.specs.Projection.{after}
-use Rattle.hu_rows.specs.Bounds.{among, kept_gain, local_share, local_bound, subtree_share, IsKeptSet}
+use Rattle.hu_totals.specs.Cells.{after, among, kept_gain}
+use Rattle.hu_totals.proofs.lemmas.AfterLemmas.{holds-after}
+use Rattle.hu_rows.specs.Bounds.{local_share, local_bound, subtree_share, IsKeptSet}
 use Rattle.hu_rows.specs.Tally.{most, most_with, tail_most, most_over, tail_over}
-use Rattle.hu_rows.proofs.BoundLemmas.{positive-least, over-local, over_row-subtree}
-use Rattle.hu_rows.proofs.CellLemmas.{holds-after}
+use Rattle.hu_totals.proofs.lemmas.KeptLemmas.{positive-least}
+use Rattle.hu_rows.proofs.BoundLemmas.{over-local, over_row-subtree}
 
 -- ---- sets as kept sets of themselves
 

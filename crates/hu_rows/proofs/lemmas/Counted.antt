@@ -6,7 +6,7 @@ use Rattle.std.proofs.lemmas.Bool.{eqb-true, or_cases}
 use Rattle.std.proofs.lemmas.Int.{ints}
 use Rattle.hu_kind.specs.Record.{has, value_of, items_in}
 use Rattle.hu_rows.specs.Rows.{RowOf, AreCounted, count_over}
-use Rattle.hu_rows.specs.Projection.{after}
+use Rattle.hu_totals.specs.Cells.{after}
 use Rattle.hu_rows.specs.Tally.{EachRank, tail_most, tail_over, tail_told, no_tally, tally_with}
 use Rattle.hu_rows.specs.Handed.{only, narrowed_row, narrowed, row_if_some, handed_row, handed}
 use Rattle.hu_rows.proofs.ProjectionLemmas.{count_over-append}

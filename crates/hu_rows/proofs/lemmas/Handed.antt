@@ -7,10 +7,11 @@ use Rattle.std.proofs.lemmas.List.Sums.{sum_by-cons, sum_by-append}
 use Rattle.hu_kind.specs.Order.{Ascend}
 use Rattle.hu_kind.specs.Record.{has, holds, value_of, values_of, absolute_of}
 use Rattle.hu_rows.specs.Rows.{RowOf, AreRows, over, over_row, count_over, count_in, count_of, size_of, ranks_of}
-use Rattle.hu_rows.specs.Projection.{after}
+use Rattle.hu_totals.specs.Cells.{after}
+use Rattle.hu_totals.proofs.lemmas.AfterLemmas.{Ascend-after, absolute_of-after, holds-after, values_of-after}
 use Rattle.hu_rows.specs.Tally.{EachRank}
 use Rattle.hu_rows.specs.Handed.{row_if_some, handed_row, handed}
-use Rattle.hu_rows.proofs.CellLemmas.{holds-after, values_of-after, Ascend-after, absolute_of-after, each-after-both}
+use Rattle.hu_rows.proofs.CellLemmas.{each-after-both}
 use Rattle.hu_rows.proofs.ProjectionLemmas.{over-append, count_over-append}
 
 over-row_if_some : (s : ℕ) (set : List ℕ) (before : ℤ) (count : ℕ) (cells : List (ℕ × ℤ))

@@ -99,7 +99,8 @@ fn record_base(alloc: Global, seed: u32) -> Result<Base<Record>, NoMemory>
 fn batches(alloc: Global, seed: u32, engine: Engine) -> Result<Vec<Base<Record>>, NoMemory>
     requires { IsSeed seed }
     ensures records { IfOk result (λ batches. records_in batches.items ≡ drill_records seed) }
-    ensures fit { IfOk result (λ batches. sum_by absolute_of (records_in batches.items) ≤ 819200000) }
+    ensures fit { IfOk result
+        (λ batches. sum_by absolute_of (records_in batches.items) ≤ 819200000) }
 {
     let base = record_base(alloc, seed)?;
     match engine {

@@ -67,7 +67,8 @@ fn make<'a, K: Keeper>(
     requires least { pos 1 ≤ℤ least }
     requires some { IfSome top (λ k. 1 ≤ k) }
     requires few { IfSome top (λ k. k ≤ 1000000) }
-    ensures { (files : FilesState) (out : SinkState) → ShelfEnds (make name.now (fresh least top closed))
+    ensures { (files : FilesState) (out : SinkState)
+        → ShelfEnds (make name.now (fresh least top closed))
         (scene files files out out (K.state keeper.old) (K.state keeper.new)) result }
 {
     match Shelf::create(alloc, keeper, name, least, top, closed) {
@@ -104,7 +105,8 @@ fn show<'a, O: Sink, K: Keeper>(
     keeper: &mut K,
     name: &'a str,
 ) -> Result<(), ShelfStop<'a>>
-    ensures ends { (files : FilesState) → ShelfEnds (show name.now) (scene files files (O.state out.old)
+    ensures ends { (files : FilesState)
+        → ShelfEnds (show name.now) (scene files files (O.state out.old)
         (O.state out.new) (K.state keeper.old) (K.state keeper.new)) result }
     ensures unwritten { KeepsOut result out.old out.new }
 {
@@ -139,9 +141,11 @@ fn read_batch<'a, F: Files>(
 ) -> Result<Base<Record>, Stop<'a>>
     requires one { length names.now ≡ 1 }
     requires carried { pos 0 ≤ℤ carried }
-    ensures ok { IfOk result (λ base. HasRead (unsigned_abs carried) (F.state files.old) (F.state files.new)
+    ensures ok { IfOk result
+        (λ base. HasRead (unsigned_abs carried) (F.state files.old) (F.state files.new)
         (texts_of names.now) (records_of base)) }
-    ensures err { IfErr result (StopsRead (unsigned_abs carried) (F.state files.old) (F.state files.new)
+    ensures err { IfErr result
+        (StopsRead (unsigned_abs carried) (F.state files.old) (F.state files.new)
         (texts_of names.now)) }
 {
     let mut bases = read_files::<Transactions, F>(alloc, files, names, carried)?;
@@ -161,7 +165,8 @@ fn grow<'a, K: Keeper>(
     requires told { Told (K.state keeper.old) name.now (λ text. text ≡ store_text shelf) }
     requires fits { absolute_sum shelf.records + absolute_sum (records_of batch) < 2 ^ 127 }
     ensures put { OnOk result (K.state keeper.new
-        ≡ keeping_text name.now (store_text (with_batch shelf (records_of batch))) (K.state keeper.old)) }
+        ≡ keeping_text name.now (store_text (with_batch shelf (records_of batch)))
+        (K.state keeper.old)) }
     ensures store { OnOk result (IsStore (with_batch shelf (records_of batch))) }
     ensures changes { IfOk result (λ told. told
         ≡ changes (answer_of shelf) (answer_of (with_batch shelf (records_of batch)))) }

@@ -40,7 +40,8 @@ pub fn read_shelf_words(words: &[String]) -> Result<ShelfJob<'_>, WordFault>
     ensures job { IfOk result (λ found. shelf_job (texts_of words.now) ≡ Ok (shelving_of found)) }
     ensures lawful { IfOk result (λ found. IsLawful (shelving_of found)) }
     ensures len { OnOk result (3 ≤ length words.now) }
-    ensures file { IfOk result (λ found. AreFiles (shelving_of found) (texts_of (drop 3 words.now))) }
+    ensures file { IfOk result
+        (λ found. AreFiles (shelving_of found) (texts_of (drop 3 words.now))) }
 {
     if words.len() < 3 {
         return Err(WordFault::TooFewWords);
@@ -70,7 +71,8 @@ fn read_new(words: &[String]) -> Result<ShelfJob<'_>, WordFault>
     ensures job { IfOk result (λ found. make_job (texts_of words.now) ≡ Ok (shelving_of found)) }
     ensures lawful { IfOk result (λ found. IsLawful (shelving_of found)) }
     ensures len { OnOk result (3 ≤ length words.now) }
-    ensures file { IfOk result (λ found. AreFiles (shelving_of found) (texts_of (drop 3 words.now))) }
+    ensures file { IfOk result
+        (λ found. AreFiles (shelving_of found) (texts_of (drop 3 words.now))) }
 {
     refuse_unless(6, words)?;
     let closed = read_closed(&words[3]).ok_or(WordFault::TaskUnknown)?;
@@ -90,7 +92,8 @@ fn read_add(words: &[String]) -> Result<ShelfJob<'_>, WordFault>
     ensures job { IfOk result (λ found. add_job (texts_of words.now) ≡ Ok (shelving_of found)) }
     ensures lawful { IfOk result (λ found. IsLawful (shelving_of found)) }
     ensures len { OnOk result (3 ≤ length words.now) }
-    ensures file { IfOk result (λ found. AreFiles (shelving_of found) (texts_of (drop 3 words.now))) }
+    ensures file { IfOk result
+        (λ found. AreFiles (shelving_of found) (texts_of (drop 3 words.now))) }
 {
     refuse_unless(4, words)?;
     Ok(ShelfJob::Add {
@@ -105,7 +108,8 @@ fn read_list(words: &[String]) -> Result<ShelfJob<'_>, WordFault>
     ensures job { IfOk result (λ found. show_job (texts_of words.now) ≡ Ok (shelving_of found)) }
     ensures lawful { IfOk result (λ found. IsLawful (shelving_of found)) }
     ensures len { OnOk result (3 ≤ length words.now) }
-    ensures file { IfOk result (λ found. AreFiles (shelving_of found) (texts_of (drop 3 words.now))) }
+    ensures file { IfOk result
+        (λ found. AreFiles (shelving_of found) (texts_of (drop 3 words.now))) }
 {
     refuse_unless(3, words)?;
     Ok(ShelfJob::Show { name: &words[2] })

@@ -2,7 +2,8 @@ use Rattle.std.proofs.Common.{◌≡◌, ◌<◌, ℕ, ℤ, pos, ◌+ℤ◌, uns
 use Rattle.std.specs.Int.{w128}
 use Rattle.std.proofs.lemmas.Int.{ints}
 use Rattle.hu_totals.specs.declared.ranked.Dense.{Dense}
-use Rattle.hu_list.specs.Slots.{among, at}
+use Rattle.hu_totals.specs.Cells.{among}
+use Rattle.hu_list.specs.Slots.{at}
 use Rattle.hu_list.specs.Tails.{share}
 use Rattle.hu_list.specs.Passes.{gaining}
 use Rattle.hu_list.specs.View.{tail_of}

@@ -4,11 +4,12 @@ use Rattle.std.specs.declared.alloc.Global.{Global}
 use Rattle.std.proofs.lemmas.Bool.{lt-ltb, cases_eq, eq-eqb}
 use Rattle.std.proofs.lemmas.List.{map-set, get_or-map, map-append, length-map}
 use Rattle.hu_list.specs.declared.tail.Tail.{Tail}
-use Rattle.hu_list.specs.Slots.{among, at}
+use Rattle.hu_list.specs.Slots.{at}
 use Rattle.hu_list.specs.Tails.{TailOf}
 use Rattle.hu_list.specs.View.{tail_of, tails_of, lists_of}
 use Rattle.hu_list.proofs.SlotLemmas.{at-set, at-place, place-among, changed_at}
 use Rattle.hu_list.proofs.grow.add_tail.Goals as goal
+use Rattle.hu_totals.specs.Cells.{among}
 
 -- a number that isn't 0 is above it
 has_some : (n : ℕ) → eqb n 0 ≡ false → nat_lt 0 n ≡ true

@@ -5,7 +5,8 @@ use Rattle.std.proofs.lemmas.List.{take_all, length-drop, length-map}
 use Rattle.hu_totals.specs.View.{dense_pair}
 use Rattle.std.proofs.lemmas.Int.{ints}
 use Rattle.hu_totals.specs.declared.ranked.Dense.{Dense}
-use Rattle.hu_list.specs.Slots.{among, at}
+use Rattle.hu_totals.specs.Cells.{among}
+use Rattle.hu_list.specs.Slots.{at}
 use Rattle.hu_list.specs.Tails.{TailOf}
 use Rattle.hu_list.specs.Passes.{growing}
 use Rattle.hu_list.specs.View.{cells_of, tail_of, lists_of}

@@ -1,5 +1,5 @@
 use Rattle.std.proofs.Common.{◌≡◌, ◌<◌, ℕ, true, length}
-use Rattle.hu_list.specs.Slots.{among}
+use Rattle.hu_totals.specs.Cells.{among}
 use Rattle.hu_list.proofs.search.all_ranks.Given as goal
 
 abbrev pub invariant-loop-rank : goal.invariant-loop-rank

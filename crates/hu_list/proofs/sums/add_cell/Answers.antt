@@ -3,11 +3,12 @@ use Rattle.std.specs.Int.{w128}
 use Rattle.std.proofs.lemmas.Int.{ints}
 use Rattle.std.proofs.lemmas.List.{get_or_read}
 use Rattle.hu_list.specs.declared.sums.Sum.{Sum}
-use Rattle.hu_list.specs.Slots.{among, at}
+use Rattle.hu_list.specs.Slots.{at}
 use Rattle.hu_list.specs.Passes.{no_sum, sum_with, SumsFit}
 use Rattle.hu_list.proofs.SlotLemmas.{at-set, at-place, place-among, changed_at}
 use Rattle.hu_list.proofs.PassLemmas.{fits-less}
 use Rattle.hu_list.proofs.sums.add_cell.Goals as goal
+use Rattle.hu_totals.specs.Cells.{among}
 
 pub with-requires : goal.with-requires
 with-requires c =

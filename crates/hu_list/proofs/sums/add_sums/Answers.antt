@@ -2,9 +2,10 @@ use Rattle.std.proofs.Common.{◌≡◌, ℕ, pos, ◌+ℤ◌, ◌+◌, ◌-◌,
 use Rattle.std.specs.Int.{w128}
 use Rattle.std.proofs.lemmas.Int.{ints}
 use Rattle.hu_totals.specs.declared.ranked.Dense.{Dense}
+use Rattle.hu_totals.specs.Cells.{among, kept_gain}
 use Rattle.hu_list.specs.declared.sums.Sum.{Sum}
-use Rattle.hu_list.specs.Slots.{among, at}
-use Rattle.hu_list.specs.Tails.{kept_gain, size_of}
+use Rattle.hu_list.specs.Slots.{at}
+use Rattle.hu_list.specs.Tails.{size_of}
 use Rattle.hu_list.specs.Passes.{met, summing, no_sum, sum_with, SumsFit}
 use Rattle.hu_list.specs.View.{tail_of, cells_of}
 use Rattle.hu_list.proofs.ShareLemmas.{place-within, rest-within, kept_gain-rest}

@@ -1,6 +1,6 @@
 use Rattle.std.proofs.Common.{◌≡◌, ℕ, length, drop, ◌-◌}
 use Rattle.hu_list.specs.Slots.{at}
-use Rattle.hu_list.specs.Tails.{kept_gain}
+use Rattle.hu_totals.specs.Cells.{kept_gain}
 use Rattle.hu_list.specs.Passes.{met, summing, no_sum}
 use Rattle.hu_list.specs.View.{tail_of, cells_of}
 use Rattle.hu_list.proofs.sums.add_sums.Given as goal

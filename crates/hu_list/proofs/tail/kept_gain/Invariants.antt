@@ -1,5 +1,5 @@
 use Rattle.std.proofs.Common.{◌≡◌, take}
-use Rattle.hu_list.specs.Tails.{kept_gain}
+use Rattle.hu_totals.specs.Cells.{kept_gain}
 use Rattle.hu_list.specs.View.{cells_of}
 use Rattle.hu_list.proofs.tail.kept_gain.Given as goal
 

@@ -14,7 +14,7 @@ returns c =
     let exact = to_z-of_z w128 a.least c.ranges.least in
     let floor : r.floor ≡ a.least = ap (λ r. r.floor) c.in_ok-ranked.ensures.value ∙ exact in
     let low : r.floor ≤ℤ a.least = omega (arith, ints, floor) in
-    let whole : average_answer (unranked r) (to_z w128 (of_z w128 a.least)) a.top ≡ average_answer (records_of a.base.now) a.least a.top =
+    let whole : average_answer (unranked r) (to_z w128 (of_z w128 a.least)) a.top ≡ average_answer (records_of a.base) a.least a.top =
     ap (λ least. average_answer (unranked r) least a.top) exact
-    ∙ average-ranked (records_of a.base.now) r a.least a.top c.requires.least c.in_ok-ranked.ensures.patterns low in
+    ∙ average-ranked (records_of a.base) r a.least a.top c.requires.least c.in_ok-ranked.ensures.patterns low in
     subst (λ answer. IfOk c.mine.result (λ entries. entries.items ≡ answer)) whole c.mine.ensures

@@ -11,7 +11,7 @@ use Rattle.hu_mine.proofs.mine.closed_from.Goals as goal
 
 pub returns : goal.returns
 returns c =
-    let records = records_of c.args.base.now in
+    let records = records_of c.args.base in
     let inner = c.new.result in
     let began : limited_state inner ≡ fresh c.args.start c.args.top = c.new.ensures
     ∙ ap (λ n. fresh n c.args.top) (to_z-of_z w128 c.args.start c.ranges.start) in

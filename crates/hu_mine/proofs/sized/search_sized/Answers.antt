@@ -15,5 +15,5 @@ returns c =
     let same : c.in_ok-ranked.ranked.floor ≡ c.args.least =
     ap (λ r. r.floor) c.in_ok-ranked.ensures.value ∙ to_z-of_z w128 c.args.least c.ranges.least in
     let low = subst (λ floor. floor ≤ℤ floor_in state) (sym same) c.requires.floor in
-    mined-ranked c.mine_sized.result state _ (records_of c.args.base.now) c.in_ok-ranked.ranked
+    mined-ranked c.mine_sized.result state _ (records_of c.args.base) c.in_ok-ranked.ranked
     c.floor-floor.ensures.in_order c.in_ok-ranked.ensures.patterns low c.mine_sized.ensures

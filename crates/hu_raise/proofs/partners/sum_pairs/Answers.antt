@@ -11,7 +11,7 @@ use Rattle.hu_totals.specs.View.{dense_pair, pairs_in}
 use Rattle.hu_raise.specs.Places.{places_from, IsOverRanks}
 use Rattle.hu_raise.specs.Sums.{gain_at, sum_at}
 use Rattle.hu_raise.proofs.CellLemmas.{IsOverRanks-after}
-use Rattle.hu_raise.proofs.GainLemmas.{gain-least}
+use Rattle.hu_kind.proofs.lemmas.Earned.{gain-least}
 use Rattle.hu_raise.proofs.PairLemmas.{held, place-below, place-held, length-places, pair-fits, pair-step, pair-held}
 use Rattle.hu_raise.proofs.VectorLemmas.{each_at, pairs-at}
 use Rattle.hu_raise.proofs.partners.sum_pairs.Goals as goal

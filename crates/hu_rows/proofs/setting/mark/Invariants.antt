@@ -1,5 +1,5 @@
 use Rattle.std.proofs.Common.{◌≡◌, ℕ, length, take, get_or, false, ◌||◌}
-use Rattle.hu_rows.specs.Bounds.{among}
+use Rattle.hu_totals.specs.Cells.{among}
 use Rattle.hu_rows.proofs.setting.mark.Given as goal
 
 abbrev pub invariant-loop-rank : goal.invariant-loop-rank

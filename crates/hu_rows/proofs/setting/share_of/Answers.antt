@@ -2,7 +2,7 @@ use Rattle.std.proofs.Common.{◌≡◌, ◌∙◌, ◌+ℤ◌, to_z, of_z, ap, 
 use Rattle.std.specs.Int.{w128}
 use Rattle.std.proofs.lemmas.Int.{ints}
 use Rattle.hu_kind.specs.Record.{positive_part}
-use Rattle.hu_rows.proofs.BoundLemmas.{positive-within}
+use Rattle.hu_kind.proofs.lemmas.Earned.{positive_part-within}
 use Rattle.hu_rows.proofs.SettingLemmas.{same-fit}
 use Rattle.hu_rows.proofs.setting.share_of.Goals as goal
 
@@ -16,4 +16,4 @@ returns c =
     let three = same-fit (c.args.before +ℤ c.args.value +ℤ c.args.rest) (omega (arith, ints, c.requires)) in
     let share = c.positive.ensures ∙ ap positive_part (ap (λ z. to_z w128 (of_z w128 z)) (λ j. two j +ℤ rest j) ∙ three) in
     ap (λ z. to_z w128 (of_z w128 z)) share ∙ same-fit (positive_part (c.args.before +ℤ c.args.value +ℤ c.args.rest))
-    (omega (arith, ints, positive-within (c.args.before +ℤ c.args.value +ℤ c.args.rest), c.requires))
+    (omega (arith, ints, positive_part-within (c.args.before +ℤ c.args.value +ℤ c.args.rest), c.requires))

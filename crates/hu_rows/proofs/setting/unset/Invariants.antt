@@ -1,6 +1,7 @@
 use Rattle.std.proofs.Common.{◌≡◌, ℕ, pos, length, take, get_or, false, cond}
-use Rattle.hu_rows.specs.Bounds.{among, value_at}
+use Rattle.hu_rows.specs.Bounds.{value_at}
 use Rattle.hu_rows.proofs.setting.unset.Given as goal
+use Rattle.hu_totals.specs.Cells.{among}
 
 abbrev pub invariant-loop-rank : goal.invariant-loop-rank
 invariant-loop-rank l = record {

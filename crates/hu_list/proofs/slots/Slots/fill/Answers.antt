@@ -1,5 +1,5 @@
 use Rattle.std.proofs.Common.{ap, ◌∙◌, get_or}
-use Rattle.hu_list.specs.Slots.{among}
+use Rattle.hu_totals.specs.Cells.{among}
 use Rattle.hu_list.proofs.SlotLemmas.{distinct-before}
 use Rattle.hu_list.proofs.slots.Slots.fill.Goals as goal
 

@@ -2,9 +2,11 @@ use Rattle.std.proofs.Common.{◌≡◌, ◌+ℤ◌, to_z, of_z, ap, ◌∙◌, 
 use Rattle.std.specs.Int.{w128}
 use Rattle.std.proofs.lemmas.Int.{ints}
 use Rattle.hu_kind.specs.Record.{positive_part}
-use Rattle.hu_list.specs.Tails.{kept_gain, share}
+use Rattle.hu_totals.specs.Cells.{kept_gain}
+use Rattle.hu_list.specs.Tails.{share}
 use Rattle.hu_list.specs.View.{tail_of}
-use Rattle.hu_list.proofs.ShareLemmas.{kept_gain-within, share-within}
+use Rattle.hu_totals.proofs.lemmas.KeptLemmas.{kept_gain-within}
+use Rattle.hu_list.proofs.ShareLemmas.{share-within}
 use Rattle.hu_list.proofs.tail.Tail.share.Goals as goal
 
 pub overflow_add-self : goal.overflow_add-self

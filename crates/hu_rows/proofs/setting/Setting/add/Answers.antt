@@ -2,10 +2,11 @@ use Rattle.std.proofs.Common.{◌≡◌, ◌∙◌, ◌<◌, ◌+◌, ◌^◌, �
 use Rattle.std.specs.Int.{w128}
 use Rattle.std.proofs.lemmas.Int.{ints}
 use Rattle.std.proofs.lemmas.List.{length-set, get_or_read}
-use Rattle.hu_rows.specs.Bounds.{among, value_at}
+use Rattle.hu_rows.specs.Bounds.{value_at}
 use Rattle.hu_rows.specs.Setting.{SettingOf}
 use Rattle.hu_rows.proofs.SettingLemmas.{IsSetting-set, value_at-set, value_at-out, among-below}
 use Rattle.hu_rows.proofs.setting.Setting.add.Goals as goal
+use Rattle.hu_totals.specs.Cells.{among}
 
 pub invariant_of-self : goal.invariant_of-self
 invariant_of-self c =

@@ -3,12 +3,14 @@ use Rattle.std.specs.Int.{w128}
 use Rattle.std.proofs.lemmas.Int.{ints}
 use Rattle.std.proofs.lemmas.List.{take_all}
 use Rattle.hu_rows.specs.Rows.{size_of}
-use Rattle.hu_rows.specs.Bounds.{value_at, among, local_share}
+use Rattle.hu_rows.specs.Bounds.{value_at, local_share}
 use Rattle.hu_rows.specs.View.{cells_of, row_of}
-use Rattle.hu_rows.proofs.BoundLemmas.{kept_gain-within, local_share-within}
+use Rattle.hu_totals.proofs.lemmas.KeptLemmas.{kept_gain-within}
+use Rattle.hu_rows.proofs.BoundLemmas.{local_share-within}
 use Rattle.hu_rows.proofs.SettingLemmas.{given, given-more, given-fresh, local_share-is}
 use Rattle.hu_rows.proofs.PastEnd.{past_cell}
 use Rattle.hu_rows.proofs.setting.Setting.add_local.Goals as goal
+use Rattle.hu_totals.specs.Cells.{among}
 
 pub gain-requires : goal.gain-requires
 gain-requires c = omega (arith, c.requires.fits 0)

@@ -2,7 +2,8 @@ use Rattle.std.proofs.Common.{◌≡◌, ◌∙◌, ◌&&◌, ℕ, pos, ◌+ℤ�
 use Rattle.std.specs.Int.{w128}
 use Rattle.std.proofs.lemmas.Int.{ints, to_z-of_z}
 use Rattle.hu_totals.specs.View.{dense_pair}
-use Rattle.hu_rows.specs.Bounds.{value_at, among, subtree_share}
+use Rattle.hu_totals.specs.Cells.{among}
+use Rattle.hu_rows.specs.Bounds.{value_at, subtree_share}
 use Rattle.hu_rows.specs.Setting.{kept_part}
 use Rattle.hu_rows.specs.View.{row_of}
 use Rattle.hu_rows.proofs.BoundLemmas.{subtree_share-within}

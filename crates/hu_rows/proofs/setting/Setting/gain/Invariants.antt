@@ -1,5 +1,5 @@
 use Rattle.std.proofs.Common.{◌≡◌, take}
-use Rattle.hu_rows.specs.Bounds.{kept_gain}
+use Rattle.hu_totals.specs.Cells.{kept_gain}
 use Rattle.hu_rows.specs.View.{cells_of}
 use Rattle.hu_rows.proofs.setting.Setting.gain.Given as goal
 

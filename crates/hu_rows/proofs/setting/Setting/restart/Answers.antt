@@ -1,9 +1,10 @@
 use Rattle.std.proofs.Common.{◌≡◌, ◌∙◌, ◌<◌, ◌++◌, ℕ, pos, cond, false, get_or, length, sym, ap, subst, arith}
 use Rattle.std.specs.List.{AllByRecursion}
-use Rattle.hu_rows.specs.Bounds.{AreKept, among, value_at}
+use Rattle.hu_rows.specs.Bounds.{AreKept, value_at}
 use Rattle.hu_rows.specs.Setting.{SettingOf, IsSetting}
 use Rattle.hu_rows.proofs.SettingLemmas.{IsSetting-anew, few-kept}
 use Rattle.hu_rows.proofs.setting.Setting.restart.Goals as goal
+use Rattle.hu_totals.specs.Cells.{among}
 
 pub mark-requires : goal.mark-requires
 mark-requires c =

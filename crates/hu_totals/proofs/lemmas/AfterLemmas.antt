@@ -7,7 +7,7 @@ use Rattle.std.proofs.lemmas.List.Sums.{sum_by-cons}
 use Rattle.hu_kind.specs.Order.{Ascend}
 use Rattle.hu_kind.specs.Record.{has, holds, value_of, values_of, items_in, absolute_of}
 use Rattle.hu_kind.proofs.lemmas.Members.{Member}
-use Rattle.hu_list.specs.Tails.{after}
+use Rattle.hu_totals.specs.Cells.{after}
 
 -- a cell in front that isn't after z says nothing of ranks after z
 other : (z s : ℕ) (cell : ℕ × ℤ) → z < s → nat_lt z cell.0 ≡ false → eqb s cell.0 ≡ false
@@ -61,6 +61,13 @@ pub after-all : (z : ℕ) (cells : List (ℕ × ℤ)) → AllByRecursion (λ y. 
 after-all z [] all = refl
 after-all z (cell ∷ cells) all = let yes : nat_lt z cell.0 ≡ true = lt-ltb z cell.0 all.0 in rw yes (ap (λ rest. cell ∷ rest) (after-all z cells all.1))
 
+-- a rank that is less than each is less than that at a place
+pub rank-above : (z : ℕ) (cells : List (ℕ × ℤ)) (i : ℕ) (d : ℕ × ℤ) → AllByRecursion (λ y. z < y) (items_in cells) → i < length cells
+    → z < (get_or cells i d).0
+rank-above z [] i d all within = absurd (omega arith)
+rank-above z (cell ∷ cells) zero d all within = all.0
+rank-above z (cell ∷ cells) (suc i) d all within = rank-above z cells i d all.1 (omega arith)
+
 -- the cell at a place, by its rank
 pub record IsPlace (z : ℕ) (cells : List (ℕ × ℤ)) (value : ℤ) (rest : List (ℕ × ℤ)) : Type 0 where
   pub found : has z cells ≡ true
@@ -77,15 +84,10 @@ IsPlace-at (cell ∷ cells) zero d up within =
 IsPlace-at (cell ∷ cells) (suc i) d up within =
     let z = (get_or cells i d).0 in
     let ih = IsPlace-at cells i d up.1 (omega arith) in
-    let before : cell.0 < z = above-at cells i up.0 (omega arith) in
+    let before : cell.0 < z = rank-above cell.0 cells i d up.0 (omega arith) in
     let no : eqb z cell.0 ≡ false = ne_eqb z cell.0 (λ e. absurd (omega arith)) in
     let not_after : nat_lt z cell.0 ≡ false = le-ltb z cell.0 (omega arith) in
     record { found = rw no ih.found; worth = rw no ih.worth; tail = rw not_after ih.tail }
-  where
-    above-at : (cells : List (ℕ × ℤ)) (i : ℕ) → AllByRecursion (λ y. cell.0 < y) (items_in cells) → i < length cells → cell.0 < (get_or cells i d).0
-    above-at [] i all within = absurd (omega arith)
-    above-at (c ∷ cs) zero all within = all.0
-    above-at (c ∷ cs) (suc i) all within = above-at cs i all.1 (omega arith)
 
 -- the absolute values after z are within all of them, with that of z
 pub absolute_of-after : (z : ℕ) (cells : List (ℕ × ℤ)) → absolute_of (after z cells) + unsigned_abs (value_of z cells) ≤ absolute_of cells
