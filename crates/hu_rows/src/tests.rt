@@ -1,9 +1,12 @@
 //! Small rows, their projections and their bounds, written out.
 
+ghost use Rattle.std.specs.Prelude.{◌≡◌, IfOk};
+ghost use Rattle.hu_rows.specs.Bounds.{AreKept};
+
 use crate::{Bins, Row, Rows, project};
 use bumpalo::Bump;
-use hu_base::Base;
-use hu_kind::{Cell, Item, NoMemory, Record};
+use hu_kind::NoMemory;
+use hu_sample::base_of;
 use hu_totals::{Dense, Ranked, Totals};
 use std::alloc::Global;
 use std::process::Abort;
@@ -24,12 +27,24 @@ const FOUR_ROWS: [&[(u32, i128)]; 4] = [
 
 const SIGNED_ROWS: [&[(u32, i128)]; 2] = [&[(0, -4), (1, 2)], &[(0, 1), (1, 5)]];
 
+/// Every set of the ranks of `FOUR_ROWS`, with what it earns and how many rows hold it.
+const EARNED: [(&[u32], (i128, u64)); 8] = [
+    (&[], (0, 4)),
+    (&[0], (7, 3)),
+    (&[0, 1], (12, 2)),
+    (&[0, 1, 2], (16, 2)),
+    (&[0, 2], (18, 3)),
+    (&[1], (11, 3)),
+    (&[1, 2], (21, 3)),
+    (&[2], (17, 4)),
+];
+
 /// The cells of these ranks and values, in an arena.
 fn cells_in<'a>(
     alloc: Global,
     arena: &'a Bump<Global>,
     pairs: &[(u32, i128)],
-) -> Result<&'a [Dense], Fail> {
+) -> Result<&'a [Dense], NoMemory> {
     let mut cells = Vec::new(alloc);
     for (rank, value) in pairs {
         cells.push(Dense {
@@ -46,7 +61,7 @@ fn rows_in<'a>(
     alloc: Global,
     arena: &'a Bump<Global>,
     all: &[&[(u32, i128)]],
-) -> Result<Rows<'a>, Fail> {
+) -> Result<Rows<'a>, NoMemory> {
     let mut rows = Rows::none();
     for pairs in all {
         let cells = cells_in(alloc, arena, pairs)?;
@@ -57,21 +72,15 @@ fn rows_in<'a>(
     Ok(rows)
 }
 
-/// A line for each row, sorted: its `before`, its count and its cells.
-fn told(alloc: Global, rows: &Rows<'_>) -> Result<String, Fail> {
-    let mut lines = Vec::new(alloc);
-    for row in rows.rows() {
-        lines.push(told_row(alloc, row)?)?;
-    }
-    lines.sort()?;
-    let mut text = String::new(alloc);
-    for line in &lines {
-        text.push_str(line)?;
-    }
-    Ok(text)
+/// The ranked records of these records, none of whose items is left out.
+fn ranked_of(rt: &impl Abort, alloc: Global, records: &[&[(u32, i128)]]) -> Result<Ranked, Fail> {
+    let base = base_of(alloc, records)?.expect(rt, "a base");
+    let totals = Totals::of(alloc, &base)?;
+    Ok(Ranked::of(alloc, &base, &totals, 1)?)
 }
 
-fn told_row(alloc: Global, row: &Row<'_>) -> Result<String, Fail> {
+/// A line of a row: its `before`, its count and its cells.
+fn told_row(alloc: Global, row: &Row<'_>) -> Result<String, NoMemory> {
     let mut line = format!(in alloc; "{} {}:", row.before, row.count)?;
     for cell in row.cells {
         line.push_str(&format!(in alloc; " {}={}", cell.rank, cell.value)?)?;
@@ -80,39 +89,88 @@ fn told_row(alloc: Global, row: &Row<'_>) -> Result<String, Fail> {
     Ok(line)
 }
 
+/// A line for each row, sorted.
+fn lines_of(alloc: Global, rows: &Rows<'_>) -> Result<Vec<String>, NoMemory> {
+    let mut lines = Vec::new(alloc);
+    for row in rows.rows() {
+        lines.push(told_row(alloc, row)?)?;
+    }
+    lines.sort()?;
+    Ok(lines)
+}
+
+/// The lines of rows as one text.
+fn told(alloc: Global, rows: &Rows<'_>) -> Result<String, NoMemory> {
+    let lines = lines_of(alloc, rows)?;
+    let mut text = String::new(alloc);
+    for line in &lines {
+        text.push_str(line)?;
+    }
+    Ok(text)
+}
+
+/// Compares the lines of rows.
+fn expect_rows(rt: &impl Abort, alloc: Global, rows: &Rows<'_>, lines: &str) -> Result<(), Fail> {
+    assert_eq!(rt; told(alloc, rows)?.as_str(), lines);
+    Ok(())
+}
+
+/// Compares the lines of rows without a rank, which lie in an arena of their own.
+fn expect_projected(
+    rt: &impl Abort,
+    alloc: Global,
+    rows: &Rows<'_>,
+    z: u32,
+    lines: &str,
+) -> Result<(), Fail> {
+    let arena = Bump::new(alloc);
+    let child = project(alloc, rows, z, &arena)?;
+    expect_rows(rt, alloc, &child, lines)
+}
+
+/// Both bounds of three ranks, where some of these are kept.
+fn bins_of(alloc: Global, rows: &Rows<'_>, keep: &[u32]) -> Result<Bins, NoMemory>
+    requires { AreKept 3 keep.now }
+    ensures { IfOk result (λ bins. bins.ranks ≡ 3) }
+{
+    let mut bins = Bins::new(alloc, 3)?;
+    bins.local(rows, keep);
+    bins.subtree(rows, keep);
+    Ok(bins)
+}
+
+/// Compares the bounds of three ranks.
+fn expect_bounds(rt: &impl Abort, bins: &Bins, local: [i128; 3], subtree: [i128; 3])
+    requires { bins.now.ranks ≡ 3 }
+{
+    assert_eq!(rt;
+        [bins.local_of(0), bins.local_of(1), bins.local_of(2)],
+        local
+    );
+    assert_eq!(rt;
+        [bins.subtree_of(0), bins.subtree_of(1), bins.subtree_of(2)],
+        subtree
+    );
+}
+
 #[test]
 fn three_rows_projected_by_0(rt: HostRuntime) -> Result<(), Fail> {
     let arena = Bump::new(rt.alloc());
     let rows = rows_in(&rt, rt.alloc(), &arena, &THREE_ROWS)?;
-    assert_eq!(rt;
-        told(rt.alloc(), &rows)?.as_str(),
-        "0 1: 0=1 1=5 2=1\n0 1: 0=2 2=7\n0 1: 0=4 1=2 2=3\n"
-    );
+    let lines = "0 1: 0=1 1=5 2=1\n0 1: 0=2 2=7\n0 1: 0=4 1=2 2=3\n";
+    expect_rows(&rt, rt.alloc(), &rows, lines)?;
+    expect_projected(&rt, rt.alloc(), &rows, 0, "2 1: 2=7\n5 2: 1=7 2=4\n")
+}
+
+#[test]
+fn bounds_of_three_rows_without_0(rt: HostRuntime) -> Result<(), Fail> {
+    let arena = Bump::new(rt.alloc());
+    let rows = rows_in(&rt, rt.alloc(), &arena, &THREE_ROWS)?;
     let child = project(rt.alloc(), &rows, 0, &arena)?;
-    assert_eq!(rt;
-        told(rt.alloc(), &child)?.as_str(),
-        "2 1: 2=7\n5 2: 1=7 2=4\n"
-    );
-    let mut bins = Bins::new(rt.alloc(), 3)?;
-    bins.local(&child, &[1, 2]);
-    bins.subtree(&child, &[1, 2]);
-    assert_eq!(rt;
-        (bins.local_of(0), bins.local_of(1), bins.local_of(2)),
-        (0, 16, 25)
-    );
-    assert_eq!(rt;
-        (bins.subtree_of(0), bins.subtree_of(1), bins.subtree_of(2)),
-        (0, 16, 18)
-    );
+    let mut bins = bins_of(rt.alloc(), &child, &[1, 2])?;
+    expect_bounds(&rt, &bins, [0, 16, 25], [0, 16, 18]);
     bins.local(&child, &[2]);
-    assert_eq!(rt;
-        (bins.local_of(0), bins.local_of(1), bins.local_of(2)),
-        (0, 0, 18)
-    );
-    assert_eq!(rt;
-        (bins.subtree_of(0), bins.subtree_of(1), bins.subtree_of(2)),
-        (0, 16, 18)
-    );
+    expect_bounds(&rt, &bins, [0, 0, 18], [0, 16, 18]);
     Ok(())
 }
 
@@ -120,76 +178,77 @@ fn three_rows_projected_by_0(rt: HostRuntime) -> Result<(), Fail> {
 fn values_below_0(rt: HostRuntime) -> Result<(), Fail> {
     let arena = Bump::new(rt.alloc());
     let rows = rows_in(&rt, rt.alloc(), &arena, &SIGNED_ROWS)?;
+    expect_projected(&rt, rt.alloc(), &rows, 0, "-3 2: 1=7\n")?;
     let child = project(rt.alloc(), &rows, 0, &arena)?;
-    assert_eq!(rt; told(rt.alloc(), &child)?.as_str(), "-3 2: 1=7\n");
-    let mut bins = Bins::new(rt.alloc(), 2)?;
-    bins.local(&child, &[1]);
-    bins.subtree(&child, &[1]);
-    assert_eq!(rt; (bins.local_of(1), bins.subtree_of(1)), (4, 4));
+    let bins = bins_of(rt.alloc(), &child, &[1])?;
+    expect_bounds(&rt, &bins, [0, 4, 0], [0, 4, 0]);
     Ok(())
+}
+
+/// Whether a row that is added to others breaks a rule.
+fn breaks<'a>(
+    alloc: Global,
+    rows: &Rows<'a>,
+    before: i128,
+    count: u64,
+    cells: &'a [Dense],
+    arena: &'a Bump<Global>,
+) -> Result<bool, NoMemory> {
+    Ok(rows.more(alloc, before, count, cells, arena)?.is_none())
 }
 
 #[test]
 fn rows_that_break_a_rule(rt: HostRuntime) -> Result<(), Fail> {
-    let arena = Bump::new(rt.alloc());
+    let alloc = rt.alloc();
+    let arena = Bump::new(alloc);
     let none = Rows::none();
-    let rises = cells_in(rt.alloc(), &arena, &[(3, 1), (5, 1)])?;
-    let ties = cells_in(rt.alloc(), &arena, &[(3, 1), (3, 1)])?;
-    assert!(rt; none.more(rt.alloc(), 0, 1, ties, &arena)?.is_none());
-    assert!(rt; none.more(rt.alloc(), i128::MIN, 1, &[], &arena)?.is_none());
-    assert!(rt;
-        none.more(rt.alloc(), i128::MAX - 1, 1, rises, &arena)?
-            .is_none()
-    );
-    let full = none.more(rt.alloc(), i128::MAX - 2, u64::MAX, rises, &arena)?;
-    let full = full.expect(&rt, "the greatest sums fit");
-    assert!(rt; full.more(rt.alloc(), 0, 0, &[], &arena)?.is_some());
-    assert!(rt; full.more(rt.alloc(), 1, 0, &[], &arena)?.is_none());
-    assert!(rt; full.more(rt.alloc(), 0, 1, &[], &arena)?.is_none());
+    let ties = cells_in(alloc, &arena, &[(3, 1), (3, 1)])?;
+    assert!(rt; breaks(alloc, &none, 0, 1, ties, &arena)?);
+    assert!(rt; breaks(alloc, &none, i128::MIN, 1, &[], &arena)?);
+    let rises = cells_in(alloc, &arena, &[(3, 1), (5, 1)])?;
+    assert!(rt; breaks(alloc, &none, i128::MAX - 1, 1, rises, &arena)?);
     Ok(())
 }
 
-/// The ranked records of these records, none of whose items is left out.
-fn ranked_of(rt: &impl Abort, alloc: Global, records: &[&[(u32, i128)]]) -> Result<Ranked, Fail> {
-    let mut base = Base::after(alloc, 0);
-    for pairs in records {
-        let mut cells = Vec::new(alloc);
-        for (item, value) in *pairs {
-            cells.push(Cell {
-                item: Item(*item),
-                value: *value,
-            })?;
-        }
-        let record = Record::new(cells).expect(rt, "a record");
-        base.add(record)?;
-    }
-    let totals = Totals::of(alloc, &base)?;
-    Ok(Ranked::of(alloc, &base, &totals, 1)?)
+#[test]
+fn rows_of_the_greatest_sums(rt: HostRuntime) -> Result<(), Fail> {
+    let alloc = rt.alloc();
+    let arena = Bump::new(alloc);
+    let rises = cells_in(alloc, &arena, &[(3, 1), (5, 1)])?;
+    let full = Rows::none().more(alloc, i128::MAX - 2, u64::MAX, rises, &arena)?;
+    let full = full.expect(&rt, "the greatest sums fit");
+    assert!(rt; !breaks(alloc, &full, 0, 0, &[], &arena)?);
+    assert!(rt; breaks(alloc, &full, 1, 0, &[], &arena)?);
+    assert!(rt; breaks(alloc, &full, 0, 1, &[], &arena)?);
+    Ok(())
 }
 
-/// A line for each set of ranks from a rank on that has a row: the set, what it earns and how many records hold it.
-/// Each set has an arena of its own.
-fn walk(
-    alloc: Global,
-    rows: &Rows<'_>,
-    from: u32,
-    set: &str,
-    text: &mut String,
-) -> Result<(), Fail> {
-    for z in from..3 {
-        let arena = Bump::new(alloc);
-        let child = project(alloc, rows, z, &arena)?;
-        let mut earned = 0i128;
-        let mut count = 0u64;
-        for row in child.rows() {
-            earned = earned.wrapping_add(row.before);
-            count = count.wrapping_add(row.count);
-        }
-        if count > 0 {
-            let grown = format!(in alloc; "{}{} ", set, z)?;
-            text.push_str(&format!(in alloc; "{}: {} {}\n", grown, earned, count)?)?;
-            walk(alloc, &child, z + 1, grown.as_str(), text)?;
-        }
+/// What rows have earned before, and how many they are.
+fn sums_of(rows: &Rows<'_>) -> (i128, u64) {
+    let mut earned = 0i128;
+    let mut count = 0u64;
+    for row in rows.rows() {
+        earned = earned.wrapping_add(row.before);
+        count = count.wrapping_add(row.count);
+    }
+    (earned, count)
+}
+
+/// What a set of ranks earns, and how many records hold it.
+fn earned_by(alloc: Global, ranked: &Ranked, set: &[u32]) -> Result<(i128, u64), NoMemory> {
+    let arena = Bump::new(alloc);
+    let mut rows = Rows::of(alloc, ranked, &arena)?;
+    for z in set {
+        rows = project(alloc, &rows, *z, &arena)?;
+    }
+    Ok(sums_of(&rows))
+}
+
+#[test]
+fn sets_of_ranks(rt: HostRuntime) -> Result<(), Fail> {
+    let ranked = ranked_of(&rt, rt.alloc(), &FOUR_ROWS)?;
+    for (set, expected) in EARNED {
+        assert_eq!(rt; earned_by(rt.alloc(), &ranked, set)?, expected);
     }
     Ok(())
 }
@@ -199,36 +258,23 @@ fn ranked_records_as_rows(rt: HostRuntime) -> Result<(), Fail> {
     let ranked = ranked_of(&rt, rt.alloc(), &FOUR_ROWS)?;
     let arena = Bump::new(rt.alloc());
     let rows = Rows::of(rt.alloc(), &ranked, &arena)?;
-    assert_eq!(rt;
-        told(rt.alloc(), &rows)?.as_str(),
-        "0 1: 0=2 2=7\n0 1: 1=4 2=6\n0 2: 0=5 1=7 2=4\n"
-    );
-    let mut text = String::new(rt.alloc());
-    walk(rt.alloc(), &rows, 0, "", &mut text)?;
-    assert_eq!(rt;
-        text.as_str(),
-        "0 : 7 3\n0 1 : 12 2\n0 1 2 : 16 2\n0 2 : 18 3\n1 : 11 3\n1 2 : 21 3\n2 : 17 4\n"
-    );
-    Ok(())
+    assert_eq!(rt; rows.rows().len(), 3);
+    let lines = "0 1: 0=2 2=7\n0 1: 1=4 2=6\n0 2: 0=5 1=7 2=4\n";
+    expect_rows(&rt, rt.alloc(), &rows, lines)?;
+    expect_projections(&rt, rt.alloc(), &rows)
+}
+
+/// Compares rows of `FOUR_ROWS`, merged or not, without each rank.
+fn expect_projections(rt: &impl Abort, alloc: Global, rows: &Rows<'_>) -> Result<(), Fail> {
+    expect_projected(rt, alloc, rows, 0, "2 1: 2=7\n5 2: 1=7 2=4\n")?;
+    expect_projected(rt, alloc, rows, 1, "11 3: 2=10\n")?;
+    expect_projected(rt, alloc, rows, 2, "17 4:\n")
 }
 
 #[test]
 fn projecting_merged_rows_is_merging_projected_ones(rt: HostRuntime) -> Result<(), Fail> {
-    let ranked = ranked_of(&rt, rt.alloc(), &FOUR_ROWS)?;
     let arena = Bump::new(rt.alloc());
-    let merged = Rows::of(rt.alloc(), &ranked, &arena)?;
     let unmerged = rows_in(&rt, rt.alloc(), &arena, &FOUR_ROWS)?;
-    assert!(&rt; merged.rows().len() == 3);
-    assert!(&rt; unmerged.rows().len() == 4);
-    let by_rank = ["2 1: 2=7\n5 2: 1=7 2=4\n", "11 3: 2=10\n", "17 4:\n"];
-    for z in 0..3u32 {
-        let of_merged = project(rt.alloc(), &merged, z, &arena)?;
-        let of_unmerged = project(rt.alloc(), &unmerged, z, &arena)?;
-        assert_eq!(rt; told(rt.alloc(), &of_merged)?.as_str(), by_rank[z as usize]);
-        assert_eq!(rt;
-            told(rt.alloc(), &of_unmerged)?.as_str(),
-            by_rank[z as usize]
-        );
-    }
-    Ok(())
+    assert_eq!(rt; unmerged.rows().len(), 4);
+    expect_projections(&rt, rt.alloc(), &unmerged)
 }

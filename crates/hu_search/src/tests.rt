@@ -1,35 +1,30 @@
 //! The key of a set of ranks.
 
 use crate::key_of;
-use hu_base::Base;
-use hu_kind::{Cell, Item, NoMemory, Record};
+use hu_sample::base_of;
 use hu_totals::{Ranked, Totals};
 use std::alloc::Global;
+use std::process::Abort;
 use std::test::Fail;
 
-/// The record of these items, each with the value 1.
-fn record_of(alloc: Global, items: &[u32]) -> Result<Option<Record>, NoMemory> {
-    let mut cells = Vec::new(alloc);
-    for item in items {
-        cells.push(Cell {
-            item: Item(*item),
-            value: 1,
-        })?;
-    }
-    Ok(Record::new(cells))
+/// The item 3 stands in one record, 2 in two and 1 in three: these are the ranks 0, 1 and 2.
+const THREE_RECORDS: [&[(u32, i128)]; 3] = [
+    &[(1, 1), (2, 1), (3, 1)],
+    &[(1, 1), (2, 1)],
+    &[(1, 1)],
+];
+
+/// These records over ranks.
+fn ranked_of(rt: &impl Abort, alloc: Global, records: &[&[(u32, i128)]]) -> Result<Ranked, Fail> {
+    let base = base_of(alloc, records)?.expect(rt, "a base");
+    let totals = Totals::of(alloc, &base)?;
+    Ok(Ranked::of(alloc, &base, &totals, 1)?)
 }
 
 #[test]
 fn items_of_ranks_ascend(rt: HostRuntime) -> Result<(), Fail> {
-    // The item 3 stands in one record, 2 in two and 1 in three: these are the ranks 0, 1 and 2.
-    let records: [&[u32]; 3] = [&[1, 2, 3], &[1, 2], &[1]];
-    let mut base = Base::after(rt.alloc(), 0);
-    for items in records {
-        let record = record_of(rt.alloc(), items)?.expect(&rt, "a record");
-        base.add(record)?;
-    }
-    let totals = Totals::of(rt.alloc(), &base)?;
-    let ranked = Ranked::of(rt.alloc(), &base, &totals, 1)?;
+    let ranked = ranked_of(&rt, rt.alloc(), &THREE_RECORDS)?;
+    // This tells the proof the rules of ranked records.
     let _records = ranked.records();
     assert_eq!(rt; ranked.len(), 3);
     let key = key_of(rt.alloc(), &ranked, &[0], 2)?;
