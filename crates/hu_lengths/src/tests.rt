@@ -1,53 +1,23 @@
 //! Itemsets and bounds of a small base under lengths.
 
-ghost use Rattle.std.specs.Prelude.{◌≡◌, IfOk};
+ghost use Rattle.std.specs.Prelude.{◌≡◌, ◌≤ℤ◌, pos, IfOk};
 
 use crate::{LengthsOnly, bound, mine, mine_sized};
-use hu_base::Base;
 use hu_collect::{All, Collect, Top};
-use hu_kind::{Cell, Entry, Item, Key, NoMemory, Record};
+use hu_kind::{Entry, Key, NoMemory};
 use hu_list::UtilityList;
+use hu_sample::{BASE_A, base_of};
 use hu_totals::{Ranked, Totals};
 use std::alloc::Global;
 use std::process::Abort;
 use std::test::Fail;
 
-const BASE_A: [&[(u32, i128)]; 5] = [
-    &[(1, 5), (2, 10), (3, 1), (4, 6), (5, 3), (6, 5)],
-    &[(2, 8), (3, 3), (4, 6), (5, 3)],
-    &[(1, 5), (3, 1), (4, 2)],
-    &[(1, 10), (3, 6), (5, 6), (7, 5)],
-    &[(2, 4), (3, 2), (5, 3), (7, 2)],
-];
-
-/// The record of these items with their values.
-fn record_of(alloc: Global, pairs: &[(u32, i128)]) -> Result<Option<Record>, NoMemory> {
-    let mut cells = Vec::new(alloc);
-    for (item, value) in pairs {
-        cells.push(Cell {
-            item: Item(*item),
-            value: *value,
-        })?;
-    }
-    Ok(Record::new(cells))
-}
-
-/// Base A.
-fn base_a(rt: &impl Abort, alloc: Global) -> Result<Base<Record>, Fail> {
-    let mut base = Base::after(alloc, 0);
-    for pairs in &BASE_A {
-        let record = record_of(alloc, pairs)?.expect(rt, "a record");
-        base.add(record)?;
-    }
-    Ok(base)
-}
-
 /// Base A over the ranks of the items that reach a floor.
 fn ranked_at(rt: &impl Abort, alloc: Global, floor: i128) -> Result<Ranked, Fail>
+    requires { pos 1 ≤ℤ floor }
     ensures { IfOk result (λ ranked. ranked.floor ≡ floor) }
 {
-    assert!(rt; floor >= 1);
-    let base = base_a(rt, alloc)?;
+    let base = base_of(alloc, &BASE_A)?.expect(rt, "a base");
     let totals = Totals::of(alloc, &base)?;
     Ok(Ranked::of(alloc, &base, &totals, floor)?)
 }
@@ -70,12 +40,28 @@ fn key_of(alloc: Global, numbers: &[i64]) -> Result<Key, NoMemory> {
     Ok(key)
 }
 
+/// What the sets of two to three items earn that earn at least 30.
+fn earned_by_two_or_three(alloc: Global, ranked: &Ranked) -> Result<Vec<i128>, NoMemory>
+    requires { ranked.now.floor ≡ pos 30 }
+{
+    let mut collect = LengthsOnly::new(All::new(alloc, 30), 2, 3);
+    mine_sized(alloc, ranked, &mut collect)?;
+    utilities(alloc, &collect.into_inner().into_entries()?)
+}
+
+/// What the first two single items earn.
+fn earned_by_one(alloc: Global, ranked: &Ranked) -> Result<Vec<i128>, NoMemory>
+    requires { ranked.now.floor ≡ pos 1 }
+{
+    let mut collect = Top::new(alloc, 2, 1);
+    mine(alloc, ranked, 1, &mut collect)?;
+    utilities(alloc, &collect.into_entries()?)
+}
+
 #[test]
 fn two_to_three_items_at_30(rt: HostRuntime) -> Result<(), Fail> {
     let ranked = ranked_at(&rt, rt.alloc(), 30)?;
-    let mut collect = LengthsOnly::new(All::new(rt.alloc(), 30), 2, 3);
-    mine_sized(rt.alloc(), &ranked, &mut collect)?;
-    let earned = utilities(rt.alloc(), &collect.into_inner().into_entries()?)?;
+    let earned = earned_by_two_or_three(rt.alloc(), &ranked)?;
     assert_eq!(rt; earned.as_slice(), [37, 36, 34, 31, 31, 30].as_slice());
     Ok(())
 }
@@ -83,20 +69,24 @@ fn two_to_three_items_at_30(rt: HostRuntime) -> Result<(), Fail> {
 #[test]
 fn first_two_items(rt: HostRuntime) -> Result<(), Fail> {
     let ranked = ranked_at(&rt, rt.alloc(), 1)?;
-    let mut collect = Top::new(rt.alloc(), 2, 1);
-    mine(rt.alloc(), &ranked, 1, &mut collect)?;
-    let earned = utilities(rt.alloc(), &collect.into_entries()?)?;
+    let earned = earned_by_one(rt.alloc(), &ranked)?;
     assert_eq!(rt; earned.as_slice(), [22, 20].as_slice());
     Ok(())
 }
 
+/// Whether the collector of sets of two to three items opens a key.
+fn opens(alloc: Global, numbers: &[i64]) -> Result<bool, NoMemory> {
+    let collect = LengthsOnly::new(All::new(alloc, 5), 2, 3);
+    let key = key_of(alloc, numbers)?;
+    Ok(collect.opens(&key, 0))
+}
+
 #[test]
 fn keys_that_open(rt: HostRuntime) -> Result<(), Fail> {
-    let collect = LengthsOnly::new(All::new(rt.alloc(), 5), 2, 3);
-    assert_eq!(rt; collect.floor(), 5);
-    assert!(rt; collect.opens(&key_of(rt.alloc(), &[1])?, 0));
-    assert!(rt; collect.opens(&key_of(rt.alloc(), &[1, 2, 3])?, 0));
-    assert!(rt; !collect.opens(&key_of(rt.alloc(), &[1, 2, 3, 4])?, 0));
+    assert_eq!(rt; LengthsOnly::new(All::new(rt.alloc(), 5), 2, 3).floor(), 5);
+    assert!(rt; opens(rt.alloc(), &[1])?);
+    assert!(rt; opens(rt.alloc(), &[1, 2, 3])?);
+    assert!(rt; !opens(rt.alloc(), &[1, 2, 3, 4])?);
     Ok(())
 }
 

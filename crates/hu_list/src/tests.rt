@@ -1,62 +1,23 @@
 //! A list and the first itemsets of a small base; the itemsets of more bases stand in the tests of whole runs.
 
-ghost use Rattle.std.specs.Prelude.{◌≡◌, [], ◌∷◌, IfOk};
+ghost use Rattle.std.specs.Prelude.{◌≡◌, ◌≤ℤ◌, [], ◌∷◌, pos, IfOk};
 ghost use Rattle.hu_list.specs.Nodes.{list_of};
 
 use crate::{Node, UtilityList, mine};
-use hu_base::Base;
 use hu_collect::{NoGate, Top};
-use hu_kind::{Cell, Item, NoMemory, Record};
+use hu_kind::{Entry, NoMemory};
+use hu_sample::{BASE_A, base_of};
 use hu_totals::{Ranked, Totals};
 use std::alloc::Global;
 use std::process::Abort;
 use std::test::Fail;
 
-const BASE_A: [&[(u32, i128)]; 5] = [
-    &[(1, 5), (2, 10), (3, 1), (4, 6), (5, 3), (6, 5)],
-    &[(2, 8), (3, 3), (4, 6), (5, 3)],
-    &[(1, 5), (3, 1), (4, 2)],
-    &[(1, 10), (3, 6), (5, 6), (7, 5)],
-    &[(2, 4), (3, 2), (5, 3), (7, 2)],
-];
-
-/// The record of these items with their values.
-fn record_of(alloc: Global, pairs: &[(u32, i128)]) -> Result<Option<Record>, NoMemory> {
-    let mut cells = Vec::new(alloc);
-    for (item, value) in pairs {
-        cells.push(Cell {
-            item: Item(*item),
-            value: *value,
-        })?;
-    }
-    Ok(Record::new(cells))
-}
-
-/// The base of these records.
-fn base_of(
-    rt: &impl Abort,
-    alloc: Global,
-    records: &[&[(u32, i128)]],
-) -> Result<Base<Record>, Fail> {
-    let mut base = Base::after(alloc, 0);
-    for pairs in records {
-        let record = record_of(alloc, pairs)?.expect(rt, "a record");
-        base.add(record)?;
-    }
-    Ok(base)
-}
-
-/// These records over the ranks of the items that reach a floor.
-fn ranked_at(
-    rt: &impl Abort,
-    alloc: Global,
-    records: &[&[(u32, i128)]],
-    floor: i128,
-) -> Result<Ranked, Fail>
+/// Base A over the ranks of the items that reach a floor.
+fn base_a_at(rt: &impl Abort, alloc: Global, floor: i128) -> Result<Ranked, Fail>
+    requires { pos 1 ≤ℤ floor }
     ensures { IfOk result (λ ranked. ranked.floor ≡ floor) }
 {
-    assert!(rt; floor >= 1);
-    let base = base_of(rt, alloc, records)?;
+    let base = base_of(alloc, &BASE_A)?.expect(rt, "a base");
     let totals = Totals::of(alloc, &base)?;
     Ok(Ranked::of(alloc, &base, &totals, floor)?)
 }
@@ -82,7 +43,7 @@ fn pair(
 
 #[test]
 fn a_list_of_two_ranks(rt: HostRuntime) -> Result<(), Fail> {
-    let ranked = ranked_at(&rt, rt.alloc(), &BASE_A, 30)?;
+    let ranked = base_a_at(&rt, rt.alloc(), 30)?;
     let list = pair(&rt, rt.alloc(), &ranked, 2, 3)?;
     let nodes = [
         Node {
@@ -102,15 +63,28 @@ fn a_list_of_two_ranks(rt: HostRuntime) -> Result<(), Fail> {
     Ok(())
 }
 
+/// The utilities of the first three itemsets.
+fn first_three(alloc: Global, ranked: &Ranked) -> Result<Vec<i128>, NoMemory>
+    requires { ranked.now.floor ≡ pos 1 }
+{
+    let mut collect = Top::new(alloc, 3, 1);
+    mine(alloc, ranked, &mut collect, &NoGate)?;
+    utilities(alloc, &collect.into_entries()?)
+}
+
+/// What entries earn.
+fn utilities(alloc: Global, entries: &[Entry]) -> Result<Vec<i128>, NoMemory> {
+    let mut earned = Vec::new(alloc);
+    for entry in entries {
+        earned.push(entry.utility)?;
+    }
+    Ok(earned)
+}
+
 #[test]
 fn the_first_of_base_a(rt: HostRuntime) -> Result<(), Fail> {
-    let ranked = ranked_at(&rt, rt.alloc(), &BASE_A, 1)?;
-    let mut collect = Top::new(rt.alloc(), 3, 1);
-    mine(rt.alloc(), &ranked, &mut collect, &NoGate)?;
-    let mut utilities = Vec::new(rt.alloc());
-    for entry in collect.into_entries()? {
-        utilities.push(entry.utility)?;
-    }
-    assert_eq!(rt; utilities.as_slice(), [40, 37, 36].as_slice());
+    let ranked = base_a_at(&rt, rt.alloc(), 1)?;
+    let earned = first_three(rt.alloc(), &ranked)?;
+    assert_eq!(rt; earned.as_slice(), [40, 37, 36].as_slice());
     Ok(())
 }

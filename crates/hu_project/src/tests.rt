@@ -1,49 +1,15 @@
 //! The itemsets of small bases, written out, and a record of as many items as a record may have.
 
-ghost use Rattle.std.specs.Prelude.{◌≡◌, IfOk};
+ghost use Rattle.std.specs.Prelude.{◌≡◌, ◌≤◌, ◌≤ℤ◌, pos, IfOk};
 
 use crate::mine;
-use hu_base::Base;
 use hu_collect::{All, Top};
-use hu_kind::{Cell, Entry, Item, NoMemory, Record};
+use hu_kind::{Entry, NoMemory};
+use hu_sample::{BASE_A, SIGNED, base_of, told};
 use hu_totals::{Ranked, Totals};
 use std::alloc::Global;
 use std::process::Abort;
 use std::test::Fail;
-
-const BASE_A: [&[(u32, i128)]; 5] = [
-    &[(1, 5), (2, 10), (3, 1), (4, 6), (5, 3), (6, 5)],
-    &[(2, 8), (3, 3), (4, 6), (5, 3)],
-    &[(1, 5), (3, 1), (4, 2)],
-    &[(1, 10), (3, 6), (5, 6), (7, 5)],
-    &[(2, 4), (3, 2), (5, 3), (7, 2)],
-];
-
-/// The record of these items with their values.
-fn record_of(alloc: Global, pairs: &[(u32, i128)]) -> Result<Option<Record>, NoMemory> {
-    let mut cells = Vec::new(alloc);
-    for (item, value) in pairs {
-        cells.push(Cell {
-            item: Item(*item),
-            value: *value,
-        })?;
-    }
-    Ok(Record::new(cells))
-}
-
-/// The base of these records.
-fn base_of(
-    rt: &impl Abort,
-    alloc: Global,
-    records: &[&[(u32, i128)]],
-) -> Result<Base<Record>, Fail> {
-    let mut base = Base::after(alloc, 0);
-    for pairs in records {
-        let record = record_of(alloc, pairs)?.expect(rt, "a record");
-        base.add(record)?;
-    }
-    Ok(base)
-}
 
 /// These records over the ranks of the items that reach a floor.
 fn ranked_at(
@@ -52,100 +18,101 @@ fn ranked_at(
     records: &[&[(u32, i128)]],
     floor: i128,
 ) -> Result<Ranked, Fail>
+    requires { pos 1 ≤ℤ floor }
     ensures { IfOk result (λ ranked. ranked.floor ≡ floor) }
 {
-    assert!(rt; floor >= 1);
-    let base = base_of(rt, alloc, records)?;
+    let base = base_of(alloc, records)?.expect(rt, "a base");
     let totals = Totals::of(alloc, &base)?;
     Ok(Ranked::of(alloc, &base, &totals, floor)?)
 }
 
-/// A line for each entry: its items, its utility and its support.
-fn told(alloc: Global, entries: &[Entry]) -> Result<String, Fail> {
-    let mut text = String::new(alloc);
-    for entry in entries {
-        for number in entry.key.numbers() {
-            text.push_str(&format!(in alloc; "{number} ")?)?;
-        }
-        text.push_str(&format!(in alloc; "#UTIL: {} #SUP: {}\n", entry.utility, entry.support)?)?;
-    }
-    Ok(text)
-}
-
-/// The itemsets of at least a utility.
-fn mined(
-    rt: &impl Abort,
-    alloc: Global,
-    records: &[&[(u32, i128)]],
-    start: i128,
-) -> Result<Vec<Entry>, Fail> {
-    assert!(rt; start >= 1);
-    let ranked = ranked_at(rt, alloc, records, start)?;
-    let mut collect = All::new(alloc, start);
-    mine(alloc, &ranked, &mut collect)?;
-    Ok(collect.into_entries()?)
+/// The itemsets that reach the floor of the ranks.
+fn mined(alloc: Global, ranked: &Ranked) -> Result<Vec<Entry>, NoMemory>
+    requires { pos 1 ≤ℤ ranked.now.floor }
+{
+    let mut collect = All::new(alloc, ranked.floor());
+    mine(alloc, ranked, &mut collect)?;
+    collect.into_entries()
 }
 
 /// The first k itemsets.
-fn mined_top(
+fn mined_top(alloc: Global, ranked: &Ranked, k: u32) -> Result<Vec<Entry>, NoMemory>
+    requires floor { ranked.now.floor ≡ pos 1 }
+    requires some { 1 ≤ k }
+{
+    let mut collect = Top::new(alloc, k, 1);
+    mine(alloc, ranked, &mut collect)?;
+    collect.into_entries()
+}
+
+/// Compares the lines of entries.
+fn expect_lines(
+    rt: &impl Abort,
+    alloc: Global,
+    entries: &[Entry],
+    lines: &str,
+) -> Result<(), Fail> {
+    assert_eq!(rt; told(alloc, entries)?.as_str(), lines);
+    Ok(())
+}
+
+/// Compares the lines of the itemsets that earn at least a floor.
+fn expect_mined(
     rt: &impl Abort,
     alloc: Global,
     records: &[&[(u32, i128)]],
-    k: u32,
-) -> Result<Vec<Entry>, Fail> {
-    assert!(rt; k >= 1);
-    let ranked = ranked_at(rt, alloc, records, 1)?;
-    let mut collect = Top::new(alloc, k, 1);
-    mine(alloc, &ranked, &mut collect)?;
-    Ok(collect.into_entries()?)
+    floor: i128,
+    lines: &str,
+) -> Result<(), Fail>
+    requires { pos 1 ≤ℤ floor }
+{
+    let ranked = ranked_at(rt, alloc, records, floor)?;
+    expect_lines(rt, alloc, &mined(alloc, &ranked)?, lines)
 }
+
+const BASE_A_AT_30: &str =
+    "2 3 4 5 #UTIL: 40 #SUP: 2\n2 3 5 #UTIL: 37 #SUP: 3\n2 4 5 #UTIL: 36 #SUP: 2\n2 3 4 #UTIL: 34 #SUP: 2\n1 3 5 #UTIL: 31 #SUP: 2\n2 5 #UTIL: 31 #SUP: 3\n1 2 3 4 5 6 #UTIL: 30 #SUP: 1\n2 4 #UTIL: 30 #SUP: 2\n";
 
 #[test]
 fn base_a_at_30(rt: HostRuntime) -> Result<(), Fail> {
-    let entries = mined(&rt, rt.alloc(), &BASE_A, 30)?;
-    assert_eq!(rt;
-        told(rt.alloc(), &entries)?.as_str(),
-        "2 3 4 5 #UTIL: 40 #SUP: 2\n2 3 5 #UTIL: 37 #SUP: 3\n2 4 5 #UTIL: 36 #SUP: 2\n2 3 4 #UTIL: 34 #SUP: 2\n1 3 5 #UTIL: 31 #SUP: 2\n2 5 #UTIL: 31 #SUP: 3\n1 2 3 4 5 6 #UTIL: 30 #SUP: 1\n2 4 #UTIL: 30 #SUP: 2\n"
-    );
-    Ok(())
+    expect_mined(&rt, rt.alloc(), &BASE_A, 30, BASE_A_AT_30)
 }
+
+/// Two sets earn 31, and the one with the smaller key stays.
+const FIRST_FIVE: &str =
+    "2 3 4 5 #UTIL: 40 #SUP: 2\n2 3 5 #UTIL: 37 #SUP: 3\n2 4 5 #UTIL: 36 #SUP: 2\n2 3 4 #UTIL: 34 #SUP: 2\n1 3 5 #UTIL: 31 #SUP: 2\n";
 
 #[test]
 fn the_first_five_of_base_a(rt: HostRuntime) -> Result<(), Fail> {
-    // Two sets earn 31, and the one with the smaller key stays.
-    let entries = mined_top(&rt, rt.alloc(), &BASE_A, 5)?;
-    assert_eq!(rt;
-        told(rt.alloc(), &entries)?.as_str(),
-        "2 3 4 5 #UTIL: 40 #SUP: 2\n2 3 5 #UTIL: 37 #SUP: 3\n2 4 5 #UTIL: 36 #SUP: 2\n2 3 4 #UTIL: 34 #SUP: 2\n1 3 5 #UTIL: 31 #SUP: 2\n"
-    );
-    Ok(())
+    let ranked = ranked_at(&rt, rt.alloc(), &BASE_A, 1)?;
+    let entries = mined_top(rt.alloc(), &ranked, 5)?;
+    expect_lines(&rt, rt.alloc(), &entries, FIRST_FIVE)
 }
+
+const SIGNED_AT_10: &str =
+    "2 3 #UTIL: 12 #SUP: 2\n1 2 3 #UTIL: 11 #SUP: 1\n1 3 #UTIL: 10 #SUP: 1\n";
 
 #[test]
 fn values_below_0_and_no_records(rt: HostRuntime) -> Result<(), Fail> {
-    let signed: [&[(u32, i128)]; 3] = [
-        &[(1, -10), (2, 3)],
-        &[(1, 4), (2, 1), (3, 6)],
-        &[(2, 2), (3, 3)],
-    ];
-    let entries = mined(&rt, rt.alloc(), &signed, 10)?;
-    assert_eq!(rt;
-        told(rt.alloc(), &entries)?.as_str(),
-        "2 3 #UTIL: 12 #SUP: 2\n1 2 3 #UTIL: 11 #SUP: 1\n1 3 #UTIL: 10 #SUP: 1\n"
-    );
-    let entries = mined(&rt, rt.alloc(), &[], 1)?;
-    assert_eq!(rt; told(rt.alloc(), &entries)?.as_str(), "");
-    Ok(())
+    expect_mined(&rt, rt.alloc(), &SIGNED, 10, SIGNED_AT_10)?;
+    expect_mined(&rt, rt.alloc(), &[], 1, "")
+}
+
+/// As many items as a record may have, each of which earns 1.
+fn whole_record(alloc: Global) -> Result<Vec<(u32, i128)>, NoMemory> {
+    let mut pairs = Vec::new(alloc);
+    for item in 1..4097 {
+        pairs.push((item, 1))?;
+    }
+    Ok(pairs)
 }
 
 #[test]
 fn a_record_of_4_096_items(rt: HostRuntime) -> Result<(), Fail> {
-    // Each item earns 1, so that only the whole record reaches 4,096.
-    let mut pairs = Vec::new(rt.alloc());
-    for item in 1..4097 {
-        pairs.push((item, 1))?;
-    }
-    let entries = mined(&rt, rt.alloc(), &[pairs.as_slice()], 4096)?;
+    // Only the whole record reaches 4,096.
+    let pairs = whole_record(rt.alloc())?;
+    let ranked = ranked_at(&rt, rt.alloc(), &[pairs.as_slice()], 4096)?;
+    let entries = mined(rt.alloc(), &ranked)?;
     assert!(&rt; entries.len() == 1);
     assert_eq!(rt; entries[0].key.numbers().len(), 4096);
     assert_eq!(rt; entries[0].utility, 4096);
