@@ -5,6 +5,7 @@ pub mod KeyLemmas
 mod Pairs
 mod Tries
 mod ListTests
-mod Found
+mod Places
+mod Rest
 mod SetLemmas
 mod PartLemmas

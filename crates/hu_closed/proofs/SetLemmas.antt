@@ -25,34 +25,21 @@ use Rattle.hu_totals.proofs.lemmas.SortedLists.{Member-from_ranking}
 use Rattle.hu_totals.proofs.lemmas.DenseLemmas.{position-rank_in, rank_in}
 use Rattle.hu_closed.specs.declared.holders.Holder.{Holder}
 use Rattle.hu_closed.specs.Keys.{are_among, closes_below, holds_key, is_among, is_closed_key, is_outside, is_set_key, key_support}
-use Rattle.hu_closed.specs.Holders.{closes_at, found_at, has_rank_below, is_below, lists_of, pair_of, pairs_from, stands_at, AreLists, AreSets, AreWithin}
-use Rattle.hu_closed.proofs.Found.{among-part, found-sets, AreLists-sets, AreWithin-sets}
+use Rattle.hu_closed.specs.Holders.{has_rank_below, is_below, pair_of, pairs_from, stands_at, AreSets}
+use Rattle.hu_closed.specs.Found.{closes_at, Finds, IsHeld}
+use Rattle.hu_closed.proofs.Places.{among-part}
 use Rattle.hu_closed.proofs.lemmas.Closedness.{any_closes-one, closes, closes-held, closes-unheld, has-among, is_closed_key-set, occurs}
 use Rattle.hu_closed.proofs.ListTests.{all-filter, all-same, any-from, any-member, any-members, any-same, count-filter, count-map, same_bool}
 
--- a number of a key with its holders
-pub record Finds (records : List (List (ℕ × ℤ))) (vs : List (Vec Item Global)) (holders : List Holder) (key : List ℤ) (places : List Holder) : Type 0 where
-  pub are : AreSets records vs holders
-  pub number : ℤ
-  pub part : Contains key number
-  pub of : places ≡ filter (stands_at number) holders
-
-found : (records : List (List (ℕ × ℤ))) (vs : List (Vec Item Global)) (holders : List Holder) (key : List ℤ)
-    (places : List Holder) (f : Finds records vs holders key places)
-    → found_at (lists_of vs) places ≡ filter (λ items. is_among items f.number) (map items_in records)
-found records vs holders key places f = found-sets records vs holders places f.number f.are f.of
-
-lacking : (records : List (List (ℕ × ℤ))) (vs : List (Vec Item Global)) (holders : List Holder) (key : List ℤ)
-    (places : List Holder) (f : Finds records vs holders key places)
+lacking : (records : List (List (ℕ × ℤ))) (key : List ℤ) (found : List (List ℕ)) (f : Finds records key found)
     → (items : List ℕ) → is_among items f.number ≡ false → are_among items key ≡ false
-lacking records vs holders key places f items out = among-part items key f.number (Member-from_contains f.number key f.part) out
+lacking records key found f items out = among-part items key f.number (Member-from_contains f.number key f.part) out
 
-pub support-found : (records : List (List (ℕ × ℤ))) (vs : List (Vec Item Global)) (holders : List Holder) (key : List ℤ)
-    (places : List Holder) → Finds records vs holders key places
-    → count_by (λ items. are_among items key) (found_at (lists_of vs) places) ≡ key_support records key
-support-found records vs holders key places f =
-    ap (count_by (λ items. are_among items key)) (found records vs holders key places f)
-    ∙ count-filter (λ items. are_among items key) (λ items. is_among items f.number) (lacking records vs holders key places f) (map items_in records)
+pub support-found : (records : List (List (ℕ × ℤ))) (key : List ℤ) (found : List (List ℕ)) → Finds records key found
+    → count_by (λ items. are_among items key) found ≡ key_support records key
+support-found records key found f =
+    ap (count_by (λ items. are_among items key)) f.is
+    ∙ count-filter (λ items. are_among items key) (λ items. is_among items f.number) (lacking records key found f) (map items_in records)
     ∙ count-map (λ items. are_among items key) items_in records
 
 count-all : {X : Type 0} (xs : List X) → count_by (λ x. true) xs ≡ length xs
@@ -70,54 +57,56 @@ support-empty records vs holders [] are none = support-all records vs holders ar
 support-empty records vs holders (n ∷ ns) are none = let many : eqb (suc (length ns)) 0 ≡ false =
     ne_eqb (suc (length ns)) 0 (λ e. absurd (omega arith)) in absurd (true≢false (none ∙ many))
 
--- what closes the key at these places closes it
-pub closes-found : (records : List (List (ℕ × ℤ))) (vs : List (Vec Item Global)) (holders : List Holder) (key : List ℤ)
-    (places : List Holder) → Finds records vs holders key places
-    → (item : ℕ) → closes_at (found_at (lists_of vs) places) key item ≡ closes records key item
-closes-found records vs holders key places f item =
+-- what closes the key in the records found closes it
+pub closes-found : (records : List (List (ℕ × ℤ))) (key : List ℤ) (found : List (List ℕ)) → Finds records key found
+    → (item : ℕ) → closes_at found key item ≡ closes records key item
+closes-found records key found f item =
     let test : List ℕ → Bool = λ items. not (are_among items key) || is_among items (pos item) in
     ap (λ b. is_outside key item && b) (
-    ap (list_all test) (found records vs holders key places f)
+    ap (list_all test) f.is
     ∙ all-filter test (λ items. is_among items f.number) (λ items out. or_left (not (are_among items key))
     (is_among items (pos item)) (not_from_false (are_among items key)
-    (lacking records vs holders key places f items out))) (map items_in records)
+    (lacking records key found f items out))) (map items_in records)
     ∙ list_all-map test items_in records
     ∙ all-same (λ r. test (items_in r)) (λ r. not (holds_key key r) || has item r) (λ r. ap (λ b. not (holds_key key r) || b) (has-among item r)) records
     )
 
--- a place that holds the key is that of a record
-record_of : (records : List (List (ℕ × ℤ))) (vs : List (Vec Item Global)) (holders : List Holder) (key : List ℤ)
-    (places : List Holder) → Finds records vs holders key places
-    → (items : List ℕ) → Contains (found_at (lists_of vs) places) items → (r : List (ℕ × ℤ)) × Member r records × (items_in r ≡ items)
-record_of records vs holders key places f items c =
-    let m = subst (Member items) (found records vs holders key places f) (Member-from_contains items (found_at (lists_of vs) places) c) in
+-- as it does in those of them from the first that holds the key on
+closes-held_from : (records : List (List (ℕ × ℤ))) (key : List ℤ) (found rest : List (List ℕ)) (items : List ℕ)
+    → Finds records key found → IsHeld found key rest items → (item : ℕ) → closes_at rest key item ≡ closes records key item
+closes-held_from records key found rest items f h item =
+    ap (λ b. is_outside key item && b) (h.stands item) ∙ closes-found records key found f item
+
+-- a record found is one of the records
+record_of : (records : List (List (ℕ × ℤ))) (key : List ℤ) (found : List (List ℕ)) → Finds records key found
+    → (items : List ℕ) → Contains found items → (r : List (ℕ × ℤ)) × Member r records × (items_in r ≡ items)
+record_of records key found f items c =
+    let m = subst (Member items) f.is (Member-from_contains items found c) in
     Member-from_map items_in items records (Member-from_filter (λ items. is_among items f.number) items (map items_in records) m).0
 
-pub closed-some : (records : List (List (ℕ × ℤ))) (vs : List (Vec Item Global)) (holders : List Holder) (key : List ℤ)
-    (places : List Holder) → Finds records vs holders key places → is_set_key key ≡ true
-    → (items : List ℕ) → Contains (found_at (lists_of vs) places) items → are_among items key ≡ true
-    → not (list_any (closes_at (found_at (lists_of vs) places) key) items) ≡ is_closed_key records key
-closed-some records vs holders key places f set items c holds =
-    let r = record_of records vs holders key places f items c in
-    let holds' : holds_key key r.0 ≡ true = ap (λ is. are_among is key) r.2 ∙ holds in
+pub closed-some : (records : List (List (ℕ × ℤ))) (key : List ℤ) (found rest : List (List ℕ)) (items : List ℕ)
+    → Finds records key found → IsHeld found key rest items → is_set_key key ≡ true
+    → not (list_any (closes_at rest key) items) ≡ is_closed_key records key
+closed-some records key found rest items f h set =
+    let r = record_of records key found f items h.part in
+    let holds : holds_key key r.0 ≡ true = ap (λ is. are_among is key) r.2 ∙ h.holding.whole in
     ap not (
-    any-same (closes_at (found_at (lists_of vs) places) key) (closes records key) (closes-found records vs holders key places f) items
+    any-same (closes_at rest key) (closes records key) (closes-held_from records key found rest items f h) items
     ∙ ap (list_any (closes records key)) (sym r.2)
-    ∙ any_closes-one records key r.0 r.1 holds'
+    ∙ any_closes-one records key r.0 r.1 holds
     )
     ∙ sym (is_closed_key-set records key set)
 
--- no record holds the key where none of these places does
-pub unheld : (records : List (List (ℕ × ℤ))) (vs : List (Vec Item Global)) (holders : List Holder) (key : List ℤ)
-    (places : List Holder) → Finds records vs holders key places
-    → list_all (λ items. not (are_among items key)) (found_at (lists_of vs) places) ≡ true → list_all (λ r. not (holds_key key r)) records ≡ true
-unheld records vs holders key places f none =
+-- no record holds the key where none of those found does
+pub unheld : (records : List (List (ℕ × ℤ))) (key : List ℤ) (found : List (List ℕ)) → Finds records key found
+    → list_all (λ items. not (are_among items key)) found ≡ true → list_all (λ r. not (holds_key key r)) records ≡ true
+unheld records key found f none =
     let test : List ℕ → Bool = λ items. not (are_among items key) in
     sym (list_all-map test items_in records)
     ∙ sym (all-filter test (λ items. is_among items f.number)
-    (λ items out. not_from_false (are_among items key) (lacking records vs holders key places f items out))
+    (λ items out. not_from_false (are_among items key) (lacking records key found f items out))
     (map items_in records))
-    ∙ sym (ap (list_all test) (found records vs holders key places f))
+    ∙ sym (ap (list_all test) f.is)
     ∙ none
 
 -- ---- holders have the items that occur
@@ -171,19 +160,19 @@ occurs-holder records vs holders are item m =
 
 -- where no record holds a key, an item outside it closes it
 pub closed-none : (records : List (List (ℕ × ℤ))) (vs : List (Vec Item Global)) (holders : List Holder) (key : List ℤ)
-    (places : List Holder) → Finds records vs holders key places → is_set_key key ≡ true
-    → list_all (λ items. not (are_among items key)) (found_at (lists_of vs) places) ≡ true
+    (found : List (List ℕ)) → AreSets records vs holders → Finds records key found → is_set_key key ≡ true
+    → list_all (λ items. not (are_among items key)) found ≡ true
     → not (list_any (λ (h : Holder). is_outside key h.item.0) holders) ≡ is_closed_key records key
-closed-none records vs holders key places f set none =
-    let free = unheld records vs holders key places f none in
+closed-none records vs holders key found are f set none =
+    let free = unheld records key found f none in
     let number_of : Holder → ℕ = λ h. h.item.0 in
     ap not (
     sym (list_any-map (is_outside key) number_of holders)
     ∙ any-members (is_outside key) (map number_of holders) (items_of records)
     (λ item h m. let from = Member-from_map number_of item holders m in subst (λ i. Member i (items_of records)) from.2
-    (holder-occurs records vs holders f.are from.0 from.1))
+    (holder-occurs records vs holders are from.0 from.1))
     (λ item h m.
-    let of = occurs-holder records vs holders f.are item (Member-from_ranking nat_cmp item (flat_map items_in records) m) in
+    let of = occurs-holder records vs holders are item (Member-from_ranking nat_cmp item (flat_map items_in records) m) in
     subst (λ i. Member i (map number_of holders)) of.2 (Member-map number_of of.0 holders of.1))
     ∙ any-same (is_outside key) (closes records key) (λ item. sym (closes-unheld records key item free)) (items_of records)
     )
@@ -212,16 +201,15 @@ rank-below item (x ∷ xs) (suc last) = go (eqb item x) (rank-below item xs last
 pub has_rank_below-member : (item : ℕ) (table : List ℕ) (last : ℕ) → has_rank_below table last item ≡ list_any (λ other. eqb item other) (take last table)
 has_rank_below-member item table last = ap (λ r. is_below r last) (position-rank_in item table) ∙ rank-below item table last
 
-pub below-some : (records : List (List (ℕ × ℤ))) (vs : List (Vec Item Global)) (holders : List Holder) (key : List ℤ)
-    (places : List Holder) (table : List ℕ) (last : ℕ) → Finds records vs holders key places
-    → (items : List ℕ) → Contains (found_at (lists_of vs) places) items → are_among items key ≡ true
-    → list_any (λ item. has_rank_below table last item && closes_at (found_at (lists_of vs) places) key item) items ≡ closes_below records table key last
-below-some records vs holders key places table last f items c holds =
-    let r = record_of records vs holders key places f items c in
-    let holds' : holds_key key r.0 ≡ true = ap (λ is. are_among is key) r.2 ∙ holds in
-    let found_test : ℕ → Bool = λ item. has_rank_below table last item && closes_at (found_at (lists_of vs) places) key item in
+pub below-some : (records : List (List (ℕ × ℤ))) (key : List ℤ) (found rest : List (List ℕ)) (items : List ℕ)
+    (table : List ℕ) (last : ℕ) → Finds records key found → IsHeld found key rest items
+    → list_any (λ item. has_rank_below table last item && closes_at rest key item) items ≡ closes_below records table key last
+below-some records key found rest items table last f h =
+    let r = record_of records key found f items h.part in
+    let holds : holds_key key r.0 ≡ true = ap (λ is. are_among is key) r.2 ∙ h.holding.whole in
+    let found_test : ℕ → Bool = λ item. has_rank_below table last item && closes_at rest key item in
     let test : ℕ → Bool = λ item. has_rank_below table last item && closes records key item in
-    any-same found_test test (λ item. ap (λ b. has_rank_below table last item && b) (closes-found records vs holders key places f item)) items
+    any-same found_test test (λ item. ap (λ b. has_rank_below table last item && b) (closes-held_from records key found rest items f h item)) items
     ∙ same_bool (list_any test items) (closes_below records table key last)
     (λ h.
     let one = any-member test items h in
@@ -231,35 +219,12 @@ below-some records vs holders key places table last f items c holds =
     (λ h.
     let one = any-member (closes records key) (take last table) h in
     let ranked = has_rank_below-member one.0 table last ∙ any-from (λ other. eqb one.0 other) one.0 (take last table) one.1 (eq-eqb one.0 one.0 refl) in
-    let here = has-member one.0 r.0 (closes-held records key one.0 r.0 one.2 r.1 holds') in
+    let here = has-member one.0 r.0 (closes-held records key one.0 r.0 one.2 r.1 holds) in
     any-from test one.0 items (subst (Member one.0) r.2 here) (and_from (has_rank_below table last one.0) (closes records key one.0) ranked one.2))
 
-pub below-none : (records : List (List (ℕ × ℤ))) (vs : List (Vec Item Global)) (holders : List Holder) (key : List ℤ)
-    (places : List Holder) (table : List ℕ) (last : ℕ) → Finds records vs holders key places
-    → list_all (λ items. not (are_among items key)) (found_at (lists_of vs) places) ≡ true
+pub below-none : (records : List (List (ℕ × ℤ))) (key : List ℤ) (found : List (List ℕ)) (table : List ℕ) (last : ℕ)
+    → Finds records key found → list_all (λ items. not (are_among items key)) found ≡ true
     → list_any (is_outside key) (take last table) ≡ closes_below records table key last
-below-none records vs holders key places table last f none =
-    let free = unheld records vs holders key places f none in
+below-none records key found table last f none =
+    let free = unheld records key found f none in
     any-same (is_outside key) (closes records key) (λ item. sym (closes-unheld records key item free)) (take last table)
-
--- ---- the parts of a call
-
--- what a call has at hand of a key's places
-pub Finds-from : (seen records : List (List (ℕ × ℤ))) (inside lists : List (Vec Item Global))
-    (kept holders : List Holder) (key : List ℤ) (places : List Holder) → AreSets seen inside kept
-    → seen ≡ records → lists ≡ inside → holders ≡ kept → (number : ℤ) × Contains key number
-    × (places ≡ filter (stands_at number) holders) → Finds records lists holders key places
-Finds-from seen records inside lists kept holders key places are view l h rare = record {
-  are = subst (λ r. AreSets r lists holders) view (subst (λ v. AreSets seen v holders) (sym l) (subst (AreSets seen inside) (sym h) are));
-  number = rare.0;
-  part = rare.1;
-  of = rare.2;
-}
-
-pub finds-lists : (records : List (List (ℕ × ℤ))) (vs : List (Vec Item Global)) (holders : List Holder) (key : List ℤ)
-    (places : List Holder) → Finds records vs holders key places → AreLists (lists_of vs)
-finds-lists records vs holders key places f = AreLists-sets records vs holders f.are
-
-pub finds-within : (records : List (List (ℕ × ℤ))) (vs : List (Vec Item Global)) (holders : List Holder) (key : List ℤ)
-    (places : List Holder) → Finds records vs holders key places → AreWithin (length vs) places
-finds-within records vs holders key places f = AreWithin-sets records vs holders places f.number f.are f.of

@@ -1,33 +1,7 @@
 -- Which records hold an item: holders are pairs (item, place), by item, and of one item by place.
-use Rattle.std.specs.Prelude.{
-  ◌≡◌,
-  ℕ,
-  ◌+◌,
-  ◌<◌,
-  ℤ,
-  pos,
-  Bool,
-  true,
-  false,
-  not,
-  ◌&&◌,
-  ◌||◌,
-  nat_eq,
-  nat_lt,
-  position,
-  Option,
-  None,
-  Some,
-  List,
-  [],
-  ◌∷◌,
-  ◌++◌,
-  map,
-  slice_index_or,
-  refl,
-}
+use Rattle.std.specs.Prelude.{◌≡◌, ℕ, ◌+◌, ◌<◌, ℤ, pos, Bool, false, nat_eq, nat_lt, position, Option, None, Some, List, [], ◌∷◌, ◌++◌, length, map, slice_index_or, refl}
 use Rattle.std.specs.Ordering.{int_eq}
-use Rattle.std.specs.List.{All, AllByRecursion, Contains, filter, list_all}
+use Rattle.std.specs.List.{All, AllByRecursion, filter}
 use Rattle.std.specs.List.Sorted.{IsNonDecreasingBy}
 use Rattle.std.specs.declared.vec.Vec.{Vec}
 use Rattle.std.specs.declared.alloc.Global.{Global}
@@ -35,7 +9,6 @@ use Rattle.hu_kind.specs.declared.item.Item.{Item}
 use Rattle.hu_kind.specs.Record.{items_in, IsRecord}
 use Rattle.hu_kind.specs.Order.{Ascend}
 use Rattle.hu_totals.specs.Weights.{numbers_of}
-use Rattle.hu_closed.specs.Keys.{are_among, is_among, is_outside}
 use Rattle.hu_closed.specs.declared.holders.Holder.{Holder}
 
 -- lists of items as lists of numbers
@@ -71,19 +44,10 @@ AreWithin n holders = All (λ holder. holder.place < n) holders
 abbrev pub found_at : List (List ℕ) → List Holder → List (List ℕ)
 found_at lists holders = map (λ holder. slice_index_or lists holder.place []) holders
 
--- the items of a record found that holds a key
-pub record IsHolding (found : List (List ℕ)) (key : List ℤ) (items : List ℕ) : Type 0 where
-  pub ascending : Ascend items
-  pub at : Contains found items
-  pub whole : are_among items key ≡ true
-
--- whether an item stands in each of these records that hold a key
-abbrev pub stands_in : List (List ℕ) → List ℤ → ℕ → Bool
-stands_in found key item = list_all (λ items. not (are_among items key) || is_among items (pos item)) found
-
--- whether an item is outside a key and stands in each of these records that hold it
-abbrev pub closes_at : List (List ℕ) → List ℤ → ℕ → Bool
-closes_at found key item = is_outside key item && stands_in found key item
+-- lists ascend, and places are of them
+pub record ArePlaced (lists : List (List ℕ)) (places : List Holder) : Type 0 where
+  pub ascend : AreLists lists
+  pub within : AreWithin (length lists) places
 
 -- whether there is a rank and it is below `last`
 abbrev pub is_below : Option ℕ → ℕ → Bool

@@ -1,14 +1,11 @@
-//! The records that hold an item, as places in the list of records, and what stands at these places.
+//! The records that hold an item, as places in the list of records.
 
-ghost use Rattle.std.specs.Prelude.{◌≡◌, ◌<◌, ◌≤◌, ◌<ℤ◌, ◌≤ℤ◌, ◌++◌, pos, ℕ, ℤ, not, true, map, length, slice_index_or, [], IfOk, IfSome, IfNone, OnOk};
-ghost use Rattle.std.specs.List.{filter, count_by, list_all, Contains};
+ghost use Rattle.std.specs.Prelude.{◌≡◌, ◌<◌, ◌≤◌, ◌<ℤ◌, ◌≤ℤ◌, ◌++◌, pos, ℤ, map, length, IfOk, OnOk};
+ghost use Rattle.std.specs.List.{filter, Contains};
 ghost use Rattle.std.specs.List.Sorted.{IsNonDecreasingBy, IsPartitionPoint};
-ghost use Rattle.hu_kind.specs.Order.{Ascend};
 ghost use Rattle.hu_totals.specs.Weights.{numbers_of};
-ghost use Rattle.hu_closed.specs.Keys.{are_among};
-ghost use Rattle.hu_closed.specs.Holders.{found_at, lists_of, pair_of, pairs_from, pairs_with, stands_at, AreLists, AreWithin, IsHolding};
+ghost use Rattle.hu_closed.specs.Holders.{lists_of, pair_of, pairs_from, pairs_with, stands_at};
 
-use crate::keys::are_among;
 use hu_kind::{Item, NoMemory};
 use std::alloc::Global;
 
@@ -87,52 +84,4 @@ pub(crate) fn rarest<'a>(holders: &'a [Holder], key: &[i64]) -> &'a [Holder]
         }
     }
     best
-}
-
-/// How many of these places hold a key.
-pub(crate) fn count(lists: &[Vec<Item>], places: &[Holder], key: &[i64]) -> u64
-    requires lists { AreLists (lists_of lists.now) }
-    requires within { AreWithin (length lists.now) places.now }
-    ensures { result ≡ count_by (λ items. are_among items key.now)
-        (found_at (lists_of lists.now) places.now) }
-{
-    let mut count = 0;
-    for holder in places {
-        if are_among(list_at(lists, holder.place), key) {
-            count += 1;
-        }
-    }
-    count
-}
-
-/// The items of the first of these places that holds a key.
-pub(crate) fn first<'a>(
-    lists: &'a [Vec<Item>],
-    places: &[Holder],
-    key: &[i64],
-) -> Option<&'a [Item]>
-    requires lists { AreLists (lists_of lists.now) }
-    requires within { AreWithin (length lists.now) places.now }
-    ensures holding { IfSome result (λ items. IsHolding (found_at (lists_of lists.now) places.now)
-        key.now (numbers_of items.now)) }
-    ensures none { IfNone result (list_all (λ items. not (are_among items key.now))
-        (found_at (lists_of lists.now) places.now) ≡ true) }
-{
-    for holder in places {
-        let items = list_at(lists, holder.place);
-        if are_among(items, key) {
-            return Some(items);
-        }
-    }
-    None
-}
-
-/// The items of the record at a place.
-pub(crate) fn list_at(lists: &[Vec<Item>], place: usize) -> &[Item]
-    requires lists { AreLists (lists_of lists.now) }
-    requires within { place < length lists.now }
-    ensures value { numbers_of result.now ≡ slice_index_or (lists_of lists.now) place [] }
-    ensures ascending { Ascend (numbers_of result.now) }
-{
-    lists[place].as_slice()
 }

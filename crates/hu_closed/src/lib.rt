@@ -8,6 +8,7 @@
 
 mod candidates;
 mod closed_only;
+mod found;
 mod holders;
 mod keys;
 mod sets;

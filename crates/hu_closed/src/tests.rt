@@ -159,11 +159,7 @@ fn expect_told(
 }
 
 /// Offers a key with a utility and a support.
-fn offer(
-    alloc: Global,
-    closed: &mut ClosedOnly<'_, All>,
-    one: &Offer<'_>,
-) -> Result<(), NoMemory> {
+fn offer(alloc: Global, closed: &mut ClosedOnly<'_, All>, one: &Offer<'_>) -> Result<(), NoMemory> {
     closed.offer(entry_of(alloc, one.0, one.1, one.2)?)
 }
 

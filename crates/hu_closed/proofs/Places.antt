@@ -1,6 +1,6 @@
 -- What stands at the places of an item's holders: the records that hold it.
 use Rattle.std.proofs.Common.{◌≡◌, ◌∙◌, ℕ, ◌+◌, ◌<◌, ℤ, pos, Bool, true, false, cond, ◌||◌, List, [], ◌∷◌, ◌++◌, map}
-use Rattle.std.proofs.Common.{length, get_or, refl, sym, ap, subst, inl, inr, arith, filter}
+use Rattle.std.proofs.Common.{length, get_or, refl, sym, ap, subst, inl, inr, arith, filter, Contains}
 use Rattle.std.specs.List.{AllByRecursion}
 use Rattle.std.specs.Ordering.{int_eq}
 use Rattle.std.specs.declared.vec.Vec.{Vec}
@@ -8,19 +8,19 @@ use Rattle.std.specs.declared.alloc.Global.{Global}
 use Rattle.std.proofs.lemmas.Int.{ints}
 use Rattle.std.proofs.lemmas.Bool.{and_left, and_right}
 use Rattle.std.proofs.lemmas.Bool.Decides.{Decides-int_eq}
-use Rattle.std.proofs.lemmas.List.{append_assoc, length-append, length-map, map-append}
+use Rattle.std.proofs.lemmas.List.{append_assoc, length-append, map-append}
 use Rattle.std.proofs.lemmas.List.Elements.{filter-append}
 use Rattle.std.proofs.Math.Seq.{get_or-append_seam}
 use Rattle.hu_kind.specs.declared.item.Item.{Item}
 use Rattle.hu_kind.specs.Order.{Ascend}
 use Rattle.hu_kind.specs.Record.{items_in, IsRecord}
 use Rattle.hu_kind.proofs.lemmas.Members.{Member, Member-append_cases, Member-from_filter, Member-map, Member-from_map}
-use Rattle.hu_totals.specs.Weights.{numbers_of}
 use Rattle.hu_totals.proofs.lemmas.RecordCells.{Ascend-record}
 use Rattle.hu_totals.proofs.lemmas.RankingRules.{All-from_each}
 use Rattle.hu_closed.specs.declared.holders.Holder.{Holder}
 use Rattle.hu_closed.specs.Keys.{are_among, is_among}
-use Rattle.hu_closed.specs.Holders.{found_at, lists_of, pair_of, pairs_from, pairs_with, stands_at, AreLists, AreSets, AreWithin}
+use Rattle.hu_closed.specs.Holders.{found_at, lists_of, pair_of, pairs_from, pairs_with, stands_at, AreLists, ArePlaced, AreSets}
+use Rattle.hu_closed.specs.Found.{Finds}
 use Rattle.hu_closed.proofs.Numbers.{is_among-above}
 
 -- the holders in one record: one where the number is among its items, else none
@@ -95,16 +95,37 @@ within-members : (n : ℕ) (places : List Holder) → ((h : Holder) → Member h
 within-members n [] each = tt
 within-members n (h ∷ places) each = (each h (inl refl), within-members n places (λ g m. each g (inr m)))
 
-pub AreWithin-sets : (records : List (List (ℕ × ℤ))) (vs : List (Vec Item Global)) (holders places : List Holder)
+-- what a call has at hand of record sets
+pub AreSets-seen : (seen records : List (List (ℕ × ℤ))) (inside vs : List (Vec Item Global)) (kept holders : List Holder)
+    → AreSets seen inside kept → seen ≡ records → vs ≡ inside → holders ≡ kept → AreSets records vs holders
+AreSets-seen seen records inside vs kept holders are view v h =
+    subst (λ r. AreSets r vs holders) view (subst (λ v. AreSets seen v holders) (sym v) (subst (AreSets seen inside) (sym h) are))
+
+-- the holders of a number are placed, and at their places stand the records that hold it
+pub ArePlaced-sets : (records : List (List (ℕ × ℤ))) (vs : List (Vec Item Global)) (holders places : List Holder)
     (number : ℤ) → AreSets records vs holders → places ≡ filter (stands_at number) holders
-    → AreWithin (length vs) places
-AreWithin-sets records vs holders places number are of =
-    let many : length vs ≡ length (map items_in records) = sym (length-map vs (λ (v : Vec Item Global). numbers_of v.items)) ∙ ap length are.lists in
-    All-from_each (λ (h : Holder). h.place < length vs) places (within-members (length vs) places (λ h m.
-    let pairs = subst (Member (pair_of h)) (ap (map pair_of) of ∙ are.held number) (Member-map pair_of h places m) in
-    let from = Member-from_filter (λ (pair : ℕ × ℕ). int_eq number (pos pair.0)) (pair_of h) (pairs_from 0 (map items_in records)) pairs in
-    let below = pairs-below 0 (map items_in records) (pair_of h) from.0 in
-    omega (arith, many, below)))
+    → ArePlaced (lists_of vs) places
+ArePlaced-sets records vs holders places number are of =
+    let lists = lists_of vs in
+    record {
+      ascend = AreLists-sets records vs holders are;
+      within = All-from_each (λ (h : Holder). h.place < length lists) places (within-members (length lists) places (λ h m.
+          let pairs = subst (Member (pair_of h)) (ap (map pair_of) of ∙ are.held number) (Member-map pair_of h places m) in
+          let from = Member-from_filter (λ (pair : ℕ × ℕ). int_eq number (pos pair.0)) (pair_of h) (pairs_from 0 (map items_in records)) pairs in
+          let below = pairs-below 0 (map items_in records) (pair_of h) from.0 in
+          let many : length lists ≡ length (map items_in records) = ap length are.lists in
+          omega (arith, many, below)));
+    }
+
+pub Finds-sets : (records : List (List (ℕ × ℤ))) (vs : List (Vec Item Global)) (holders places : List Holder)
+    (key : List ℤ) → AreSets records vs holders
+    → (number : ℤ) × Contains key number × (places ≡ filter (stands_at number) holders)
+    → Finds records key (found_at (lists_of vs) places)
+Finds-sets records vs holders places key are rare = record {
+  number = rare.0;
+  part = rare.1;
+  is = found-sets records vs holders places rare.0 are rare.2;
+}
 
 -- a key that is among items has each of its numbers there
 pub among-part : (items : List ℕ) (key : List ℤ) (number : ℤ) → Member number key → is_among items number ≡ false → are_among items key ≡ false
