@@ -1,6 +1,7 @@
 pub mod lemmas
 mod Numbers
-mod Parts
+mod Rows
+mod Adding
 pub mod KeyLemmas
 mod Pairs
 mod Tries

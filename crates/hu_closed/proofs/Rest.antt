@@ -6,7 +6,6 @@ use Rattle.std.proofs.lemmas.Bool.{or_left}
 use Rattle.std.proofs.lemmas.List.{take-append-drop, length-drop, get_or-drop, get_or_default}
 use Rattle.std.proofs.lemmas.List.Folds.{list_all-append}
 use Rattle.hu_kind.specs.Order.{Ascend}
-use Rattle.hu_closed.specs.declared.holders.Holder.{Holder}
 use Rattle.hu_closed.specs.Keys.{are_among, is_among}
 use Rattle.hu_closed.specs.Holders.{found_at}
 use Rattle.hu_closed.specs.Found.{stands_in, IsHeld}
@@ -28,10 +27,10 @@ stands-drop found key i item none =
     ∙ ap (list_all test) (take-append-drop i found)
 
 -- what stands at places from one on
-pub found_at-drop : (lists : List (List ℕ)) (i : ℕ) (places : List Holder) → found_at lists (drop i places) ≡ drop i (found_at lists places)
+pub found_at-drop : (lists : List (List ℕ)) (i : ℕ) (places : List ℕ) → found_at lists (drop i places) ≡ drop i (found_at lists places)
 found_at-drop lists zero places = refl
 found_at-drop lists (suc i) [] = refl
-found_at-drop lists (suc i) (h ∷ places) = found_at-drop lists i places
+found_at-drop lists (suc i) (p ∷ places) = found_at-drop lists i places
 
 pub IsHeld-from : (found : List (List ℕ)) (key : List ℤ) (i : ℕ) (items : List ℕ) → i < length found
     → items ≡ get_or found i [] → Ascend items → are_among items key ≡ true

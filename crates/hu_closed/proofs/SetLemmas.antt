@@ -1,35 +1,33 @@
 -- Record sets answer what their records say of a key.
 use Rattle.std.specs.Bool.{◌==◌}
-use Rattle.std.proofs.Common.{◌≡◌, ◌∙◌, ℕ, zero, suc, ◌+◌, ℤ, pos, Bool, true, false, cond, not, ◌&&◌, ◌||◌, eqb}
+use Rattle.std.proofs.Common.{◌≡◌, ◌∙◌, ℕ, zero, suc, ℤ, pos, Bool, true, false, cond, not, ◌&&◌, ◌||◌, eqb}
 use Rattle.std.proofs.Common.{Option, None, Some, option_map, List, [], ◌∷◌, map, length, take, refl, sym, ap, subst}
-use Rattle.std.proofs.Common.{inl, inr, arith, filter, count_by, flat_map, Contains, nat_cmp}
+use Rattle.std.proofs.Common.{arith, count_by, flat_map, Contains, nat_cmp}
 use Rattle.std.specs.List.{list_all, list_any}
-use Rattle.std.specs.Ordering.{int_eq}
 use Rattle.std.specs.declared.vec.Vec.{Vec}
 use Rattle.std.specs.declared.alloc.Global.{Global}
 use Rattle.std.proofs.lemmas.Bool.{and_from, and_parts, eq-eqb, eqb-true, lt-ltb, ne_eqb, not_from_false, or_left, true≢false}
-use Rattle.std.proofs.lemmas.Bool.Decides.{Decides-int_eq, nat_tests}
+use Rattle.std.proofs.lemmas.Bool.Decides.{nat_tests}
 use Rattle.std.proofs.lemmas.List.{length-map}
 use Rattle.std.proofs.lemmas.List.Sums.{sum_by-cons}
 use Rattle.std.proofs.lemmas.List.Folds.{list_all-map}
 use Rattle.hu_kind.specs.declared.item.Item.{Item}
 use Rattle.hu_kind.specs.Record.{has, items_in}
 use Rattle.hu_kind.specs.Database.{items_of}
-use Rattle.hu_kind.proofs.lemmas.Members.{Member, Member-append_cases, Member-append_left, Member-append_right}
-use Rattle.hu_kind.proofs.lemmas.Members.{Member-filter, Member-from_contains, Member-from_filter, Member-from_flat_map}
+use Rattle.hu_kind.proofs.lemmas.Members.{Member}
+use Rattle.hu_kind.proofs.lemmas.Members.{Member-from_contains, Member-from_filter, Member-from_flat_map}
 use Rattle.hu_kind.proofs.lemmas.Members.{Member-from_map, Member-map}
 use Rattle.hu_kind.proofs.lemmas.Occurring.{has-member}
-use Rattle.hu_kind.proofs.lemmas.RecordLemmas.{list_any-map}
 use Rattle.hu_totals.specs.Weights.{numbers_of}
 use Rattle.hu_totals.proofs.lemmas.SortedLists.{Member-from_ranking}
 use Rattle.hu_totals.proofs.lemmas.DenseLemmas.{position-rank_in, rank_in}
-use Rattle.hu_closed.specs.declared.holders.Holder.{Holder}
+use Rattle.hu_closed.specs.declared.holders.Holders.{Holders}
 use Rattle.hu_closed.specs.Keys.{are_among, closes_below, holds_key, is_among, is_closed_key, is_outside, is_set_key, key_support}
-use Rattle.hu_closed.specs.Holders.{has_rank_below, is_below, pair_of, pairs_from, stands_at, AreSets}
+use Rattle.hu_closed.specs.Holders.{has_rank_below, is_below, AreSets}
 use Rattle.hu_closed.specs.Found.{closes_at, Finds, IsHeld}
 use Rattle.hu_closed.proofs.Places.{among-part}
 use Rattle.hu_closed.proofs.lemmas.Closedness.{any_closes-one, closes, closes-held, closes-unheld, has-among, is_closed_key-set, occurs}
-use Rattle.hu_closed.proofs.ListTests.{all-filter, all-same, any-from, any-member, any-members, any-same, count-filter, count-map, same_bool}
+use Rattle.hu_closed.proofs.ListTests.{all-filter, all-same, any-from, any-member, any-same, count-filter, count-map, same_bool}
 
 lacking : (records : List (List (ℕ × ℤ))) (key : List ℤ) (found : List (List ℕ)) (f : Finds records key found)
     → (items : List ℕ) → is_among items f.number ≡ false → are_among items key ≡ false
@@ -46,12 +44,12 @@ count-all : {X : Type 0} (xs : List X) → count_by (λ x. true) xs ≡ length x
 count-all [] = refl
 count-all (x ∷ xs) = omega (arith, sum_by-cons (λ y. cond true 1 0) x xs, count-all xs)
 
-support-all : (records : List (List (ℕ × ℤ))) (vs : List (Vec Item Global)) (holders : List Holder)
+support-all : (records : List (List (ℕ × ℤ))) (vs : List (Vec Item Global)) (holders : Holders)
     → AreSets records vs holders → length vs ≡ key_support records []
 support-all records vs holders are =
     sym (length-map vs (λ (v : Vec Item Global). numbers_of v.items)) ∙ ap length are.lists ∙ length-map records items_in ∙ sym (count-all records)
 
-pub support-empty : (records : List (List (ℕ × ℤ))) (vs : List (Vec Item Global)) (holders : List Holder) (key : List ℤ)
+pub support-empty : (records : List (List (ℕ × ℤ))) (vs : List (Vec Item Global)) (holders : Holders) (key : List ℤ)
     → AreSets records vs holders → true ≡ (length key == 0) → length vs ≡ key_support records key
 support-empty records vs holders [] are none = support-all records vs holders are
 support-empty records vs holders (n ∷ ns) are none = let many : eqb (suc (length ns)) 0 ≡ false =
@@ -109,71 +107,31 @@ unheld records key found f none =
     ∙ sym (ap (list_all test) f.is)
     ∙ none
 
--- ---- holders have the items that occur
+-- ---- where no record holds a key
 
-pairs-items : (place : ℕ) (lists : List (List ℕ)) (pair : ℕ × ℕ) → Member pair (pairs_from place lists)
-    → (items : List ℕ) × Member items lists × Member pair.0 items
-pairs-items place [] pair m = absurd m
-pairs-items place (items ∷ lists) pair m = elim (Member-append_cases pair (map (λ i. (i, place)) items) (pairs_from (place + 1) lists) m) [
-  | inl a ↦ let from =
-      Member-from_map (λ (i : ℕ). (i, place)) pair items a in
-      (items, inl refl, subst (λ i. Member i items) (ap (λ (p : ℕ × ℕ). p.0) from.2) from.1)
-  | inr b ↦ let rest = pairs-items (place + 1) lists pair b in (rest.0, inr rest.1, rest.2)
-]
+-- the items of the records are those that occur
+any-items : (p : ℕ → Bool) (records : List (List (ℕ × ℤ))) → list_any (list_any p) (map items_in records) ≡ list_any p (items_of records)
+any-items p records = same_bool (list_any (list_any p) (map items_in records)) (list_any p (items_of records))
+    (λ h.
+    let items = any-member (list_any p) (map items_in records) h in
+    let one = any-member p items.0 items.2 in
+    let r = Member-from_map items_in items.0 records items.1 in
+    any-from p one.0 (items_of records) (occurs records r.0 one.0 r.1 (subst (Member one.0) (sym r.2) one.1)) one.2)
+    (λ h.
+    let one = any-member p (items_of records) h in
+    let r = Member-from_flat_map items_in one.0 records (Member-from_ranking nat_cmp one.0 (flat_map items_in records) one.1) in
+    any-from (list_any p) (items_in r.0) (map items_in records) (Member-map items_in r.0 records r.1) (any-from p one.0 (items_in r.0) r.2 one.2))
 
-items-pairs : (place : ℕ) (lists : List (List ℕ)) (items : List ℕ) (item : ℕ) → Member items lists → Member item items
-    → (at : ℕ) × Member (item, at) (pairs_from place lists)
-items-pairs place [] items item m n = absurd m
-items-pairs place (is ∷ lists) items item (inl e) n = (
-  place,
-  Member-append_left (item, place) (map (λ i. (i, place)) is) (pairs_from (place + 1) lists)
-      (Member-map (λ i. (i, place)) item is (subst (Member item) (sym e) n)),
-)
-items-pairs place (is ∷ lists) items item (inr m) n =
-    let rest = items-pairs (place + 1) lists items item m n in
-    (rest.0, Member-append_right (item, rest.0) (map (λ i. (i, place)) is) (pairs_from (place + 1) lists) rest.1)
-
-holder-occurs : (records : List (List (ℕ × ℤ))) (vs : List (Vec Item Global)) (holders : List Holder)
-    → AreSets records vs holders → (h : Holder) → Member h holders → Member h.item.0 (items_of records)
-holder-occurs records vs holders are h m =
-    let number = pos h.item.0 in
-    let here = Member-filter (stands_at number) h holders m ((Decides-int_eq number number).1 refl) in
-    let pair = subst (Member (pair_of h)) (are.held number) (Member-map pair_of h (filter (stands_at number) holders) here) in
-    let from =
-    pairs-items 0 (map items_in records) (pair_of h) (Member-from_filter
-    (λ (pair : ℕ × ℕ). int_eq number (pos pair.0)) (pair_of h) (pairs_from 0 (map items_in records)) pair).0 in
-    let r = Member-from_map items_in from.0 records from.1 in
-    occurs records r.0 h.item.0 r.1 (subst (Member h.item.0) (sym r.2) from.2)
-
-occurs-holder : (records : List (List (ℕ × ℤ))) (vs : List (Vec Item Global)) (holders : List Holder)
-    → AreSets records vs holders → (item : ℕ) → Member item (flat_map items_in records)
-    → (h : Holder) × Member h holders × (h.item.0 ≡ item)
-occurs-holder records vs holders are item m =
-    let number = pos item in
-    let r = Member-from_flat_map items_in item records m in
-    let pair = items-pairs 0 (map items_in records) (items_in r.0) item (Member-map items_in r.0 records r.1) r.2 in
-    let with_number =
-    Member-filter (λ (pair : ℕ × ℕ). int_eq number (pos pair.0)) (item, pair.0)
-    (pairs_from 0 (map items_in records)) pair.1 ((Decides-int_eq number number).1 refl) in
-    let h = Member-from_map pair_of (item, pair.0) (filter (stands_at number) holders) (subst (Member (item, pair.0)) (sym (are.held number)) with_number) in
-    (h.0, (Member-from_filter (stands_at number) h.0 holders h.1).0, ap (λ (p : ℕ × ℕ). p.0) h.2)
-
--- where no record holds a key, an item outside it closes it
-pub closed-none : (records : List (List (ℕ × ℤ))) (vs : List (Vec Item Global)) (holders : List Holder) (key : List ℤ)
-    (found : List (List ℕ)) → AreSets records vs holders → Finds records key found → is_set_key key ≡ true
+-- an item outside it closes it
+pub closed-none : (records : List (List (ℕ × ℤ))) (lists : List (List ℕ)) (key : List ℤ) (found : List (List ℕ))
+    → lists ≡ map items_in records → Finds records key found → is_set_key key ≡ true
     → list_all (λ items. not (are_among items key)) found ≡ true
-    → not (list_any (λ (h : Holder). is_outside key h.item.0) holders) ≡ is_closed_key records key
-closed-none records vs holders key found are f set none =
+    → not (list_any (list_any (is_outside key)) lists) ≡ is_closed_key records key
+closed-none records lists key found of f set none =
     let free = unheld records key found f none in
-    let number_of : Holder → ℕ = λ h. h.item.0 in
     ap not (
-    sym (list_any-map (is_outside key) number_of holders)
-    ∙ any-members (is_outside key) (map number_of holders) (items_of records)
-    (λ item h m. let from = Member-from_map number_of item holders m in subst (λ i. Member i (items_of records)) from.2
-    (holder-occurs records vs holders are from.0 from.1))
-    (λ item h m.
-    let of = occurs-holder records vs holders are item (Member-from_ranking nat_cmp item (flat_map items_in records) m) in
-    subst (λ i. Member i (map number_of holders)) of.2 (Member-map number_of of.0 holders of.1))
+    ap (list_any (list_any (is_outside key))) of
+    ∙ any-items (is_outside key) records
     ∙ any-same (is_outside key) (closes records key) (λ item. sym (closes-unheld records key item free)) (items_of records)
     )
     ∙ sym (is_closed_key-set records key set)

@@ -5,11 +5,10 @@ ghost use Rattle.std.specs.List.{list_any};
 ghost use Rattle.hu_kind.specs.Order.{Ascend};
 ghost use Rattle.hu_totals.specs.Weights.{numbers_of};
 ghost use Rattle.hu_closed.specs.Keys.{is_among, is_outside, is_set_key};
-ghost use Rattle.hu_closed.specs.Holders.{has_rank_below};
+ghost use Rattle.hu_closed.specs.Holders.{has_rank_below, lists_of};
 ghost use Rattle.hu_closed.specs.Found.{closes_at, IsHolding};
 
 use crate::found::Found;
-use crate::holders::Holder;
 use crate::keys::{is_among, is_outside};
 use hu_kind::Item;
 use hu_totals::Ranked;
@@ -119,13 +118,26 @@ fn is_settled(key: &[i64], item: Item, items: &[Item]) -> bool
     !is_outside(key, item) || !is_among(items, i64::from(item.0))
 }
 
-/// Whether some holder's item is outside a key.
-pub(crate) fn any_outside(holders: &[Holder], key: &[i64]) -> bool
+/// Whether an item of some record is outside a key.
+pub(crate) fn any_outside(lists: &[Vec<Item>], key: &[i64]) -> bool
     requires { is_set_key key.now ≡ true }
-    ensures { result ≡ list_any (λ holder. is_outside key.now holder.item.0) holders.now }
+    ensures { result ≡ list_any (list_any (is_outside key.now)) (lists_of lists.now) }
 {
-    for holder in holders {
-        if is_outside(key, holder.item) {
+    for items in lists {
+        if has_outside(items, key) {
+            return true;
+        }
+    }
+    false
+}
+
+/// Whether one of these items is outside a key.
+fn has_outside(items: &[Item], key: &[i64]) -> bool
+    requires { is_set_key key.now ≡ true }
+    ensures { result ≡ list_any (is_outside key.now) (numbers_of items.now) }
+{
+    for item in items {
+        if is_outside(key, *item) {
             return true;
         }
     }

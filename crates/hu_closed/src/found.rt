@@ -8,7 +8,6 @@ ghost use Rattle.hu_closed.specs.Keys.{are_among, is_among};
 ghost use Rattle.hu_closed.specs.Holders.{found_at, lists_of, ArePlaced};
 ghost use Rattle.hu_closed.specs.Found.{stands_in, IsHeld, IsHolding};
 
-use crate::holders::Holder;
 use crate::keys::{are_among, is_among};
 use hu_kind::Item;
 use std::marker::Model;
@@ -17,7 +16,7 @@ use std::marker::Model;
 #[derive(Drop)]
 pub(crate) struct Found<'a> {
     lists: &'a [Vec<Item>],
-    places: &'a [Holder],
+    places: &'a [usize],
 }
 
 /// Records from the first that holds a key on, and the items of that one.
@@ -40,7 +39,7 @@ impl<'a> Model for Found<'a> {
 
 impl<'a> Found<'a> {
     /// The records at these places.
-    pub(crate) fn at_places(lists: &'a [Vec<Item>], places: &'a [Holder]) -> Found<'a>
+    pub(crate) fn at_places(lists: &'a [Vec<Item>], places: &'a [usize]) -> Found<'a>
         requires { ArePlaced (lists_of lists.now) places.now }
         ensures { result ≡ found_at (lists_of lists.now) places.now }
     {
@@ -104,7 +103,7 @@ impl<'a> Found<'a> {
         ensures ascending { Ascend (numbers_of result.now) }
     {
         let places = self.places;
-        self.lists[places[index].place].as_slice()
+        self.lists[places[index]].as_slice()
     }
 
     /// The records from one on.

@@ -16,7 +16,7 @@ ghost use Rattle.hu_closed.specs.ClosedOnly.{IsRankingOf};
 
 use crate::candidates::{any_closes, any_closes_below, any_outside, any_outside_below};
 use crate::found::Found;
-use crate::holders::{Holder, all_holders, rarest};
+use crate::holders::{Holders, all_holders, rarest};
 use crate::keys::is_set_key;
 use hu_base::Base;
 use hu_kind::{Cell, Item, Key, NoMemory, Record};
@@ -30,7 +30,7 @@ use std::snapshot::Snapshot;
 #[derive(Drop)]
 pub struct RecordSets {
     lists: Vec<Vec<Item>>,
-    holders: Vec<Holder>,
+    holders: Holders,
     seen: Snapshot<Base<Record>>,
 }
 
@@ -43,11 +43,11 @@ impl Model for RecordSets {
 
     ghost view = { λ s. records_of s.seen.value };
 
-    ghost invariant = { λ s. AreSets (records_of s.seen.value) s.lists.items s.holders.items };
+    ghost invariant = { λ s. AreSets (records_of s.seen.value) s.lists.items s.holders };
 }
 
 impl RecordSets {
-    /// The sets of a base's records. It takes a copy of the items of each cell, and one sort of these.
+    /// The sets of a base's records. It takes a copy of the items of each cell, and a look-up in a hash table for each.
     pub fn of(alloc: Global, base: &Base<Record>) -> Result<RecordSets, NoMemory>
         ensures { IfOk result (λ sets. sets ≡ records_of base.now) }
     {
@@ -124,7 +124,7 @@ impl RecordSets {
         }
         match self.found(numbers).held(numbers) {
             Some(held) => !any_closes(&held.rest, numbers, held.items),
-            None => !any_outside(&self.holders, numbers),
+            None => !any_outside(&self.lists, numbers),
         }
     }
 
