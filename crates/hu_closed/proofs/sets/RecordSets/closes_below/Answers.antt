@@ -15,11 +15,13 @@ found-requires c =
 
 pub any_closes_below-requires-clause-key : goal.any_closes_below-requires-clause-key
 any_closes_below-requires-clause-key c =
-    ap is_set_key c.numbers-numbers.ensures ∙ set_key-open c.args.self.now c.args.ranked.now c.args.key.now c.args.last c.tell_rules.ensures c.requires.base c.requires.key
+    ap is_set_key c.numbers-numbers.ensures ∙ set_key-open c.args.self.now c.args.ranked.now c.args.key.now c.args.last
+    c.tell_rules.ensures c.requires.base c.requires.key
 
 pub any_outside_below-requires-clause-key : goal.any_outside_below-requires-clause-key
 any_outside_below-requires-clause-key c =
-    ap is_set_key c.numbers-numbers.ensures ∙ set_key-open c.args.self.now c.args.ranked.now c.args.key.now c.args.last c.tell_rules.ensures c.requires.base c.requires.key
+    ap is_set_key c.numbers-numbers.ensures ∙ set_key-open c.args.self.now c.args.ranked.now c.args.key.now c.args.last
+    c.tell_rules.ensures c.requires.base c.requires.key
 
 pub any_outside_below-requires-clause-last : goal.any_outside_below-requires-clause-last
 any_outside_below-requires-clause-last c =
@@ -43,8 +45,10 @@ returns-in-None-clause-value c =
 
 pub returns-in-Some-clause-shuts : goal.returns-in-Some-clause-shuts
 returns-in-Some-clause-shuts c closes grown g =
-    shuts c.args.self.now c.args.ranked.now c.args.key.now c.args.last c.tell_rules.ensures c.requires.base (sym (returns-in-Some-clause-value c) ∙ closes) grown g
+    shuts c.args.self.now c.args.ranked.now c.args.key.now c.args.last c.tell_rules.ensures c.requires.base
+    (sym (returns-in-Some-clause-value c) ∙ closes) grown g
 
 pub returns-in-None-clause-shuts : goal.returns-in-None-clause-shuts
 returns-in-None-clause-shuts c closes grown g =
-    shuts c.args.self.now c.args.ranked.now c.args.key.now c.args.last c.tell_rules.ensures c.requires.base (sym (returns-in-None-clause-value c) ∙ closes) grown g
+    shuts c.args.self.now c.args.ranked.now c.args.key.now c.args.last c.tell_rules.ensures c.requires.base
+    (sym (returns-in-None-clause-value c) ∙ closes) grown g
