@@ -1,10 +1,12 @@
 pub mod lemmas
 mod Numbers
-mod Parts
+mod Rows
+mod Adding
 pub mod KeyLemmas
 mod Pairs
 mod Tries
 mod ListTests
-mod Found
+mod Places
+mod Rest
 mod SetLemmas
 mod PartLemmas

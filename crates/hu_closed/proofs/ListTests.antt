@@ -38,6 +38,9 @@ pub all-from : {X : Type 0} (p : X → Bool) (xs : List X) → ((x : X) → Memb
 all-from p [] each = refl
 all-from p (x ∷ xs) each = and_from (p x) (list_all p xs) (each x (inl refl)) (all-from p xs (λ y m. each y (inr m)))
 
+pub all-kept : {X : Type 0} (p q : X → Bool) → ((x : X) → p x ≡ true → q x ≡ true) → (xs : List X) → list_all p xs ≡ true → list_all q xs ≡ true
+all-kept p q kept xs all = all-from q xs (λ x m. kept x (all-at p x xs all m))
+
 pub any-from : {X : Type 0} (p : X → Bool) (x : X) (xs : List X) → Member x xs → p x ≡ true → list_any p xs ≡ true
 any-from p x [] m h = absurd m
 any-from p x (y ∷ ys) (inl e) h = or_left (p y) (list_any p ys) (ap p e ∙ h)

@@ -1,190 +1,137 @@
 -- Record sets answer what their records say of a key.
 use Rattle.std.specs.Bool.{◌==◌}
-use Rattle.std.proofs.Common.{◌≡◌, ◌∙◌, ℕ, zero, suc, ◌+◌, ℤ, pos, Bool, true, false, cond, not, ◌&&◌, ◌||◌, eqb}
+use Rattle.std.proofs.Common.{◌≡◌, ◌∙◌, ℕ, zero, suc, ℤ, pos, Bool, true, false, cond, not, ◌&&◌, ◌||◌, eqb}
 use Rattle.std.proofs.Common.{Option, None, Some, option_map, List, [], ◌∷◌, map, length, take, refl, sym, ap, subst}
-use Rattle.std.proofs.Common.{inl, inr, arith, filter, count_by, flat_map, Contains, nat_cmp}
+use Rattle.std.proofs.Common.{arith, count_by, flat_map, Contains, nat_cmp}
 use Rattle.std.specs.List.{list_all, list_any}
-use Rattle.std.specs.Ordering.{int_eq}
 use Rattle.std.specs.declared.vec.Vec.{Vec}
 use Rattle.std.specs.declared.alloc.Global.{Global}
 use Rattle.std.proofs.lemmas.Bool.{and_from, and_parts, eq-eqb, eqb-true, lt-ltb, ne_eqb, not_from_false, or_left, true≢false}
-use Rattle.std.proofs.lemmas.Bool.Decides.{Decides-int_eq, nat_tests}
+use Rattle.std.proofs.lemmas.Bool.Decides.{nat_tests}
 use Rattle.std.proofs.lemmas.List.{length-map}
 use Rattle.std.proofs.lemmas.List.Sums.{sum_by-cons}
 use Rattle.std.proofs.lemmas.List.Folds.{list_all-map}
 use Rattle.hu_kind.specs.declared.item.Item.{Item}
 use Rattle.hu_kind.specs.Record.{has, items_in}
 use Rattle.hu_kind.specs.Database.{items_of}
-use Rattle.hu_kind.proofs.lemmas.Members.{Member, Member-append_cases, Member-append_left, Member-append_right}
-use Rattle.hu_kind.proofs.lemmas.Members.{Member-filter, Member-from_contains, Member-from_filter, Member-from_flat_map}
+use Rattle.hu_kind.proofs.lemmas.Members.{Member}
+use Rattle.hu_kind.proofs.lemmas.Members.{Member-from_contains, Member-from_filter, Member-from_flat_map}
 use Rattle.hu_kind.proofs.lemmas.Members.{Member-from_map, Member-map}
 use Rattle.hu_kind.proofs.lemmas.Occurring.{has-member}
-use Rattle.hu_kind.proofs.lemmas.RecordLemmas.{list_any-map}
 use Rattle.hu_totals.specs.Weights.{numbers_of}
 use Rattle.hu_totals.proofs.lemmas.SortedLists.{Member-from_ranking}
 use Rattle.hu_totals.proofs.lemmas.DenseLemmas.{position-rank_in, rank_in}
-use Rattle.hu_closed.specs.declared.holders.Holder.{Holder}
+use Rattle.hu_closed.specs.declared.holders.Holders.{Holders}
 use Rattle.hu_closed.specs.Keys.{are_among, closes_below, holds_key, is_among, is_closed_key, is_outside, is_set_key, key_support}
-use Rattle.hu_closed.specs.Holders.{closes_at, found_at, has_rank_below, is_below, lists_of, pair_of, pairs_from, stands_at, AreLists, AreSets, AreWithin}
-use Rattle.hu_closed.proofs.Found.{among-part, found-sets, AreLists-sets, AreWithin-sets}
+use Rattle.hu_closed.specs.Holders.{has_rank_below, is_below, AreSets}
+use Rattle.hu_closed.specs.Found.{closes_at, Finds, IsHeld}
+use Rattle.hu_closed.proofs.Places.{among-part}
 use Rattle.hu_closed.proofs.lemmas.Closedness.{any_closes-one, closes, closes-held, closes-unheld, has-among, is_closed_key-set, occurs}
-use Rattle.hu_closed.proofs.ListTests.{all-filter, all-same, any-from, any-member, any-members, any-same, count-filter, count-map, same_bool}
+use Rattle.hu_closed.proofs.ListTests.{all-filter, all-same, any-from, any-member, any-same, count-filter, count-map, same_bool}
 
--- a number of a key with its holders
-pub record Finds (records : List (List (ℕ × ℤ))) (vs : List (Vec Item Global)) (holders : List Holder) (key : List ℤ) (places : List Holder) : Type 0 where
-  pub are : AreSets records vs holders
-  pub number : ℤ
-  pub part : Contains key number
-  pub of : places ≡ filter (stands_at number) holders
-
-found : (records : List (List (ℕ × ℤ))) (vs : List (Vec Item Global)) (holders : List Holder) (key : List ℤ)
-    (places : List Holder) (f : Finds records vs holders key places)
-    → found_at (lists_of vs) places ≡ filter (λ items. is_among items f.number) (map items_in records)
-found records vs holders key places f = found-sets records vs holders places f.number f.are f.of
-
-lacking : (records : List (List (ℕ × ℤ))) (vs : List (Vec Item Global)) (holders : List Holder) (key : List ℤ)
-    (places : List Holder) (f : Finds records vs holders key places)
+lacking : (records : List (List (ℕ × ℤ))) (key : List ℤ) (found : List (List ℕ)) (f : Finds records key found)
     → (items : List ℕ) → is_among items f.number ≡ false → are_among items key ≡ false
-lacking records vs holders key places f items out = among-part items key f.number (Member-from_contains f.number key f.part) out
+lacking records key found f items out = among-part items key f.number (Member-from_contains f.number key f.part) out
 
-pub support-found : (records : List (List (ℕ × ℤ))) (vs : List (Vec Item Global)) (holders : List Holder) (key : List ℤ)
-    (places : List Holder) → Finds records vs holders key places
-    → count_by (λ items. are_among items key) (found_at (lists_of vs) places) ≡ key_support records key
-support-found records vs holders key places f =
-    ap (count_by (λ items. are_among items key)) (found records vs holders key places f)
-    ∙ count-filter (λ items. are_among items key) (λ items. is_among items f.number) (lacking records vs holders key places f) (map items_in records)
+pub support-found : (records : List (List (ℕ × ℤ))) (key : List ℤ) (found : List (List ℕ)) → Finds records key found
+    → count_by (λ items. are_among items key) found ≡ key_support records key
+support-found records key found f =
+    ap (count_by (λ items. are_among items key)) f.is
+    ∙ count-filter (λ items. are_among items key) (λ items. is_among items f.number) (lacking records key found f) (map items_in records)
     ∙ count-map (λ items. are_among items key) items_in records
 
 count-all : {X : Type 0} (xs : List X) → count_by (λ x. true) xs ≡ length xs
 count-all [] = refl
 count-all (x ∷ xs) = omega (arith, sum_by-cons (λ y. cond true 1 0) x xs, count-all xs)
 
-support-all : (records : List (List (ℕ × ℤ))) (vs : List (Vec Item Global)) (holders : List Holder)
+support-all : (records : List (List (ℕ × ℤ))) (vs : List (Vec Item Global)) (holders : Holders)
     → AreSets records vs holders → length vs ≡ key_support records []
 support-all records vs holders are =
     sym (length-map vs (λ (v : Vec Item Global). numbers_of v.items)) ∙ ap length are.lists ∙ length-map records items_in ∙ sym (count-all records)
 
-pub support-empty : (records : List (List (ℕ × ℤ))) (vs : List (Vec Item Global)) (holders : List Holder) (key : List ℤ)
+pub support-empty : (records : List (List (ℕ × ℤ))) (vs : List (Vec Item Global)) (holders : Holders) (key : List ℤ)
     → AreSets records vs holders → true ≡ (length key == 0) → length vs ≡ key_support records key
 support-empty records vs holders [] are none = support-all records vs holders are
 support-empty records vs holders (n ∷ ns) are none = let many : eqb (suc (length ns)) 0 ≡ false =
     ne_eqb (suc (length ns)) 0 (λ e. absurd (omega arith)) in absurd (true≢false (none ∙ many))
 
--- what closes the key at these places closes it
-pub closes-found : (records : List (List (ℕ × ℤ))) (vs : List (Vec Item Global)) (holders : List Holder) (key : List ℤ)
-    (places : List Holder) → Finds records vs holders key places
-    → (item : ℕ) → closes_at (found_at (lists_of vs) places) key item ≡ closes records key item
-closes-found records vs holders key places f item =
+-- what closes the key in the records found closes it
+pub closes-found : (records : List (List (ℕ × ℤ))) (key : List ℤ) (found : List (List ℕ)) → Finds records key found
+    → (item : ℕ) → closes_at found key item ≡ closes records key item
+closes-found records key found f item =
     let test : List ℕ → Bool = λ items. not (are_among items key) || is_among items (pos item) in
     ap (λ b. is_outside key item && b) (
-    ap (list_all test) (found records vs holders key places f)
+    ap (list_all test) f.is
     ∙ all-filter test (λ items. is_among items f.number) (λ items out. or_left (not (are_among items key))
     (is_among items (pos item)) (not_from_false (are_among items key)
-    (lacking records vs holders key places f items out))) (map items_in records)
+    (lacking records key found f items out))) (map items_in records)
     ∙ list_all-map test items_in records
     ∙ all-same (λ r. test (items_in r)) (λ r. not (holds_key key r) || has item r) (λ r. ap (λ b. not (holds_key key r) || b) (has-among item r)) records
     )
 
--- a place that holds the key is that of a record
-record_of : (records : List (List (ℕ × ℤ))) (vs : List (Vec Item Global)) (holders : List Holder) (key : List ℤ)
-    (places : List Holder) → Finds records vs holders key places
-    → (items : List ℕ) → Contains (found_at (lists_of vs) places) items → (r : List (ℕ × ℤ)) × Member r records × (items_in r ≡ items)
-record_of records vs holders key places f items c =
-    let m = subst (Member items) (found records vs holders key places f) (Member-from_contains items (found_at (lists_of vs) places) c) in
+-- as it does in those of them from the first that holds the key on
+closes-held_from : (records : List (List (ℕ × ℤ))) (key : List ℤ) (found rest : List (List ℕ)) (items : List ℕ)
+    → Finds records key found → IsHeld found key rest items → (item : ℕ) → closes_at rest key item ≡ closes records key item
+closes-held_from records key found rest items f h item =
+    ap (λ b. is_outside key item && b) (h.stands item) ∙ closes-found records key found f item
+
+-- a record found is one of the records
+record_of : (records : List (List (ℕ × ℤ))) (key : List ℤ) (found : List (List ℕ)) → Finds records key found
+    → (items : List ℕ) → Contains found items → (r : List (ℕ × ℤ)) × Member r records × (items_in r ≡ items)
+record_of records key found f items c =
+    let m = subst (Member items) f.is (Member-from_contains items found c) in
     Member-from_map items_in items records (Member-from_filter (λ items. is_among items f.number) items (map items_in records) m).0
 
-pub closed-some : (records : List (List (ℕ × ℤ))) (vs : List (Vec Item Global)) (holders : List Holder) (key : List ℤ)
-    (places : List Holder) → Finds records vs holders key places → is_set_key key ≡ true
-    → (items : List ℕ) → Contains (found_at (lists_of vs) places) items → are_among items key ≡ true
-    → not (list_any (closes_at (found_at (lists_of vs) places) key) items) ≡ is_closed_key records key
-closed-some records vs holders key places f set items c holds =
-    let r = record_of records vs holders key places f items c in
-    let holds' : holds_key key r.0 ≡ true = ap (λ is. are_among is key) r.2 ∙ holds in
+pub closed-some : (records : List (List (ℕ × ℤ))) (key : List ℤ) (found rest : List (List ℕ)) (items : List ℕ)
+    → Finds records key found → IsHeld found key rest items → is_set_key key ≡ true
+    → not (list_any (closes_at rest key) items) ≡ is_closed_key records key
+closed-some records key found rest items f h set =
+    let r = record_of records key found f items h.part in
+    let holds : holds_key key r.0 ≡ true = ap (λ is. are_among is key) r.2 ∙ h.holding.whole in
     ap not (
-    any-same (closes_at (found_at (lists_of vs) places) key) (closes records key) (closes-found records vs holders key places f) items
+    any-same (closes_at rest key) (closes records key) (closes-held_from records key found rest items f h) items
     ∙ ap (list_any (closes records key)) (sym r.2)
-    ∙ any_closes-one records key r.0 r.1 holds'
+    ∙ any_closes-one records key r.0 r.1 holds
     )
     ∙ sym (is_closed_key-set records key set)
 
--- no record holds the key where none of these places does
-pub unheld : (records : List (List (ℕ × ℤ))) (vs : List (Vec Item Global)) (holders : List Holder) (key : List ℤ)
-    (places : List Holder) → Finds records vs holders key places
-    → list_all (λ items. not (are_among items key)) (found_at (lists_of vs) places) ≡ true → list_all (λ r. not (holds_key key r)) records ≡ true
-unheld records vs holders key places f none =
+-- no record holds the key where none of those found does
+pub unheld : (records : List (List (ℕ × ℤ))) (key : List ℤ) (found : List (List ℕ)) → Finds records key found
+    → list_all (λ items. not (are_among items key)) found ≡ true → list_all (λ r. not (holds_key key r)) records ≡ true
+unheld records key found f none =
     let test : List ℕ → Bool = λ items. not (are_among items key) in
     sym (list_all-map test items_in records)
     ∙ sym (all-filter test (λ items. is_among items f.number)
-    (λ items out. not_from_false (are_among items key) (lacking records vs holders key places f items out))
+    (λ items out. not_from_false (are_among items key) (lacking records key found f items out))
     (map items_in records))
-    ∙ sym (ap (list_all test) (found records vs holders key places f))
+    ∙ sym (ap (list_all test) f.is)
     ∙ none
 
--- ---- holders have the items that occur
+-- ---- where no record holds a key
 
-pairs-items : (place : ℕ) (lists : List (List ℕ)) (pair : ℕ × ℕ) → Member pair (pairs_from place lists)
-    → (items : List ℕ) × Member items lists × Member pair.0 items
-pairs-items place [] pair m = absurd m
-pairs-items place (items ∷ lists) pair m = elim (Member-append_cases pair (map (λ i. (i, place)) items) (pairs_from (place + 1) lists) m) [
-  | inl a ↦ let from =
-      Member-from_map (λ (i : ℕ). (i, place)) pair items a in
-      (items, inl refl, subst (λ i. Member i items) (ap (λ (p : ℕ × ℕ). p.0) from.2) from.1)
-  | inr b ↦ let rest = pairs-items (place + 1) lists pair b in (rest.0, inr rest.1, rest.2)
-]
+-- the items of the records are those that occur
+any-items : (p : ℕ → Bool) (records : List (List (ℕ × ℤ))) → list_any (list_any p) (map items_in records) ≡ list_any p (items_of records)
+any-items p records = same_bool (list_any (list_any p) (map items_in records)) (list_any p (items_of records))
+    (λ h.
+    let items = any-member (list_any p) (map items_in records) h in
+    let one = any-member p items.0 items.2 in
+    let r = Member-from_map items_in items.0 records items.1 in
+    any-from p one.0 (items_of records) (occurs records r.0 one.0 r.1 (subst (Member one.0) (sym r.2) one.1)) one.2)
+    (λ h.
+    let one = any-member p (items_of records) h in
+    let r = Member-from_flat_map items_in one.0 records (Member-from_ranking nat_cmp one.0 (flat_map items_in records) one.1) in
+    any-from (list_any p) (items_in r.0) (map items_in records) (Member-map items_in r.0 records r.1) (any-from p one.0 (items_in r.0) r.2 one.2))
 
-items-pairs : (place : ℕ) (lists : List (List ℕ)) (items : List ℕ) (item : ℕ) → Member items lists → Member item items
-    → (at : ℕ) × Member (item, at) (pairs_from place lists)
-items-pairs place [] items item m n = absurd m
-items-pairs place (is ∷ lists) items item (inl e) n = (
-  place,
-  Member-append_left (item, place) (map (λ i. (i, place)) is) (pairs_from (place + 1) lists)
-      (Member-map (λ i. (i, place)) item is (subst (Member item) (sym e) n)),
-)
-items-pairs place (is ∷ lists) items item (inr m) n =
-    let rest = items-pairs (place + 1) lists items item m n in
-    (rest.0, Member-append_right (item, rest.0) (map (λ i. (i, place)) is) (pairs_from (place + 1) lists) rest.1)
-
-holder-occurs : (records : List (List (ℕ × ℤ))) (vs : List (Vec Item Global)) (holders : List Holder)
-    → AreSets records vs holders → (h : Holder) → Member h holders → Member h.item.0 (items_of records)
-holder-occurs records vs holders are h m =
-    let number = pos h.item.0 in
-    let here = Member-filter (stands_at number) h holders m ((Decides-int_eq number number).1 refl) in
-    let pair = subst (Member (pair_of h)) (are.held number) (Member-map pair_of h (filter (stands_at number) holders) here) in
-    let from =
-    pairs-items 0 (map items_in records) (pair_of h) (Member-from_filter
-    (λ (pair : ℕ × ℕ). int_eq number (pos pair.0)) (pair_of h) (pairs_from 0 (map items_in records)) pair).0 in
-    let r = Member-from_map items_in from.0 records from.1 in
-    occurs records r.0 h.item.0 r.1 (subst (Member h.item.0) (sym r.2) from.2)
-
-occurs-holder : (records : List (List (ℕ × ℤ))) (vs : List (Vec Item Global)) (holders : List Holder)
-    → AreSets records vs holders → (item : ℕ) → Member item (flat_map items_in records)
-    → (h : Holder) × Member h holders × (h.item.0 ≡ item)
-occurs-holder records vs holders are item m =
-    let number = pos item in
-    let r = Member-from_flat_map items_in item records m in
-    let pair = items-pairs 0 (map items_in records) (items_in r.0) item (Member-map items_in r.0 records r.1) r.2 in
-    let with_number =
-    Member-filter (λ (pair : ℕ × ℕ). int_eq number (pos pair.0)) (item, pair.0)
-    (pairs_from 0 (map items_in records)) pair.1 ((Decides-int_eq number number).1 refl) in
-    let h = Member-from_map pair_of (item, pair.0) (filter (stands_at number) holders) (subst (Member (item, pair.0)) (sym (are.held number)) with_number) in
-    (h.0, (Member-from_filter (stands_at number) h.0 holders h.1).0, ap (λ (p : ℕ × ℕ). p.0) h.2)
-
--- where no record holds a key, an item outside it closes it
-pub closed-none : (records : List (List (ℕ × ℤ))) (vs : List (Vec Item Global)) (holders : List Holder) (key : List ℤ)
-    (places : List Holder) → Finds records vs holders key places → is_set_key key ≡ true
-    → list_all (λ items. not (are_among items key)) (found_at (lists_of vs) places) ≡ true
-    → not (list_any (λ (h : Holder). is_outside key h.item.0) holders) ≡ is_closed_key records key
-closed-none records vs holders key places f set none =
-    let free = unheld records vs holders key places f none in
-    let number_of : Holder → ℕ = λ h. h.item.0 in
+-- an item outside it closes it
+pub closed-none : (records : List (List (ℕ × ℤ))) (lists : List (List ℕ)) (key : List ℤ) (found : List (List ℕ))
+    → lists ≡ map items_in records → Finds records key found → is_set_key key ≡ true
+    → list_all (λ items. not (are_among items key)) found ≡ true
+    → not (list_any (list_any (is_outside key)) lists) ≡ is_closed_key records key
+closed-none records lists key found of f set none =
+    let free = unheld records key found f none in
     ap not (
-    sym (list_any-map (is_outside key) number_of holders)
-    ∙ any-members (is_outside key) (map number_of holders) (items_of records)
-    (λ item h m. let from = Member-from_map number_of item holders m in subst (λ i. Member i (items_of records)) from.2
-    (holder-occurs records vs holders f.are from.0 from.1))
-    (λ item h m.
-    let of = occurs-holder records vs holders f.are item (Member-from_ranking nat_cmp item (flat_map items_in records) m) in
-    subst (λ i. Member i (map number_of holders)) of.2 (Member-map number_of of.0 holders of.1))
+    ap (list_any (list_any (is_outside key))) of
+    ∙ any-items (is_outside key) records
     ∙ any-same (is_outside key) (closes records key) (λ item. sym (closes-unheld records key item free)) (items_of records)
     )
     ∙ sym (is_closed_key-set records key set)
@@ -212,16 +159,15 @@ rank-below item (x ∷ xs) (suc last) = go (eqb item x) (rank-below item xs last
 pub has_rank_below-member : (item : ℕ) (table : List ℕ) (last : ℕ) → has_rank_below table last item ≡ list_any (λ other. eqb item other) (take last table)
 has_rank_below-member item table last = ap (λ r. is_below r last) (position-rank_in item table) ∙ rank-below item table last
 
-pub below-some : (records : List (List (ℕ × ℤ))) (vs : List (Vec Item Global)) (holders : List Holder) (key : List ℤ)
-    (places : List Holder) (table : List ℕ) (last : ℕ) → Finds records vs holders key places
-    → (items : List ℕ) → Contains (found_at (lists_of vs) places) items → are_among items key ≡ true
-    → list_any (λ item. has_rank_below table last item && closes_at (found_at (lists_of vs) places) key item) items ≡ closes_below records table key last
-below-some records vs holders key places table last f items c holds =
-    let r = record_of records vs holders key places f items c in
-    let holds' : holds_key key r.0 ≡ true = ap (λ is. are_among is key) r.2 ∙ holds in
-    let found_test : ℕ → Bool = λ item. has_rank_below table last item && closes_at (found_at (lists_of vs) places) key item in
+pub below-some : (records : List (List (ℕ × ℤ))) (key : List ℤ) (found rest : List (List ℕ)) (items : List ℕ)
+    (table : List ℕ) (last : ℕ) → Finds records key found → IsHeld found key rest items
+    → list_any (λ item. has_rank_below table last item && closes_at rest key item) items ≡ closes_below records table key last
+below-some records key found rest items table last f h =
+    let r = record_of records key found f items h.part in
+    let holds : holds_key key r.0 ≡ true = ap (λ is. are_among is key) r.2 ∙ h.holding.whole in
+    let found_test : ℕ → Bool = λ item. has_rank_below table last item && closes_at rest key item in
     let test : ℕ → Bool = λ item. has_rank_below table last item && closes records key item in
-    any-same found_test test (λ item. ap (λ b. has_rank_below table last item && b) (closes-found records vs holders key places f item)) items
+    any-same found_test test (λ item. ap (λ b. has_rank_below table last item && b) (closes-held_from records key found rest items f h item)) items
     ∙ same_bool (list_any test items) (closes_below records table key last)
     (λ h.
     let one = any-member test items h in
@@ -231,35 +177,12 @@ below-some records vs holders key places table last f items c holds =
     (λ h.
     let one = any-member (closes records key) (take last table) h in
     let ranked = has_rank_below-member one.0 table last ∙ any-from (λ other. eqb one.0 other) one.0 (take last table) one.1 (eq-eqb one.0 one.0 refl) in
-    let here = has-member one.0 r.0 (closes-held records key one.0 r.0 one.2 r.1 holds') in
+    let here = has-member one.0 r.0 (closes-held records key one.0 r.0 one.2 r.1 holds) in
     any-from test one.0 items (subst (Member one.0) r.2 here) (and_from (has_rank_below table last one.0) (closes records key one.0) ranked one.2))
 
-pub below-none : (records : List (List (ℕ × ℤ))) (vs : List (Vec Item Global)) (holders : List Holder) (key : List ℤ)
-    (places : List Holder) (table : List ℕ) (last : ℕ) → Finds records vs holders key places
-    → list_all (λ items. not (are_among items key)) (found_at (lists_of vs) places) ≡ true
+pub below-none : (records : List (List (ℕ × ℤ))) (key : List ℤ) (found : List (List ℕ)) (table : List ℕ) (last : ℕ)
+    → Finds records key found → list_all (λ items. not (are_among items key)) found ≡ true
     → list_any (is_outside key) (take last table) ≡ closes_below records table key last
-below-none records vs holders key places table last f none =
-    let free = unheld records vs holders key places f none in
+below-none records key found table last f none =
+    let free = unheld records key found f none in
     any-same (is_outside key) (closes records key) (λ item. sym (closes-unheld records key item free)) (take last table)
-
--- ---- the parts of a call
-
--- what a call has at hand of a key's places
-pub Finds-from : (seen records : List (List (ℕ × ℤ))) (inside lists : List (Vec Item Global))
-    (kept holders : List Holder) (key : List ℤ) (places : List Holder) → AreSets seen inside kept
-    → seen ≡ records → lists ≡ inside → holders ≡ kept → (number : ℤ) × Contains key number
-    × (places ≡ filter (stands_at number) holders) → Finds records lists holders key places
-Finds-from seen records inside lists kept holders key places are view l h rare = record {
-  are = subst (λ r. AreSets r lists holders) view (subst (λ v. AreSets seen v holders) (sym l) (subst (AreSets seen inside) (sym h) are));
-  number = rare.0;
-  part = rare.1;
-  of = rare.2;
-}
-
-pub finds-lists : (records : List (List (ℕ × ℤ))) (vs : List (Vec Item Global)) (holders : List Holder) (key : List ℤ)
-    (places : List Holder) → Finds records vs holders key places → AreLists (lists_of vs)
-finds-lists records vs holders key places f = AreLists-sets records vs holders f.are
-
-pub finds-within : (records : List (List (ℕ × ℤ))) (vs : List (Vec Item Global)) (holders : List Holder) (key : List ℤ)
-    (places : List Holder) → Finds records vs holders key places → AreWithin (length vs) places
-finds-within records vs holders key places f = AreWithin-sets records vs holders places f.number f.are f.of

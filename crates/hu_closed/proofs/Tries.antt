@@ -1,13 +1,11 @@
--- Tests of items and of places in turn.
+-- Tests of items in turn.
 use Rattle.std.proofs.Common.{◌≡◌, ◌∙◌, ℕ, ◌+◌, ◌<◌, Bool, true, false, ◌||◌, List, [], ◌∷◌, length, get_or, take, refl, ap, arith}
-use Rattle.std.specs.List.{list_all, list_any}
+use Rattle.std.specs.List.{list_any}
 use Rattle.std.proofs.lemmas.Bool.{or_from}
 use Rattle.std.proofs.lemmas.List.{get_or-map, length-map, map-append, take_more}
-use Rattle.std.proofs.lemmas.List.Folds.{list_any_at, list_all_at, list_any-append}
+use Rattle.std.proofs.lemmas.List.Folds.{list_any_at, list_any-append}
 use Rattle.hu_kind.specs.declared.item.Item.{Item}
 use Rattle.hu_totals.specs.Weights.{numbers_of}
-use Rattle.hu_closed.specs.declared.holders.Holder.{Holder}
-use Rattle.hu_closed.specs.Holders.{found_at}
 
 -- an item that passes settles the answer
 pub any_number-at : (p : ℕ → Bool) (items : List Item) (i : ℕ) (d : Item) → i < length items → p (get_or items i d).0
@@ -26,11 +24,3 @@ any_number-more p items i d within before fails =
     ∙ ap (list_any p) (map-append (λ (item : Item). item.0) (take i items) (get_or items i d ∷ []))
     ∙ list_any-append p (numbers_of (take i items)) (last ∷ [])
     ∙ or_from (list_any p (numbers_of (take i items))) (p last || false) before (or_from (p last) false fails refl)
-
--- a place that fails settles the answer
-pub all_found-at : (p : List ℕ → Bool) (lists : List (List ℕ)) (places : List Holder) (i : ℕ) (d : Holder)
-    → i < length places → p (get_or lists (get_or places i d).place []) ≡ false
-    → list_all p (found_at lists places) ≡ false
-all_found-at p lists places i d within fails =
-    let inside : i < length (found_at lists places) = omega (arith, length-map places (λ (h : Holder). get_or lists h.place [])) in
-    list_all_at p (found_at lists places) i [] inside (ap p (get_or-map (λ (h : Holder). get_or lists h.place []) places i d [] within) ∙ fails)

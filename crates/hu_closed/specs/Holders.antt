@@ -1,4 +1,4 @@
--- Which records hold an item: holders are pairs (item, place), by item, and of one item by place.
+-- Which records hold an item: for each item the places of the records that hold it, ascending.
 use Rattle.std.specs.Prelude.{
   ◌≡◌,
   ℕ,
@@ -7,11 +7,7 @@ use Rattle.std.specs.Prelude.{
   ℤ,
   pos,
   Bool,
-  true,
   false,
-  not,
-  ◌&&◌,
-  ◌||◌,
   nat_eq,
   nat_lt,
   position,
@@ -22,21 +18,21 @@ use Rattle.std.specs.Prelude.{
   [],
   ◌∷◌,
   ◌++◌,
+  length,
   map,
+  if◌then◌else◌,
   slice_index_or,
   refl,
 }
 use Rattle.std.specs.Ordering.{int_eq}
-use Rattle.std.specs.List.{All, AllByRecursion, Contains, filter, list_all}
-use Rattle.std.specs.List.Sorted.{IsNonDecreasingBy}
+use Rattle.std.specs.List.{All, AllByRecursion, filter}
 use Rattle.std.specs.declared.vec.Vec.{Vec}
 use Rattle.std.specs.declared.alloc.Global.{Global}
 use Rattle.hu_kind.specs.declared.item.Item.{Item}
 use Rattle.hu_kind.specs.Record.{items_in, IsRecord}
 use Rattle.hu_kind.specs.Order.{Ascend}
 use Rattle.hu_totals.specs.Weights.{numbers_of}
-use Rattle.hu_closed.specs.Keys.{are_among, is_among, is_outside}
-use Rattle.hu_closed.specs.declared.holders.Holder.{Holder}
+use Rattle.hu_closed.specs.declared.holders.Holders.{Holders}
 
 -- lists of items as lists of numbers
 abbrev pub lists_of : List (Vec Item Global) → List (List ℕ)
@@ -46,11 +42,7 @@ lists_of lists = map (λ items. numbers_of items.items) lists
 abbrev pub AreLists : List (List ℕ) → Type 0
 AreLists lists = All Ascend lists
 
--- a holder as a pair
-abbrev pub pair_of : Holder → ℕ × ℕ
-pair_of holder = (holder.item.0, holder.place)
-
--- the holders of all items, record by record, the first at a place
+-- the items of all records with their places, record by record, the first at a place
 abbrev pub pairs_from : ℕ → List (List ℕ) → List (ℕ × ℕ)
 pairs_from place [] = []
 pairs_from place (items ∷ lists) = map (λ item. (item, place)) items ++ pairs_from (place + 1) lists
@@ -59,31 +51,45 @@ pairs_from place (items ∷ lists) = map (λ item. (item, place)) items ++ pairs
 abbrev pub pairs_with : ℤ → List (ℕ × ℕ) → List (ℕ × ℕ)
 pairs_with number pairs = filter (λ pair. int_eq number (pos pair.0)) pairs
 
--- whether a holder's item is a number
-abbrev pub stands_at : ℤ → Holder → Bool
-stands_at number holder = int_eq number (pos holder.item.0)
+-- their places
+abbrev pub places_with : ℤ → List (ℕ × ℕ) → List ℕ
+places_with number pairs = map (λ pair. pair.1) (pairs_with number pairs)
+
+-- the places in the row beside a number, none where it has none
+abbrev pub row_of : List ℤ → List (List ℕ) → ℤ → List ℕ
+row_of [] rows number = []
+row_of (n ∷ ns) [] number = []
+row_of (n ∷ ns) (row ∷ rows) number = if int_eq number n then row else row_of ns rows number
+
+-- lists of places
+abbrev pub rows_of : List (Vec ℕ Global) → List (List ℕ)
+rows_of places = map (λ row. row.items) places
+
+-- the places of a number's holders
+abbrev pub places_of : Holders → ℤ → List ℕ
+places_of holders number = row_of holders.numbers.keys (rows_of holders.places.items) number
+
+-- each number has places
+abbrev pub HasPlaces : Holders → Type 0
+HasPlaces holders = length holders.places.items ≡ length holders.numbers.keys
+
+-- holders are those of pairs (item, place)
+pub record AreHolders (holders : Holders) (pairs : List (ℕ × ℕ)) : Type 0 where
+  pub rows : HasPlaces holders
+  pub at : (number : ℤ) → places_of holders number ≡ places_with number pairs
 
 -- each place is below a number
-abbrev pub AreWithin : ℕ → List Holder → Type 0
-AreWithin n holders = All (λ holder. holder.place < n) holders
+abbrev pub AreWithin : ℕ → List ℕ → Type 0
+AreWithin n places = All (λ place. place < n) places
 
--- the items of the records at the places of holders
-abbrev pub found_at : List (List ℕ) → List Holder → List (List ℕ)
-found_at lists holders = map (λ holder. slice_index_or lists holder.place []) holders
+-- the items of the records at places
+abbrev pub found_at : List (List ℕ) → List ℕ → List (List ℕ)
+found_at lists places = map (λ place. slice_index_or lists place []) places
 
--- the items of a record found that holds a key
-pub record IsHolding (found : List (List ℕ)) (key : List ℤ) (items : List ℕ) : Type 0 where
-  pub ascending : Ascend items
-  pub at : Contains found items
-  pub whole : are_among items key ≡ true
-
--- whether an item stands in each of these records that hold a key
-abbrev pub stands_in : List (List ℕ) → List ℤ → ℕ → Bool
-stands_in found key item = list_all (λ items. not (are_among items key) || is_among items (pos item)) found
-
--- whether an item is outside a key and stands in each of these records that hold it
-abbrev pub closes_at : List (List ℕ) → List ℤ → ℕ → Bool
-closes_at found key item = is_outside key item && stands_in found key item
+-- lists ascend, and places are of them
+pub record ArePlaced (lists : List (List ℕ)) (places : List ℕ) : Type 0 where
+  pub ascend : AreLists lists
+  pub within : AreWithin (length lists) places
 
 -- whether there is a rank and it is below `last`
 abbrev pub is_below : Option ℕ → ℕ → Bool
@@ -96,16 +102,14 @@ has_rank_below table last item = is_below (position (nat_eq item) table) last
 
 -- lists of items and holders are those of records
 pub record AreSets (records : List (List (ℕ × ℤ))) (items : List (Vec Item Global))
-    (holders : List Holder) : Type 0 where
+    (holders : Holders) : Type 0 where
   pub lists : lists_of items ≡ map items_in records
-  pub rising : IsNonDecreasingBy (λ h. h.item.0) holders
-  pub held : (number : ℤ) → map pair_of (filter (stands_at number) holders)
-      ≡ pairs_with number (pairs_from 0 (map items_in records))
+  pub held : AreHolders holders (pairs_from 0 (map items_in records))
   pub rules : AllByRecursion IsRecord records
 
 -- two records
 pub pairs_of_two : pairs_from 0 ((2 ∷ 5 ∷ []) ∷ (5 ∷ []) ∷ []) ≡ (2, 0) ∷ (5, 0) ∷ (5, 1) ∷ []
 pairs_of_two = refl
 
-pub pairs_with_5 : pairs_with (pos 5) ((2, 0) ∷ (5, 0) ∷ (5, 1) ∷ []) ≡ (5, 0) ∷ (5, 1) ∷ []
-pairs_with_5 = refl
+pub places_with_5 : places_with (pos 5) ((2, 0) ∷ (5, 0) ∷ (5, 1) ∷ []) ≡ 0 ∷ 1 ∷ []
+places_with_5 = refl

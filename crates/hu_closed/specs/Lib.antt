@@ -1,4 +1,5 @@
 pub mod Keys
 pub mod Holders
+pub mod Found
 pub mod ClosedOnly
 pub mod Worked

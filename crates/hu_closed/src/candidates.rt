@@ -4,33 +4,26 @@ ghost use Rattle.std.specs.Prelude.{◌≡◌, ◌≤◌, ◌||◌, ◌&&◌, po
 ghost use Rattle.std.specs.List.{list_any};
 ghost use Rattle.hu_kind.specs.Order.{Ascend};
 ghost use Rattle.hu_totals.specs.Weights.{numbers_of};
-ghost use Rattle.hu_closed.specs.Keys.{are_among, is_among, is_outside, is_set_key};
-ghost use Rattle.hu_closed.specs.Holders.{closes_at, found_at, has_rank_below, lists_of, stands_in, AreLists, AreWithin, IsHolding};
+ghost use Rattle.hu_closed.specs.Keys.{is_among, is_outside, is_set_key};
+ghost use Rattle.hu_closed.specs.Holders.{has_rank_below, lists_of};
+ghost use Rattle.hu_closed.specs.Found.{closes_at, IsHolding};
 
-use crate::holders::{Holder, list_at};
-use crate::keys::{are_among, is_among, is_outside};
+use crate::found::Found;
+use crate::keys::{is_among, is_outside};
 use hu_kind::Item;
 use hu_totals::Ranked;
 
-/// Whether one of these items is outside a key and stands at each of these places that holds it. The items are those of
-/// such a place. The last place that was found to lack an item is looked at first for the next one.
-pub(crate) fn any_closes(
-    lists: &[Vec<Item>],
-    places: &[Holder],
-    key: &[i64],
-    items: &[Item],
-) -> bool
-    requires lists { AreLists (lists_of lists.now) }
-    requires within { AreWithin (length lists.now) places.now }
+/// Whether one of these items is outside a key and stands in each record found that holds it. The items are those of such
+/// a record. The last record that was found to lack an item is looked at first for the next one.
+pub(crate) fn any_closes<'a>(found: &Found<'a>, key: &[i64], items: &'a [Item]) -> bool
     requires key { is_set_key key.now ≡ true }
-    requires holding { IsHolding (found_at (lists_of lists.now) places.now) key.now
-        (numbers_of items.now) }
-    ensures { result ≡ list_any (closes_at (found_at (lists_of lists.now) places.now) key.now)
+    requires holding { IsHolding found.now key.now (numbers_of items.now) }
+    ensures { result ≡ list_any (closes_at found.now key.now)
         (numbers_of items.now) }
 {
     let mut witness = items;
     for item in items {
-        let Some(next) = witness_against(lists, places, key, *item, witness) else {
+        let Some(next) = witness_against(found, key, *item, witness) else {
             return true;
         };
         witness = next;
@@ -38,28 +31,24 @@ pub(crate) fn any_closes(
     false
 }
 
-/// Whether one of these items that has a rank below `last` is outside a key and stands at each of these places that
-/// holds it. The items are those of such a place.
-pub(crate) fn any_closes_below(
-    lists: &[Vec<Item>],
-    places: &[Holder],
+/// Whether one of these items that has a rank below `last` is outside a key and stands in each record found that holds
+/// it. The items are those of such a record.
+pub(crate) fn any_closes_below<'a>(
+    found: &Found<'a>,
     key: &[i64],
-    items: &[Item],
+    items: &'a [Item],
     ranked: &Ranked,
     last: u32,
 ) -> bool
-    requires lists { AreLists (lists_of lists.now) }
-    requires within { AreWithin (length lists.now) places.now }
     requires key { is_set_key key.now ≡ true }
-    requires holding { IsHolding (found_at (lists_of lists.now) places.now) key.now
-        (numbers_of items.now) }
+    requires holding { IsHolding found.now key.now (numbers_of items.now) }
     ensures { result ≡ list_any (λ item. has_rank_below ranked.now.items last item
-        && closes_at (found_at (lists_of lists.now) places.now) key.now item)
+        && closes_at found.now key.now item)
         (numbers_of items.now) }
 {
     let mut witness = items;
     for item in items {
-        let Some(next) = witness_below(lists, places, key, *item, witness, ranked, last) else {
+        let Some(next) = witness_below(found, key, *item, witness, ranked, last) else {
             return true;
         };
         witness = next;
@@ -67,31 +56,26 @@ pub(crate) fn any_closes_below(
     false
 }
 
-/// A record at these places that holds a key: the witness that is given, where the item has no rank below `last` or the
+/// A record found that holds a key: the witness that is given, where the item has no rank below `last` or the
 /// witness shows that it doesn't close the key, else another one that shows it; none where it closes the key.
 fn witness_below<'a>(
-    lists: &'a [Vec<Item>],
-    places: &[Holder],
+    found: &Found<'a>,
     key: &[i64],
     item: Item,
     witness: &'a [Item],
     ranked: &Ranked,
     last: u32,
 ) -> Option<&'a [Item]>
-    requires lists { AreLists (lists_of lists.now) }
-    requires within { AreWithin (length lists.now) places.now }
     requires key { is_set_key key.now ≡ true }
-    requires holding { IsHolding (found_at (lists_of lists.now) places.now) key.now
-        (numbers_of witness.now) }
-    ensures holding { IfSome result (λ items. IsHolding (found_at (lists_of lists.now) places.now)
-        key.now (numbers_of items.now)) }
+    requires holding { IsHolding found.now key.now (numbers_of witness.now) }
+    ensures holding { IfSome result (λ items. IsHolding found.now key.now (numbers_of items.now)) }
     ensures value { is_some result ≡ not (has_rank_below ranked.now.items last item.0
-        && closes_at (found_at (lists_of lists.now) places.now) key.now item.0) }
+        && closes_at found.now key.now item.0) }
 {
     if is_settled(key, item, witness) || !has_rank_below(ranked, item, last) {
         return Some(witness);
     }
-    refuter(lists, places, key, item)
+    found.refuter(key, item)
 }
 
 /// Whether an item has a rank below `last`.
@@ -104,29 +88,24 @@ fn has_rank_below(ranked: &Ranked, item: Item, last: u32) -> bool
     }
 }
 
-/// A record at these places that holds a key: the witness that is given, where it shows that the item doesn't close the
+/// A record found that holds a key: the witness that is given, where it shows that the item doesn't close the
 /// key, else another one that shows it; none where the item closes the key.
 fn witness_against<'a>(
-    lists: &'a [Vec<Item>],
-    places: &[Holder],
+    found: &Found<'a>,
     key: &[i64],
     item: Item,
     witness: &'a [Item],
 ) -> Option<&'a [Item]>
-    requires lists { AreLists (lists_of lists.now) }
-    requires within { AreWithin (length lists.now) places.now }
     requires key { is_set_key key.now ≡ true }
-    requires holding { IsHolding (found_at (lists_of lists.now) places.now) key.now
-        (numbers_of witness.now) }
-    ensures holding { IfSome result (λ items. IsHolding (found_at (lists_of lists.now) places.now)
-        key.now (numbers_of items.now)) }
+    requires holding { IsHolding found.now key.now (numbers_of witness.now) }
+    ensures holding { IfSome result (λ items. IsHolding found.now key.now (numbers_of items.now)) }
     ensures value { is_some result
-        ≡ not (closes_at (found_at (lists_of lists.now) places.now) key.now item.0) }
+        ≡ not (closes_at found.now key.now item.0) }
 {
     if is_settled(key, item, witness) {
         return Some(witness);
     }
-    refuter(lists, places, key, item)
+    found.refuter(key, item)
 }
 
 /// Whether an item is in a key, or is none of these items.
@@ -139,46 +118,26 @@ fn is_settled(key: &[i64], item: Item, items: &[Item]) -> bool
     !is_outside(key, item) || !is_among(items, i64::from(item.0))
 }
 
-/// The first of these places that holds a key and lacks an item; none where the item stands at each that holds the key.
-fn refuter<'a>(
-    lists: &'a [Vec<Item>],
-    places: &[Holder],
-    key: &[i64],
-    item: Item,
-) -> Option<&'a [Item]>
-    requires lists { AreLists (lists_of lists.now) }
-    requires within { AreWithin (length lists.now) places.now }
-    ensures holding { IfSome result (λ items. IsHolding (found_at (lists_of lists.now) places.now)
-        key.now (numbers_of items.now)) }
-    ensures value { is_some result
-        ≡ not (stands_in (found_at (lists_of lists.now) places.now) key.now item.0) }
+/// Whether an item of some record is outside a key.
+pub(crate) fn any_outside(lists: &[Vec<Item>], key: &[i64]) -> bool
+    requires { is_set_key key.now ≡ true }
+    ensures { result ≡ list_any (list_any (is_outside key.now)) (lists_of lists.now) }
 {
-    for holder in places {
-        let items = list_at(lists, holder.place);
-        if lacks(items, key, item) {
-            return Some(items);
+    for items in lists {
+        if has_outside(items, key) {
+            return true;
         }
     }
-    None
+    false
 }
 
-/// Whether a record holds a key and not an item.
-fn lacks(items: &[Item], key: &[i64], item: Item) -> bool
-    requires { Ascend (numbers_of items.now) }
-    ensures { not result
-        ≡ (not (are_among (numbers_of items.now) key.now)
-        || is_among (numbers_of items.now) (pos item.0)) }
-{
-    !is_among(items, i64::from(item.0)) && are_among(items, key)
-}
-
-/// Whether some holder's item is outside a key.
-pub(crate) fn any_outside(holders: &[Holder], key: &[i64]) -> bool
+/// Whether one of these items is outside a key.
+fn has_outside(items: &[Item], key: &[i64]) -> bool
     requires { is_set_key key.now ≡ true }
-    ensures { result ≡ list_any (λ holder. is_outside key.now holder.item.0) holders.now }
+    ensures { result ≡ list_any (is_outside key.now) (numbers_of items.now) }
 {
-    for holder in holders {
-        if is_outside(key, holder.item) {
+    for item in items {
+        if is_outside(key, *item) {
             return true;
         }
     }

@@ -3,11 +3,12 @@
 //! [`RecordSets`] keeps for each item the records that hold it, and says of a key in how many records it stands and
 //! whether it is closed. [`ClosedOnly`] stands around a collector of hu_collect. What a key's support and its closedness
 //! are stands in `specs/Keys.antt`, what the collector makes of entries in `specs/ClosedOnly.antt`. The crate stands on
-//! hu_kind, hu_base, hu_collect and hu_totals.
+//! hu_kind, hu_base, hu_collect, hu_totals and indexmap.
 #![tactic(auto)]
 
 mod candidates;
 mod closed_only;
+mod found;
 mod holders;
 mod keys;
 mod sets;

@@ -11,10 +11,12 @@ ghost use Rattle.hu_collect.specs.Ranks.{CanOpen, IsGrown};
 ghost use Rattle.hu_totals.specs.Weights.{numbers_of};
 ghost use Rattle.hu_closed.specs.Keys.{key_support, is_closed_key, is_set_key, closes_below, IsSet};
 ghost use Rattle.hu_closed.specs.Holders.{lists_of};
+ghost use Rattle.hu_closed.specs.Found.{Finds};
 ghost use Rattle.hu_closed.specs.ClosedOnly.{IsRankingOf};
 
 use crate::candidates::{any_closes, any_closes_below, any_outside, any_outside_below};
-use crate::holders::{Holder, all_holders, count, first, rarest};
+use crate::found::Found;
+use crate::holders::{Holders, all_holders, rarest};
 use crate::keys::is_set_key;
 use hu_base::Base;
 use hu_kind::{Cell, Item, Key, NoMemory, Record};
@@ -28,7 +30,7 @@ use std::snapshot::Snapshot;
 #[derive(Drop)]
 pub struct RecordSets {
     lists: Vec<Vec<Item>>,
-    holders: Vec<Holder>,
+    holders: Holders,
     seen: Snapshot<Base<Record>>,
 }
 
@@ -41,11 +43,11 @@ impl Model for RecordSets {
 
     ghost view = { λ s. records_of s.seen.value };
 
-    ghost invariant = { λ s. AreSets (records_of s.seen.value) s.lists.items s.holders.items };
+    ghost invariant = { λ s. AreSets (records_of s.seen.value) s.lists.items s.holders };
 }
 
 impl RecordSets {
-    /// The sets of a base's records. It takes a copy of the items of each cell, and one sort of these.
+    /// The sets of a base's records. It takes a copy of the items of each cell, and a look-up in a hash table for each.
     pub fn of(alloc: Global, base: &Base<Record>) -> Result<RecordSets, NoMemory>
         ensures { IfOk result (λ sets. sets ≡ records_of base.now) }
     {
@@ -87,12 +89,10 @@ impl RecordSets {
         ensures shuts { result ≡ true → (grown : List ℤ) → IsGrown (Some ranked.now.items) key.now last grown
             → is_closed_key self.now grown ≡ false }
     {
-        let lists = self.lists.as_slice();
-        let holders = self.holders.as_slice();
+        self.tell_rules();
         let numbers = key.numbers();
-        let places = rarest(holders, numbers);
-        match first(lists, places, numbers) {
-            Some(items) => any_closes_below(lists, places, numbers, items, ranked, last),
+        match self.found(numbers).held(numbers) {
+            Some(held) => any_closes_below(&held.rest, numbers, held.items, ranked, last),
             None => any_outside_below(ranked, numbers, last),
         }
     }
@@ -108,12 +108,11 @@ impl RecordSets {
     fn count_holding(&self, numbers: &[i64]) -> u64
         ensures { result ≡ key_support self.now numbers.now }
     {
-        let lists = self.lists.as_slice();
         if numbers.is_empty() {
+            let lists = self.lists.as_slice();
             return lists.len() as u64;
         }
-        let holders = self.holders.as_slice();
-        count(lists, rarest(holders, numbers), numbers)
+        self.found(numbers).count(numbers)
     }
 
     /// Whether these numbers are a closed itemset.
@@ -123,13 +122,18 @@ impl RecordSets {
         if !is_set_key(numbers) {
             return false;
         }
-        let lists = self.lists.as_slice();
-        let holders = self.holders.as_slice();
-        let places = rarest(holders, numbers);
-        match first(lists, places, numbers) {
-            Some(items) => !any_closes(lists, places, numbers, items),
-            None => !any_outside(holders, numbers),
+        match self.found(numbers).held(numbers) {
+            Some(held) => !any_closes(&held.rest, numbers, held.items),
+            None => !any_outside(&self.lists, numbers),
         }
+    }
+
+    /// The records that hold that number of a key which the fewest hold.
+    fn found(&self, numbers: &[i64]) -> Found<'_>
+        requires { 0 < length numbers.now }
+        ensures { Finds self.now numbers.now result }
+    {
+        Found::at_places(&self.lists, rarest(&self.holders, numbers))
     }
 }
 

@@ -2,6 +2,7 @@
 
 ghost use Rattle.std.specs.Prelude.{◌<◌, Some, length, IfOk};
 ghost use Rattle.hu_collect.specs.Ranks.{CanOpen};
+ghost use Rattle.hu_closed.specs.ClosedOnly.{IsRankingOf};
 
 use crate::{ClosedOnly, RecordSets};
 use hu_base::Base;
@@ -38,6 +39,16 @@ const KEYS: [Told<'static>; 14] = [
     (&[1, 2, 3, 4, 5, 6, 7], 0, true),
     (&[1, 2, 3, 4, 5, 6, 7, 8], 0, true),
     (&[1, 2, 3, 4, 5, 6, 7, 2_147_483_648], 0, false),
+];
+
+/// A key with the utility and the support that are offered with it.
+type Offer<'a> = (&'a [i64], i128, u64);
+
+const OFFERS: [Offer<'static>; 4] = [
+    (&[2, 3], 28, 3),
+    (&[2, 3, 4], 34, 2),
+    (&[2, 3, 5], 37, 3),
+    (&[3], 13, 5),
 ];
 
 /// The record of these items with their values.
@@ -116,13 +127,81 @@ fn key_of_ranks(
     Ok(key)
 }
 
+/// The sets of base A, and its ranks at a floor of 30.
+#[derive(Drop)]
+struct Small {
+    sets: RecordSets,
+    ranked: Ranked,
+}
+
+/// Those of base A.
+fn small_base(rt: &impl Abort, alloc: Global) -> Result<Small, Fail>
+    ensures { IfOk result (λ small. IsRankingOf small.sets small.ranked) }
+{
+    let base = base_a(rt, alloc)?;
+    let totals = Totals::of(alloc, &base)?;
+    let sets = RecordSets::of(alloc, &base)?;
+    let ranked = Ranked::of(alloc, &base, &totals, 30)?;
+    Ok(Small { sets, ranked })
+}
+
+/// Expects what sets say of a key.
+fn expect_told(
+    rt: &impl Abort,
+    alloc: Global,
+    sets: &RecordSets,
+    told: &Told<'_>,
+) -> Result<(), NoMemory> {
+    let key = key_of(alloc, told.0)?;
+    assert_eq!(rt; sets.support(&key), told.1);
+    assert_eq!(rt; sets.is_closed(&key), told.2);
+    Ok(())
+}
+
+/// Offers a key with a utility and a support.
+fn offer(alloc: Global, closed: &mut ClosedOnly<'_, All>, one: &Offer<'_>) -> Result<(), NoMemory> {
+    closed.offer(entry_of(alloc, one.0, one.1, one.2)?)
+}
+
+/// The entries that are kept of these offers.
+fn kept_of(
+    rt: &impl Abort,
+    alloc: Global,
+    small: &Small,
+    offers: &[Offer<'_>],
+) -> Result<Vec<Entry>, NoMemory>
+    requires { IsRankingOf small.now.sets small.now.ranked }
+{
+    let mut closed = ClosedOnly::new(All::new(alloc, 30), &small.sets, &small.ranked);
+    assert_eq!(rt; closed.floor(), 30);
+    for one in offers {
+        offer(alloc, &mut closed, one)?;
+    }
+    closed.into_inner().into_entries()
+}
+
+/// Expects whether a key opens that has these numbers and ends at a rank.
+fn expect_opens(
+    rt: &impl Abort,
+    alloc: Global,
+    small: &Small,
+    key: &Key,
+    last: u32,
+    told: (&[i64], bool),
+)
+    requires base { IsRankingOf small.now.sets small.now.ranked }
+    requires key { CanOpen (Some small.now.ranked.items) key.now last }
+{
+    let closed = ClosedOnly::new(All::new(alloc, 30), &small.sets, &small.ranked);
+    assert_eq!(rt; key.numbers(), told.0);
+    assert_eq!(rt; closed.opens(key, last), told.1);
+}
+
 #[test]
 fn keys_of_base_a(rt: HostRuntime) -> Result<(), Fail> {
     let sets = RecordSets::of(rt.alloc(), &base_a(&rt, rt.alloc())?)?;
-    for (numbers, support, is_closed) in &KEYS {
-        let key = key_of(rt.alloc(), numbers)?;
-        assert_eq!(rt; sets.support(&key), *support);
-        assert_eq!(rt; sets.is_closed(&key), *is_closed);
+    for told in &KEYS {
+        expect_told(&rt, rt.alloc(), &sets, told)?;
     }
     Ok(())
 }
@@ -130,25 +209,13 @@ fn keys_of_base_a(rt: HostRuntime) -> Result<(), Fail> {
 #[test]
 fn keys_of_no_record(rt: HostRuntime) -> Result<(), Fail> {
     let sets = RecordSets::of(rt.alloc(), &Base::after(rt.alloc(), 0))?;
-    let key = key_of(rt.alloc(), &[3])?;
-    assert_eq!(rt; sets.support(&key), 0);
-    assert!(rt; sets.is_closed(&key));
+    expect_told(&rt, rt.alloc(), &sets, &(&[3], 0, true))?;
     Ok(())
 }
 
 #[test]
 fn closed_entries_alone(rt: HostRuntime) -> Result<(), Fail> {
-    let base = base_a(&rt, rt.alloc())?;
-    let sets = RecordSets::of(rt.alloc(), &base)?;
-    let totals = Totals::of(rt.alloc(), &base)?;
-    let ranked = Ranked::of(rt.alloc(), &base, &totals, 30)?;
-    let mut closed = ClosedOnly::new(All::new(rt.alloc(), 30), &sets, &ranked);
-    assert_eq!(rt; closed.floor(), 30);
-    closed.offer(entry_of(rt.alloc(), &[2, 3], 28, 3)?)?;
-    closed.offer(entry_of(rt.alloc(), &[2, 3, 4], 34, 2)?)?;
-    closed.offer(entry_of(rt.alloc(), &[2, 3, 5], 37, 3)?)?;
-    closed.offer(entry_of(rt.alloc(), &[3], 13, 5)?)?;
-    let entries = closed.into_inner().into_entries()?;
+    let entries = kept_of(&rt, rt.alloc(), &small_base(&rt, rt.alloc())?, &OFFERS)?;
     assert_eq!(rt; entries.len(), 1);
     assert_eq!(rt; entries[0].key.numbers(), [2, 3, 5].as_slice());
     assert_eq!(rt; entries[0].utility, 37);
@@ -156,18 +223,19 @@ fn closed_entries_alone(rt: HostRuntime) -> Result<(), Fail> {
 }
 
 #[test]
-fn keys_that_open(rt: HostRuntime) -> Result<(), Fail> {
-    let base = base_a(&rt, rt.alloc())?;
-    let sets = RecordSets::of(rt.alloc(), &base)?;
-    let totals = Totals::of(rt.alloc(), &base)?;
-    let ranked = Ranked::of(rt.alloc(), &base, &totals, 30)?;
-    let closed = ClosedOnly::new(All::new(rt.alloc(), 30), &sets, &ranked);
-    assert_eq!(rt; ranked.len(), 7);
-    let shut = key_of_ranks(&rt, rt.alloc(), &ranked, 3, 6)?;
-    assert_eq!(rt; shut.numbers(), [2, 3].as_slice());
-    assert!(rt; !closed.opens(&shut, 6));
-    let open = key_of_rank(rt.alloc(), &ranked, 3)?;
-    assert_eq!(rt; open.numbers(), [2].as_slice());
-    assert!(rt; closed.opens(&open, 3));
+fn a_key_with_a_closer_below_is_shut(rt: HostRuntime) -> Result<(), Fail> {
+    let small = small_base(&rt, rt.alloc())?;
+    assert_eq!(rt; small.ranked.len(), 7);
+    let key = key_of_ranks(&rt, rt.alloc(), &small.ranked, 3, 6)?;
+    expect_opens(&rt, rt.alloc(), &small, &key, 6, (&[2, 3], false));
+    Ok(())
+}
+
+#[test]
+fn a_key_with_none_below_opens(rt: HostRuntime) -> Result<(), Fail> {
+    let small = small_base(&rt, rt.alloc())?;
+    assert_eq!(rt; small.ranked.len(), 7);
+    let key = key_of_rank(rt.alloc(), &small.ranked, 3)?;
+    expect_opens(&rt, rt.alloc(), &small, &key, 3, (&[2], true));
     Ok(())
 }

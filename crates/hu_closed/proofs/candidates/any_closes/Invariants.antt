@@ -1,11 +1,11 @@
 use Rattle.std.proofs.Common.{◌≡◌, false, take}
 use Rattle.std.specs.List.{list_any}
 use Rattle.hu_totals.specs.Weights.{numbers_of}
-use Rattle.hu_closed.specs.Holders.{closes_at, found_at, lists_of, IsHolding}
+use Rattle.hu_closed.specs.Found.{closes_at, IsHolding}
 use Rattle.hu_closed.proofs.candidates.any_closes.Given as goal
 
 abbrev pub invariant-loop-item : goal.invariant-loop-item
 invariant-loop-item l = record {
-  none : list_any (closes_at (found_at (lists_of l.lists) l.places) l.key) (numbers_of (take l.item-index l.items)) ≡ false;
-  witness : IsHolding (found_at (lists_of l.lists) l.places) l.key (numbers_of l.witness);
+  none : list_any (closes_at l.found l.key) (numbers_of (take l.item-index l.items)) ≡ false;
+  witness : IsHolding l.found l.key (numbers_of l.witness);
 }

@@ -1,7 +1,8 @@
 use Rattle.std.proofs.Common.{ℕ, sym, ◌&&◌}
 use Rattle.std.proofs.lemmas.Bool.{not-false, not-true}
 use Rattle.hu_kind.specs.declared.item.Item.{Item}
-use Rattle.hu_closed.specs.Holders.{closes_at, found_at, has_rank_below, lists_of}
+use Rattle.hu_closed.specs.Found.{closes_at}
+use Rattle.hu_closed.specs.Holders.{has_rank_below}
 use Rattle.hu_closed.proofs.Tries.{any_number-at, any_number-more}
 use Rattle.hu_closed.proofs.candidates.any_closes_below.Goals as goal
 
@@ -13,7 +14,7 @@ unfolding no_item
 returns-in_default c =
     let test =
     λ (item : ℕ). has_rank_below c.args.ranked.now.items c.args.last item
-    && closes_at (found_at (lists_of c.args.lists.now) c.args.places.now) c.args.key.now item in
+    && closes_at c.args.found.now c.args.key.now item in
     let closes = not-false _ (sym c.in_default.ensures.value) in
     sym (any_number-at test c.args.items.now c.loop-item.item-index no_item c.loop-item-test.true closes)
 
@@ -22,7 +23,7 @@ unfolding no_item
 loop-item-preserved c =
     let test =
     λ (item : ℕ). has_rank_below c.args.ranked.now.items c.args.last item
-    && closes_at (found_at (lists_of c.args.lists.now) c.args.places.now) c.args.key.now item in
+    && closes_at c.args.found.now c.args.key.now item in
     let fails = not-true _ (sym c.in-Some.ensures.value) in
     record {
       none = any_number-more test c.args.items.now c.loop-item.item-index no_item c.loop-item-test.true c.loop-item.invariant.none fails;

@@ -1,12 +1,13 @@
 use Rattle.std.proofs.Common.{◌≡◌, false, ◌&&◌, take}
 use Rattle.std.specs.List.{list_any}
 use Rattle.hu_totals.specs.Weights.{numbers_of}
-use Rattle.hu_closed.specs.Holders.{closes_at, found_at, has_rank_below, lists_of, IsHolding}
+use Rattle.hu_closed.specs.Found.{closes_at, IsHolding}
+use Rattle.hu_closed.specs.Holders.{has_rank_below}
 use Rattle.hu_closed.proofs.candidates.any_closes_below.Given as goal
 
 abbrev pub invariant-loop-item : goal.invariant-loop-item
 invariant-loop-item l = record {
-  none : list_any (λ item. has_rank_below l.ranked.items l.last item && closes_at (found_at (lists_of l.lists) l.places) l.key item)
+  none : list_any (λ item. has_rank_below l.ranked.items l.last item && closes_at l.found l.key item)
       (numbers_of (take l.item-index l.items)) ≡ false;
-  witness : IsHolding (found_at (lists_of l.lists) l.places) l.key (numbers_of l.witness);
+  witness : IsHolding l.found l.key (numbers_of l.witness);
 }

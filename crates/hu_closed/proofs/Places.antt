@@ -1,6 +1,6 @@
 -- What stands at the places of an item's holders: the records that hold it.
 use Rattle.std.proofs.Common.{◌≡◌, ◌∙◌, ℕ, ◌+◌, ◌<◌, ℤ, pos, Bool, true, false, cond, ◌||◌, List, [], ◌∷◌, ◌++◌, map}
-use Rattle.std.proofs.Common.{length, get_or, refl, sym, ap, subst, inl, inr, arith, filter}
+use Rattle.std.proofs.Common.{length, get_or, refl, sym, ap, subst, inl, inr, arith, filter, Contains}
 use Rattle.std.specs.List.{AllByRecursion}
 use Rattle.std.specs.Ordering.{int_eq}
 use Rattle.std.specs.declared.vec.Vec.{Vec}
@@ -8,19 +8,19 @@ use Rattle.std.specs.declared.alloc.Global.{Global}
 use Rattle.std.proofs.lemmas.Int.{ints}
 use Rattle.std.proofs.lemmas.Bool.{and_left, and_right}
 use Rattle.std.proofs.lemmas.Bool.Decides.{Decides-int_eq}
-use Rattle.std.proofs.lemmas.List.{append_assoc, length-append, length-map, map-append}
+use Rattle.std.proofs.lemmas.List.{append_assoc, length-append, map-append}
 use Rattle.std.proofs.lemmas.List.Elements.{filter-append}
 use Rattle.std.proofs.Math.Seq.{get_or-append_seam}
 use Rattle.hu_kind.specs.declared.item.Item.{Item}
 use Rattle.hu_kind.specs.Order.{Ascend}
 use Rattle.hu_kind.specs.Record.{items_in, IsRecord}
-use Rattle.hu_kind.proofs.lemmas.Members.{Member, Member-append_cases, Member-from_filter, Member-map, Member-from_map}
-use Rattle.hu_totals.specs.Weights.{numbers_of}
+use Rattle.hu_kind.proofs.lemmas.Members.{Member, Member-append_cases, Member-from_filter, Member-from_map}
 use Rattle.hu_totals.proofs.lemmas.RecordCells.{Ascend-record}
 use Rattle.hu_totals.proofs.lemmas.RankingRules.{All-from_each}
-use Rattle.hu_closed.specs.declared.holders.Holder.{Holder}
+use Rattle.hu_closed.specs.declared.holders.Holders.{Holders}
 use Rattle.hu_closed.specs.Keys.{are_among, is_among}
-use Rattle.hu_closed.specs.Holders.{found_at, lists_of, pair_of, pairs_from, pairs_with, stands_at, AreLists, AreSets, AreWithin}
+use Rattle.hu_closed.specs.Holders.{found_at, lists_of, pairs_from, pairs_with, places_of, AreLists, ArePlaced, AreSets}
+use Rattle.hu_closed.specs.Found.{Finds}
 use Rattle.hu_closed.proofs.Numbers.{is_among-above}
 
 -- the holders in one record: one where the number is among its items, else none
@@ -61,26 +61,26 @@ lists-of_pairs number before (items ∷ lists) k many up =
     ∙ one-more (is_among items number) (g k) (filter (λ items. is_among items number) lists)
     ∙ ap (λ one. cond (is_among items number) (one ∷ filter (λ items. is_among items number) lists) (filter (λ items. is_among items number) lists)) here
 
-found-pairs : (lists : List (List ℕ)) (places : List Holder) → found_at lists places ≡ map (λ pair. get_or lists pair.1 []) (map pair_of places)
+found-pairs : (lists : List (List ℕ)) (pairs : List (ℕ × ℕ)) → found_at lists (map (λ pair. pair.1) pairs) ≡ map (λ pair. get_or lists pair.1 []) pairs
 found-pairs lists [] = refl
-found-pairs lists (h ∷ places) = ap (λ rest. get_or lists h.place [] ∷ rest) (found-pairs lists places)
+found-pairs lists (pair ∷ pairs) = ap (λ rest. get_or lists pair.1 [] ∷ rest) (found-pairs lists pairs)
 
 ascend-each : (records : List (List (ℕ × ℤ))) → AllByRecursion IsRecord records → AllByRecursion Ascend (map items_in records)
 ascend-each [] all = tt
 ascend-each (r ∷ records) all = (Ascend-record r all.0, ascend-each records all.1)
 
 -- the lists of record sets ascend
-pub AreLists-sets : (records : List (List (ℕ × ℤ))) (vs : List (Vec Item Global)) (holders : List Holder) → AreSets records vs holders → AreLists (lists_of vs)
+pub AreLists-sets : (records : List (List (ℕ × ℤ))) (vs : List (Vec Item Global)) (holders : Holders) → AreSets records vs holders → AreLists (lists_of vs)
 AreLists-sets records vs holders are = subst AreLists (sym are.lists) (All-from_each Ascend (map items_in records) (ascend-each records are.rules))
 
 -- at the places of an item's holders stand the records that hold it
-pub found-sets : (records : List (List (ℕ × ℤ))) (vs : List (Vec Item Global)) (holders places : List Holder)
-    (number : ℤ) → AreSets records vs holders → places ≡ filter (stands_at number) holders
+pub found-sets : (records : List (List (ℕ × ℤ))) (vs : List (Vec Item Global)) (holders : Holders) (places : List ℕ)
+    (number : ℤ) → AreSets records vs holders → places ≡ places_of holders number
     → found_at (lists_of vs) places ≡ filter (λ items. is_among items number) (map items_in records)
 found-sets records vs holders places number are of =
-    found-pairs (lists_of vs) places
-    ∙ (λ j. map (λ pair. get_or (are.lists j) pair.1 []) (map pair_of (of j)))
-    ∙ ap (map (λ pair. get_or (map items_in records) pair.1 [])) (are.held number)
+    ap (found_at (lists_of vs)) (of ∙ are.held.at number)
+    ∙ found-pairs (lists_of vs) (pairs_with number (pairs_from 0 (map items_in records)))
+    ∙ ap (λ lists. map (λ pair. get_or lists pair.1 []) (pairs_with number (pairs_from 0 (map items_in records)))) are.lists
     ∙ lists-of_pairs number [] (map items_in records) 0 refl (ascend-each records are.rules)
 
 -- the places are those of records
@@ -91,20 +91,43 @@ pairs-below place (items ∷ lists) pair m = elim (Member-append_cases pair (map
   | inr b ↦ let later = pairs-below (place + 1) lists pair b in omega arith
 ]
 
-within-members : (n : ℕ) (places : List Holder) → ((h : Holder) → Member h places → h.place < n) → AllByRecursion (λ (h : Holder). h.place < n) places
+within-members : (n : ℕ) (places : List ℕ) → ((p : ℕ) → Member p places → p < n) → AllByRecursion (λ (p : ℕ). p < n) places
 within-members n [] each = tt
-within-members n (h ∷ places) each = (each h (inl refl), within-members n places (λ g m. each g (inr m)))
+within-members n (p ∷ places) each = (each p (inl refl), within-members n places (λ q m. each q (inr m)))
 
-pub AreWithin-sets : (records : List (List (ℕ × ℤ))) (vs : List (Vec Item Global)) (holders places : List Holder)
-    (number : ℤ) → AreSets records vs holders → places ≡ filter (stands_at number) holders
-    → AreWithin (length vs) places
-AreWithin-sets records vs holders places number are of =
-    let many : length vs ≡ length (map items_in records) = sym (length-map vs (λ (v : Vec Item Global). numbers_of v.items)) ∙ ap length are.lists in
-    All-from_each (λ (h : Holder). h.place < length vs) places (within-members (length vs) places (λ h m.
-    let pairs = subst (Member (pair_of h)) (ap (map pair_of) of ∙ are.held number) (Member-map pair_of h places m) in
-    let from = Member-from_filter (λ (pair : ℕ × ℕ). int_eq number (pos pair.0)) (pair_of h) (pairs_from 0 (map items_in records)) pairs in
-    let below = pairs-below 0 (map items_in records) (pair_of h) from.0 in
-    omega (arith, many, below)))
+-- what a call has at hand of record sets
+pub AreSets-seen : (seen records : List (List (ℕ × ℤ))) (inside vs : List (Vec Item Global)) (holders : Holders)
+    → AreSets seen inside holders → seen ≡ records → vs ≡ inside → AreSets records vs holders
+AreSets-seen seen records inside vs holders are view v =
+    subst (λ r. AreSets r vs holders) view (subst (λ v. AreSets seen v holders) (sym v) are)
+
+-- the holders of a number are placed, and at their places stand the records that hold it
+pub ArePlaced-sets : (records : List (List (ℕ × ℤ))) (vs : List (Vec Item Global)) (holders : Holders) (places : List ℕ)
+    (number : ℤ) → AreSets records vs holders → places ≡ places_of holders number
+    → ArePlaced (lists_of vs) places
+ArePlaced-sets records vs holders places number are of =
+    let lists = lists_of vs in
+    record {
+      ascend = AreLists-sets records vs holders are;
+      within = All-from_each (λ (p : ℕ). p < length lists) places (within-members (length lists) places (λ p m.
+          let pairs = pairs_from 0 (map items_in records) in
+          let of_pair = Member-from_map (λ (pair : ℕ × ℕ). pair.1) p (pairs_with number pairs) (subst (Member p) (of ∙ are.held.at number) m) in
+          let from = Member-from_filter (λ (pair : ℕ × ℕ). int_eq number (pos pair.0)) of_pair.0 pairs of_pair.1 in
+          let below = pairs-below 0 (map items_in records) of_pair.0 from.0 in
+          let at : of_pair.0.1 ≡ p = of_pair.2 in
+          let many : length lists ≡ length (map items_in records) = ap length are.lists in
+          omega (arith, many, below, at)));
+    }
+
+pub Finds-sets : (records : List (List (ℕ × ℤ))) (vs : List (Vec Item Global)) (holders : Holders) (places : List ℕ)
+    (key : List ℤ) → AreSets records vs holders
+    → (number : ℤ) × Contains key number × (places ≡ places_of holders number)
+    → Finds records key (found_at (lists_of vs) places)
+Finds-sets records vs holders places key are rare = record {
+  number = rare.0;
+  part = rare.1;
+  is = found-sets records vs holders places rare.0 are rare.2;
+}
 
 -- a key that is among items has each of its numbers there
 pub among-part : (items : List ℕ) (key : List ℤ) (number : ℤ) → Member number key → is_among items number ≡ false → are_among items key ≡ false
