@@ -7,19 +7,12 @@ ghost use Rattle.hu_closed.specs.ClosedOnly.{IsRankingOf};
 use crate::{ClosedOnly, RecordSets};
 use hu_base::Base;
 use hu_collect::{All, Collect};
-use hu_kind::{Cell, Entry, Item, Key, NoMemory, Record};
+use hu_kind::{Entry, Key, NoMemory};
+use hu_sample::{BASE_A, base_of};
 use hu_totals::{Ranked, Totals};
 use std::alloc::Global;
 use std::process::Abort;
 use std::test::Fail;
-
-const BASE_A: [&[(u32, i128)]; 5] = [
-    &[(1, 5), (2, 10), (3, 1), (4, 6), (5, 3), (6, 5)],
-    &[(2, 8), (3, 3), (4, 6), (5, 3)],
-    &[(1, 5), (3, 1), (4, 2)],
-    &[(1, 10), (3, 6), (5, 6), (7, 5)],
-    &[(2, 4), (3, 2), (5, 3), (7, 2)],
-];
 
 /// A key, its support and whether it is closed.
 type Told<'a> = (&'a [i64], u64, bool);
@@ -50,28 +43,6 @@ const OFFERS: [Offer<'static>; 4] = [
     (&[2, 3, 5], 37, 3),
     (&[3], 13, 5),
 ];
-
-/// The record of these items with their values.
-fn record_of(alloc: Global, pairs: &[(u32, i128)]) -> Result<Option<Record>, NoMemory> {
-    let mut cells = Vec::new(alloc);
-    for (item, value) in pairs {
-        cells.push(Cell {
-            item: Item(*item),
-            value: *value,
-        })?;
-    }
-    Ok(Record::new(cells))
-}
-
-/// Base A.
-fn base_a(rt: &impl Abort, alloc: Global) -> Result<Base<Record>, Fail> {
-    let mut base = Base::after(alloc, 0);
-    for pairs in &BASE_A {
-        let record = record_of(alloc, pairs)?.expect(rt, "a record");
-        base.add(record)?;
-    }
-    Ok(base)
-}
 
 /// The key of these numbers.
 fn key_of(alloc: Global, numbers: &[i64]) -> Result<Key, NoMemory> {
@@ -138,7 +109,7 @@ struct Small {
 fn small_base(rt: &impl Abort, alloc: Global) -> Result<Small, Fail>
     ensures { IfOk result (λ small. IsRankingOf small.sets small.ranked) }
 {
-    let base = base_a(rt, alloc)?;
+    let base = base_of(alloc, &BASE_A)?.expect(rt, "a base");
     let totals = Totals::of(alloc, &base)?;
     let sets = RecordSets::of(alloc, &base)?;
     let ranked = Ranked::of(alloc, &base, &totals, 30)?;
@@ -199,7 +170,8 @@ fn expect_opens(
 
 #[test]
 fn keys_of_base_a(rt: HostRuntime) -> Result<(), Fail> {
-    let sets = RecordSets::of(rt.alloc(), &base_a(&rt, rt.alloc())?)?;
+    let base = base_of(rt.alloc(), &BASE_A)?.expect(&rt, "a base");
+    let sets = RecordSets::of(rt.alloc(), &base)?;
     for told in &KEYS {
         expect_told(&rt, rt.alloc(), &sets, told)?;
     }
