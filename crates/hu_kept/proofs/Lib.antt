@@ -8,3 +8,6 @@ pub mod ChangeLemmas
 pub mod HeldLemmas
 pub mod ClosedParts
 pub mod RenewalLemmas
+pub mod SharedLemmas
+pub mod SharedPatterns
+pub mod SharedRecords

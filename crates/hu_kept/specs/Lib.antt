@@ -4,4 +4,6 @@ pub mod Changes
 pub mod Touched
 pub mod Laws
 pub mod Entries
+pub mod Shared
+pub mod Start
 pub mod Worked

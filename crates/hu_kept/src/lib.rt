@@ -7,6 +7,7 @@
 #![tactic(auto)]
 
 mod aim;
+mod batch;
 mod changes;
 mod gates;
 mod held;
@@ -14,6 +15,8 @@ mod kept;
 mod laws;
 mod renewal;
 mod search;
+mod shared;
+mod start;
 mod touched;
 
 pub use changes::Changes;
