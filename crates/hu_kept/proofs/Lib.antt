@@ -11,3 +11,5 @@ pub mod RenewalLemmas
 pub mod SharedLemmas
 pub mod SharedPatterns
 pub mod SharedRecords
+pub mod HolderLemmas
+pub mod PlaceLemmas

@@ -1,10 +1,11 @@
 -- What records share with a batch are records, with no greater sums, and what the totals of a batch say of its items.
 use Rattle.std.proofs.Common.{◌≡◌, ◌∙◌, ℕ, zero, suc, ◌+◌, ◌<◌, ◌≤◌, ℤ, unsigned_abs, Bool, true, false, cond, eqb, nat_eq}
-use Rattle.std.proofs.Common.{List, [], ◌∷◌, ◌++◌, ◌||◌, Some, map, take, drop, length, get_or, refl, sym, ap, subst, inl, inr, arith, add-one, filter, flat_map, sum_by, is_some}
+use Rattle.std.proofs.Common.{List, [], ◌∷◌, ◌++◌, ◌||◌, Some, map, take, drop, length, get_or, refl, sym, ap, subst, inl, inr, arith, add-one, append-nil, filter, flat_map, sum_by, is_some}
 use Rattle.std.specs.List.{All, AllByRecursion, list_any}
 use Rattle.std.specs.Map.{lookup}
 use Rattle.std.proofs.lemmas.Bool.{eq-eqb, eqb-true}
 use Rattle.std.proofs.lemmas.List.{take-append-drop, take_more}
+use Rattle.std.proofs.lemmas.List.Concat.{flat_map-append}
 use Rattle.std.proofs.lemmas.List.Elements.{recursion_from_All}
 use Rattle.std.proofs.lemmas.List.Sums.{sum_by-append, sum_by-cons}
 use Rattle.hu_kind.specs.Order.{Ascend}
@@ -16,7 +17,7 @@ use Rattle.hu_totals.specs.Totals.{first_seen, item_totals, total_of}
 use Rattle.hu_totals.proofs.lemmas.AddingLemmas.{Member-first_seen, Member-from_first_seen}
 use Rattle.hu_totals.proofs.lemmas.RankingRules.{All-from_each}
 use Rattle.hu_totals.proofs.lemmas.RecordCells.{Ascend-record}
-use Rattle.hu_kept.specs.Shared.{occurs_in, shared, shared_cells, some_of}
+use Rattle.hu_kept.specs.Shared.{batch_items, occurs_in, shared, shared_at, shared_cells, some_of}
 use Rattle.hu_kept.proofs.SharedLemmas.{any-member}
 
 module _ (p : ℕ × ℤ → Bool) where
@@ -102,27 +103,32 @@ sum-shared batch (r ∷ rs) =
       sum-shared batch rs,
     )
 
-sum-take : (n : ℕ) (records : List (List (ℕ × ℤ))) → sum_by absolute_of (take n records) ≤ sum_by absolute_of records
-sum-take n records =
-    omega (arith, sum_by-append absolute_of (take n records) (drop n records), ap (sum_by absolute_of) (take-append-drop n records))
-
--- what was shared so far and what the next record shares
-pub sum-next : (batch records : List (List (ℕ × ℤ))) (i : ℕ) (next : List (ℕ × ℤ)) (before : List (List (ℕ × ℤ)))
-    → i < length records → next ≡ get_or records i next → before ≡ shared batch (take i records)
-    → sum_by absolute_of before + absolute_of (shared_cells batch next) ≤ sum_by absolute_of records
-sum-next batch records i next before within is so_far =
-    let one = sum_by-cons absolute_of next [] in
-    let more : sum_by absolute_of (take (i + 1) records) ≡ sum_by absolute_of (take i records ++ next ∷ []) =
-    ap (sum_by absolute_of) (take_more records i next within ∙ ap (λ r. take i records ++ r ∷ []) (sym is)) in
+-- what was shared so far and what the record at the next place shares
+pub sum-next : (batch records : List (List (ℕ × ℤ))) (places : List ℕ) (i : ℕ) (before : List (List (ℕ × ℤ)))
+    → i < length places → before ≡ shared_at batch records (take i places)
+    → shared_at batch records places ≡ shared batch records
+    → sum_by absolute_of before + absolute_of (shared_cells batch (get_or records (get_or places i 0) [])) ≤ sum_by absolute_of records
+sum-next batch records places i before within so_far whole =
+    let place = get_or places i 0 in
+    let share : ℕ → List (List (ℕ × ℤ)) = λ place. some_of (shared_cells batch (get_or records place [])) in
+    let front = take (i + 1) places in
+    let rest = drop (i + 1) places in
+    let parts : shared_at batch records places ≡ (shared_at batch records (take i places) ++ share place) ++ shared_at batch records rest =
+    ap (shared_at batch records) (sym (take-append-drop (i + 1) places))
+    ∙ flat_map-append share front rest
+    ∙ ap (λ rs. rs ++ shared_at batch records rest)
+    (ap (shared_at batch records) (take_more places i 0 within)
+    ∙ flat_map-append share (take i places) (place ∷ [])
+    ∙ ap (λ rs. shared_at batch records (take i places) ++ rs) (append-nil (share place))) in
     omega (
       arith,
       ap (sum_by absolute_of) so_far,
-      sum-shared batch (take i records),
-      absolute-few (λ cell. occurs_in batch cell.0) next,
-      one,
-      more,
-      sum_by-append absolute_of (take i records) (next ∷ []),
-      sum-take (i + 1) records,
+      ap (sum_by absolute_of) parts,
+      ap (sum_by absolute_of) whole,
+      sum-shared batch records,
+      sum-some (shared_cells batch (get_or records place [])),
+      sum_by-append absolute_of (shared_at batch records (take i places)) (share place),
+      sum_by-append absolute_of (shared_at batch records (take i places) ++ share place) (shared_at batch records rest),
     )
 
 -- ---- the items of a batch
@@ -136,7 +142,7 @@ any-found p (x ∷ xs) h = by (p x) refl h (any-found p xs)
     by true e k ih = (x, inl refl, e)
     by false e k ih = let r = ih k in (r.0, inr r.1, r.2)
 
-member-has : (item : ℕ) (cells : List (ℕ × ℤ)) → Member item (items_in cells) → has item cells ≡ true
+pub member-has : (item : ℕ) (cells : List (ℕ × ℤ)) → Member item (items_in cells) → has item cells ≡ true
 member-has item cells m =
     let cell = Member-from_map (λ (c : ℕ × ℤ). c.0) item cells m in
     any-member (λ c. eqb item c.0) cell.0 cells cell.1 (eq-eqb item cell.0.0 (sym cell.2))
@@ -151,6 +157,11 @@ found-keys f item (key ∷ keys) = by (eqb item key) (found-keys f item keys)
     by true ih = refl
     by false ih = ih
 
+pub occurs-member : (records : List (List (ℕ × ℤ))) (item : ℕ) → occurs_in records item ≡ true → Member item (batch_items records)
+occurs-member records item h =
+    let r = any-found (has item) records h in
+    Member-first_seen item (flat_map items_in records) (Member-flat_map items_in r.0 item records r.1 (has-member item r.0 r.2))
+
 pub occurs-totals : (records : List (List (ℕ × ℤ))) (item : ℕ) → is_some (lookup (nat_eq item) (item_totals records)) ≡ occurs_in records item
 occurs-totals records item =
     let seen = first_seen (flat_map items_in records) in
@@ -159,10 +170,7 @@ occurs-totals records item =
     let m = Member-from_first_seen key.0 (flat_map items_in records) key.1 in
     let r = Member-from_flat_map items_in key.0 records m in
     any-member (has item) r.0 records r.1 (member-has item r.0 (subst (λ i. Member i (items_in r.0)) (sym (eqb-true item key.0 key.2)) r.2))) (λ h.
-    let r = any-found (has item) records h in
-    any-member (eqb item) item seen
-    (Member-first_seen item (flat_map items_in records) (Member-flat_map items_in r.0 item records r.1 (has-member item r.0 r.2)))
-    (eq-eqb item item refl))
+    any-member (eqb item) item seen (occurs-member records item h) (eq-eqb item item refl))
   where
     same : (a b : Bool) → (a ≡ true → b ≡ true) → (b ≡ true → a ≡ true) → a ≡ b
     same true b f g = sym (f refl)

@@ -5,5 +5,6 @@ pub mod Touched
 pub mod Laws
 pub mod Entries
 pub mod Shared
+pub mod Holders
 pub mod Start
 pub mod Worked

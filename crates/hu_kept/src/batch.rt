@@ -1,8 +1,8 @@
 //! A batch while it is appended.
 
-ghost use Rattle.std.specs.Prelude.{◌≡◌, IfOk};
+ghost use Rattle.std.specs.Prelude.{◌≡◌, ◌<◌, length, slice_index, IfOk};
 ghost use Rattle.hu_base.specs.Base.{records_of};
-ghost use Rattle.hu_kept.specs.Shared.{occurs_in};
+ghost use Rattle.hu_kept.specs.Shared.{batch_items, occurs_in};
 
 use hu_base::Base;
 use hu_closed::RecordSets;
@@ -53,5 +53,23 @@ impl Batch {
         ensures { result ≡ occurs_in self.now item.0 }
     {
         self.totals.item(item).is_some()
+    }
+
+    /// How many items its records hold.
+    pub(crate) fn len(&self) -> usize
+        ensures { result ≡ length (batch_items self.now) }
+    {
+        self.totals.len()
+    }
+
+    /// The item at a place, counted from 0 in first-seen order.
+    pub(crate) fn item(&self, index: usize) -> Item
+        requires { index < length (batch_items self.now) }
+        ensures { result.0 ≡ slice_index (batch_items self.now) index }
+    {
+        match self.totals.at(index) {
+            Some((item, _)) => item,
+            None => unreachable!(),
+        }
     }
 }

@@ -13,6 +13,7 @@ use crate::batch::Batch;
 use crate::changes::Changes;
 use crate::gates::{Gates, Pairs};
 use crate::held::{Held, copies};
+use crate::holders::Holders;
 use crate::renewal::renewed;
 use hu_base::Base;
 use hu_kind::{Entry, Key, NoMemory, Record};
@@ -44,6 +45,7 @@ impl From<NoMemory> for AppendFault {
 #[derive(Drop)]
 pub struct Kept {
     records: Base<Record>,
+    holders: Holders,
     aim: Aim,
     entries: IndexMap<Key, Held>,
     alloc: Global,
@@ -58,7 +60,7 @@ impl Model for Kept {
 
     ghost view = { λ k. keeping k.aim (records_of k.records) };
 
-    ghost invariant = { λ k. IsKeeping k.aim k.records k.entries.entries };
+    ghost invariant = { λ k. IsKeeping k.aim k.records k.holders k.entries.entries };
 }
 
 impl Kept {
@@ -70,6 +72,7 @@ impl Kept {
     {
         Kept {
             records: Base::after(alloc, 0),
+            holders: Holders::none(alloc),
             aim: Aim { least, top, closed },
             entries: IndexMap::new(alloc),
             alloc,
@@ -108,6 +111,7 @@ impl Kept {
     {
         self.room(&batch)?;
         let touched = self.touched(&batch)?;
+        self.holders.note(self.alloc, &self.records)?;
         let count = self.records.records().len();
         if let Err(_fault) = self.records.join(batch) {
             return Err(AppendFault::NoMemory);
@@ -118,6 +122,7 @@ impl Kept {
             self.aim,
             &self.entries,
             touched.as_ref(),
+            &self.holders,
             gates,
         );
         match entries {

@@ -11,6 +11,7 @@ mod batch;
 mod changes;
 mod gates;
 mod held;
+mod holders;
 mod kept;
 mod laws;
 mod renewal;

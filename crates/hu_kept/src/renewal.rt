@@ -1,6 +1,6 @@
 //! The answer after an append.
 
-ghost use Rattle.std.specs.Prelude.{◌≡◌, ◌≤ℤ◌, [], ◌∷◌, if◌then◌else◌, IfOk, IfSome, OnOk, None, option_copied};
+ghost use Rattle.std.specs.Prelude.{◌≡◌, ◌≤ℤ◌, [], ◌∷◌, ◌++◌, if◌then◌else◌, IfOk, IfSome, OnOk, None, option_copied};
 ghost use Rattle.hu_kind.specs.Itemsets.{closed_patterns};
 ghost use Rattle.hu_base.specs.Base.{records_of};
 ghost use Rattle.hu_collect.specs.Rule.{made, rule_of, floor_of};
@@ -16,6 +16,7 @@ use crate::aim::Aim;
 use crate::batch::Batch;
 use crate::gates::Gates;
 use crate::held::{Held, by_key};
+use crate::holders::Holders;
 use crate::search::searched;
 use crate::shared::shared;
 use crate::start::start_of;
@@ -27,23 +28,25 @@ use hu_totals::{RankOrder, Ranked, Totals};
 use indexmap::IndexMap;
 use std::alloc::Global;
 
-/// The entries of all records by their keys. `touched` is a batch that continues the old entries; where there is none, the
-/// entries are searched anew.
+/// The entries of all records by their keys. `touched` is a batch that continues the old entries, after the records that the
+/// holders have noted; where there is none, the entries are searched anew.
 pub(crate) fn renewed<G: Gates>(
     alloc: Global,
     base: &Base<Record>,
     aim: Aim,
     old: &IndexMap<Key, Held>,
     touched: Option<&Batch>,
+    holders: &Holders,
     gates: &G,
 ) -> Result<IndexMap<Key, Held>, NoMemory>
     requires aim { IsAim aim }
     requires continues { IfSome touched (λ batch. Continues aim (records_of base.now)
         (entries_from old.now.entries) batch.now) }
+    requires noted { IfSome touched (λ batch. holders.now ++ batch.now ≡ records_of base.now) }
     ensures { IfOk result (λ held. entries_from held.entries
         ≡ answer_of (keeping aim (records_of base.now))) }
 {
-    let entries = new_entries(alloc, base, aim, old, touched, gates)?;
+    let entries = new_entries(alloc, base, aim, old, touched, holders, gates)?;
     by_key(alloc, entries)
 }
 
@@ -54,15 +57,17 @@ fn new_entries<G: Gates>(
     aim: Aim,
     old: &IndexMap<Key, Held>,
     touched: Option<&Batch>,
+    holders: &Holders,
     gates: &G,
 ) -> Result<Vec<Entry>, NoMemory>
     requires aim { IsAim aim }
     requires continues { IfSome touched (λ batch. Continues aim (records_of base.now)
         (entries_from old.now.entries) batch.now) }
+    requires noted { IfSome touched (λ batch. holders.now ++ batch.now ≡ records_of base.now) }
     ensures { IfOk result (λ entries. entries.items ≡ answer_of (keeping aim (records_of base.now))) }
 {
     match touched {
-        Some(batch) => continued(alloc, base, aim, old, batch, gates),
+        Some(batch) => continued(alloc, base, aim, old, batch, holders, gates),
         None => anew(alloc, base, aim, gates),
     }
 }
@@ -91,13 +96,16 @@ fn continued<G: Gates>(
     aim: Aim,
     old: &IndexMap<Key, Held>,
     batch: &Batch,
+    holders: &Holders,
     gates: &G,
 ) -> Result<Vec<Entry>, NoMemory>
     requires aim { IsAim aim }
     requires continues { Continues aim (records_of base.now) (entries_from old.now.entries) batch.now }
+    requires noted { holders.now ++ batch.now ≡ records_of base.now }
     ensures { IfOk result (λ entries. entries.items ≡ answer_of (keeping aim (records_of base.now))) }
 {
-    let narrow = shared(alloc, base, batch)?;
+    let places = holders.places(alloc, batch, base.records().len())?;
+    let narrow = shared(alloc, base, &places, batch)?;
     let totals = Totals::of(alloc, &narrow)?;
     let sets = batch.sets();
     let collect = with_untouched(alloc, aim, old, sets)?;
