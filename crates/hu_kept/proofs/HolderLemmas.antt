@@ -22,7 +22,8 @@ same item other = eqb item other.0
 
 module _ (item p : ℕ) where
   -- one item more
-  pub listed-item : (items : List Item) (lists : List (Vec ℕ Global)) (last : Item) → Member p (listed items lists item) → Member p (listed (items ++ last ∷ []) lists item)
+  pub listed-item : (items : List Item) (lists : List (Vec ℕ Global)) (last : Item) → Member p (listed items lists item)
+      → Member p (listed (items ++ last ∷ []) lists item)
   listed-item [] lists last m = absurd m
   listed-item (x ∷ xs) [] last m = absurd m
   listed-item (x ∷ xs) (l ∷ ls) last m = by (eqb item x.0) (listed-item xs ls last) m
@@ -33,7 +34,8 @@ module _ (item p : ℕ) where
       by false ih k = ih k
 
   -- one list more
-  pub listed-list : (items : List Item) (lists : List (Vec ℕ Global)) (last : Vec ℕ Global) → Member p (listed items lists item) → Member p (listed items (lists ++ last ∷ []) item)
+  pub listed-list : (items : List Item) (lists : List (Vec ℕ Global)) (last : Vec ℕ Global) → Member p (listed items lists item)
+      → Member p (listed items (lists ++ last ∷ []) item)
   listed-list [] lists last m = absurd m
   listed-list (x ∷ xs) [] last m = absurd m
   listed-list (x ∷ xs) (l ∷ ls) last m = by (eqb item x.0) (listed-list xs ls last) m
@@ -166,7 +168,9 @@ module _ (items items' : List Item) (lists : List (Vec ℕ Global)) (last : Item
       by false k = listed-item item p items lists' last k
 
   found : (list_any (same last.0) items' ≡ true) × (position_or_len (same last.0) items' ≡ number)
-  found = subst (λ keys'. (list_any (same last.0) keys' ≡ true) × (position_or_len (same last.0) keys' ≡ number)) (sym keys) (by (list_any (same last.0) items) refl)
+  found =
+      subst (λ keys'. (list_any (same last.0) keys' ≡ true) × (position_or_len (same last.0) keys' ≡ number)) (sym keys)
+      (by (list_any (same last.0) items) refl)
     where
       by : (b : Bool) → list_any (same last.0) items ≡ b → (list_any (same last.0) (cond b items (items ++ last ∷ [])) ≡ true)
           × (position_or_len (same last.0) (cond b items (items ++ last ∷ [])) ≡ number)
@@ -223,7 +227,8 @@ lists-next records i cells old new within is all l place item h = by (cases_orde
         ∙ get_or-within records i [] cells within ∙ sym is in
         subst (Contains (listed_in new item)) (sym here) (l.own item (ap (has item) (sym same') ∙ k))
     by (inr (inr upper)) k =
-        let none : get_or (take (i + 1) records) place [] ≡ [] = get_or_past (take (i + 1) records) place [] (omega (arith, length-take-le (i + 1) records (omega arith))) in
+        let none : get_or (take (i + 1) records) place [] ≡ [] =
+        get_or_past (take (i + 1) records) place [] (omega (arith, length-take-le (i + 1) records (omega arith))) in
         let no : false ≡ true = ap (has item) (sym none) ∙ k in
         cc
 

@@ -1,5 +1,6 @@
 -- The records at places that rise share with a batch what all records do, where each that holds an item of it is among them.
-use Rattle.std.proofs.Common.{◌≡◌, ◌∙◌, ℕ, suc, ◌+◌, ◌-◌, ◌<◌, ◌≤◌, ℤ, true, false, List, [], ◌∷◌, ◌++◌, length, get_or, refl, sym, ap, subst, inl, inr, arith, flat_map, Contains}
+use Rattle.std.proofs.Common.{◌≡◌, ◌∙◌, ℕ, suc, ◌+◌, ◌-◌, ◌<◌, ◌≤◌, ℤ, true, false, List, [], ◌∷◌, ◌++◌, length, get_or}
+use Rattle.std.proofs.Common.{refl, sym, ap, subst, inl, inr, arith, flat_map, Contains}
 use Rattle.std.specs.List.{AllByRecursion}
 use Rattle.std.specs.List.Sorted.{IsStrictlyIncreasing}
 use Rattle.std.proofs.lemmas.Bool.{cases_lt, cases_order}
@@ -49,7 +50,8 @@ module _ (f : List (ℕ × ℤ) → List (List (ℕ × ℤ))) (nothing : f [] �
   abbrev Whole : ℕ → List (List (ℕ × ℤ)) → List ℕ → Type 0
   Whole from records places = (p : ℕ) → from ≤ p → (f (get_or records (p - from) []) ≡ [] → ⊥) → Member p places
 
-  Whole-later : (from : ℕ) (r : List (ℕ × ℤ)) (records : List (List (ℕ × ℤ))) (places : List ℕ) → Whole from (r ∷ records) places → Whole (suc from) records places
+  Whole-later : (from : ℕ) (r : List (ℕ × ℤ)) (records : List (List (ℕ × ℤ))) (places : List ℕ) → Whole from (r ∷ records) places
+      → Whole (suc from) records places
   Whole-later from r records places whole p low some =
       let here : p - from ≡ suc (p - suc from) = omega (arith, low) in
       whole p (omega (arith, low)) (λ e. some (sym (ap (λ k. f (get_or (r ∷ records) k [])) here) ∙ e))
@@ -121,7 +123,8 @@ each-least : (places : List ℕ) → AllByRecursion (λ p. 0 ≤ p) places
 each-least [] = tt
 each-least (p ∷ ps) = (omega arith, each-least ps)
 
-pub shared_at-all : (batch records : List (List (ℕ × ℤ))) (places : List ℕ) → AreHolders batch records places → shared_at batch records places ≡ shared batch records
+pub shared_at-all : (batch records : List (List (ℕ × ℤ))) (places : List ℕ) → AreHolders batch records places
+    → shared_at batch records places ≡ shared batch records
 shared_at-all batch records places h =
     let share : List (ℕ × ℤ) → List (List (ℕ × ℤ)) = λ cells. some_of (shared_cells batch cells) in
     given-start share records places

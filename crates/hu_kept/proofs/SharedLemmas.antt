@@ -109,7 +109,8 @@ module _ (batch : List (List (ℕ × ℤ))) where
           let ih = support-shared rs in
           omega (arith, support-append first (shared batch rs) items, sum_by-cons (λ y. cond (holds items y) 1 0) r rs, here, ih)
 
-      goes_with-shared : (i : ℕ) → occurs_in batch i ≡ true → (records : List (List (ℕ × ℤ))) → goes_with (shared batch records) items i ≡ goes_with records items i
+      goes_with-shared : (i : ℕ) → occurs_in batch i ≡ true → (records : List (List (ℕ × ℤ)))
+          → goes_with (shared batch records) items i ≡ goes_with records items i
       goes_with-shared i h [] = refl
       goes_with-shared i h (r ∷ rs) =
           let first = some_of (shared_cells batch r) in

@@ -1,6 +1,7 @@
 -- What records share with a batch are records, with no greater sums, and what the totals of a batch say of its items.
 use Rattle.std.proofs.Common.{◌≡◌, ◌∙◌, ℕ, zero, suc, ◌+◌, ◌<◌, ◌≤◌, ℤ, unsigned_abs, Bool, true, false, cond, eqb, nat_eq}
-use Rattle.std.proofs.Common.{List, [], ◌∷◌, ◌++◌, ◌||◌, Some, map, take, drop, length, get_or, refl, sym, ap, subst, inl, inr, arith, add-one, append-nil, filter, flat_map, sum_by, is_some}
+use Rattle.std.proofs.Common.{List, [], ◌∷◌, ◌++◌, ◌||◌, Some, map, take, drop, length, get_or}
+use Rattle.std.proofs.Common.{refl, sym, ap, subst, inl, inr, arith, add-one, append-nil, filter, flat_map, sum_by, is_some}
 use Rattle.std.specs.List.{All, AllByRecursion, list_any}
 use Rattle.std.specs.Map.{lookup}
 use Rattle.std.proofs.lemmas.Bool.{eq-eqb, eqb-true}
