@@ -80,7 +80,9 @@ impl Kept {
     }
 
     /// Appends the records of a batch, whose carried sum isn't counted, and tells how the answer changed. After a refusal
-    /// the kept answer is as before, and the batch is dropped.
+    /// the kept answer is as before, and the batch is dropped. The first append, and one with a value below 0 where there is
+    /// a limit, mines all records. Another one looks up the items of the records of the last append, and the records that
+    /// hold an item of the batch; it ranks these items and searches what the records hold of them. It copies the entries.
     pub fn append(&mut self, batch: Base<Record>) -> Result<Changes, AppendFault>
         ensures ok { OnOk result (self.new ≡ with_batch self.old (records_of batch)) }
         ensures changes { IfOk result (λ told. told ≡ changes (answer_of self.old)
