@@ -16,7 +16,7 @@ use Rattle.hu_kept.specs.Laws.{KeepsUntouched, KeepsClosedness, StaysClosed, Nev
 
 -- ---- tests of all elements
 
-all-at : {A : Type 0} (p : A → Bool) (x : A) (xs : List A) → list_all p xs ≡ true → Member x xs → p x ≡ true
+pub all-at : {A : Type 0} (p : A → Bool) (x : A) (xs : List A) → list_all p xs ≡ true → Member x xs → p x ≡ true
 all-at p x [] h m = absurd m
 all-at p x (y ∷ ys) h (inl e) = ap p (sym e) ∙ (and_parts (p y) (list_all p ys) h).0
 all-at p x (y ∷ ys) h (inr m) = all-at p x ys (and_parts (p y) (list_all p ys) h).1 m
@@ -34,7 +34,7 @@ pub utility-append : (records batch : List (List (ℕ × ℤ))) (items : List �
 utility-append [] batch items = omega (arith, ints)
 utility-append (r ∷ rs) batch items = let ih = utility-append rs batch items in omega (arith, ints, ih)
 
-goes_with-append : (records batch : List (List (ℕ × ℤ))) (items : List ℕ) (i : ℕ) → goes_with (records ++ batch) items i
+pub goes_with-append : (records batch : List (List (ℕ × ℤ))) (items : List ℕ) (i : ℕ) → goes_with (records ++ batch) items i
     ≡ (goes_with records items i && goes_with batch items i)
 goes_with-append records batch items i = list_all-append (λ r. not (holds items r) || has i r) records batch
 
@@ -72,10 +72,10 @@ keeps_untouched records batch items h = (
 -- ---- closed sets
 
 -- an item of a set
-abbrev inside : ℕ → List ℕ → Bool
+abbrev pub inside : ℕ → List ℕ → Bool
 inside i items = list_any (λ j. eqb i j) items
 
-closed-from : (records : List (List (ℕ × ℤ))) (items : List ℕ)
+pub closed-from : (records : List (List (ℕ × ℤ))) (items : List ℕ)
     → ((i : ℕ) → inside i items ≡ false → goes_with records items i ≡ false) → is_closed records items ≡ true
 closed-from records items f = all-from (λ i. inside i items || not (goes_with records items i)) (items_of records) (λ i. by i (inside i items) refl)
   where
@@ -92,7 +92,7 @@ goes_with-occurs records items i held h =
     let here : has i found.0 ≡ true = rw (found.2) at one in
     Member-ranking i (flat_map items_in records) (Member-flat_map items_in found.0 i records found.1 (has-member i found.0 here))
 
-closed-at : (records : List (List (ℕ × ℤ))) (items : List ℕ) → 0 < support records items → is_closed records items ≡ true
+pub closed-at : (records : List (List (ℕ × ℤ))) (items : List ℕ) → 0 < support records items → is_closed records items ≡ true
     → (i : ℕ) → inside i items ≡ false → goes_with records items i ≡ false
 closed-at records items held closed i out = by (goes_with records items i) refl
   where

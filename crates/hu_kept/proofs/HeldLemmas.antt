@@ -1,11 +1,13 @@
 -- Entries that are put into a map one after another, each key once, stand there in their order.
-use Rattle.std.proofs.Common.{◌≡◌, ◌∙◌, ℤ, false, List, [], ◌∷◌, ◌++◌, map, refl, sym, ap, subst, append_assoc}
+use Rattle.std.proofs.Common.{◌≡◌, ◌∙◌, ℕ, ℤ, false, List, [], ◌∷◌, ◌++◌, length, map, take, refl, sym, ap, subst, append_assoc, arith}
 use Rattle.std.specs.List.{AllByRecursion, IsDistinct}
 use Rattle.std.specs.Ordering.{int_eq}
 use lib.Pointwise.{pointwise}
+use Rattle.std.proofs.lemmas.List.{take-append-le, take_all}
 use Rattle.std.proofs.lemmas.Cmp.{int_eq_equiv, lists_equiv}
 use Rattle.indexmap.specs.IndexMap.{insert_entry}
 use Rattle.hu_kind.specs.declared.entry.Entry.{Entry}
+use Rattle.hu_base.specs.Base.{carried_of, records_of}
 use Rattle.hu_kept.specs.declared.held.Held.{Held}
 use Rattle.hu_kept.specs.Entries.{entries_from, entry_from, held_of}
 
@@ -35,3 +37,12 @@ put-new held new entry rest all apart whole one same is =
     ∙ ap (λ es. es ++ rest) (insert-new held entry rest distinct)
     ∙ append_assoc (entries_from held) (entry ∷ []) rest
     ∙ whole
+
+-- a base that was joined with another and cut to its length is as before
+pub shortened : (old : ℕ × List (List (ℕ × ℤ))) (batch : List (List (ℕ × ℤ))) (n : ℕ) (joined new : ℕ × List (List (ℕ × ℤ)))
+    → joined ≡ (carried_of old, records_of old ++ batch) → n ≡ length (records_of old) → new ≡ (carried_of joined, take n (records_of joined)) → new ≡ old
+shortened old batch n joined new is long cut =
+    cut
+    ∙ (λ j. (carried_of (is j), take (long j) (records_of (is j))))
+    ∙ ap (λ records. (carried_of old, records)) (take-append-le (length (records_of old)) (records_of old) batch (omega arith)
+    ∙ take_all (length (records_of old)) (records_of old) (omega arith))

@@ -8,3 +8,8 @@ pub mod ChangeLemmas
 pub mod HeldLemmas
 pub mod ClosedParts
 pub mod RenewalLemmas
+pub mod SharedLemmas
+pub mod SharedPatterns
+pub mod SharedRecords
+pub mod HolderLemmas
+pub mod PlaceLemmas

@@ -53,7 +53,7 @@ Member-from_pattern false records entry p =
     (Member-map (item_entry records) p.items (occurring_sets records) (Member-from_occurs records p.items p.occurs))
 
 -- an entry is told by its utility and its support
-entry-same : (records others : List (List (ℕ × ℤ))) (items : List ℕ) → utility records items ≡ utility others items
+pub entry-same : (records others : List (List (ℕ × ℤ))) (items : List ℕ) → utility records items ≡ utility others items
     → support records items ≡ support others items
     → item_entry others items ≡ item_entry records items
 entry-same records others items u s = (λ j. record { key = map pos items; utility = sym u j; support = sym s j })

@@ -27,6 +27,7 @@ use Rattle.std.specs.Ordering.{int_eq}
 use lib.Pointwise.{pointwise}
 use Rattle.hu_kind.specs.declared.entry.Entry.{Entry}
 use Rattle.hu_base.specs.Base.{carried_of, records_of}
+use Rattle.hu_kept.specs.Holders.{IsFront}
 use Rattle.hu_kept.specs.Kept.{Keeping, answer_of}
 use Rattle.hu_kept.specs.Laws.{NoneBelow}
 use Rattle.hu_kept.specs.declared.aim.Aim.{Aim}
@@ -53,11 +54,13 @@ pub record IsAim (aim : Aim) : Type 0 where
   pub least : pos 1 ≤ℤ aim.least
   pub some : IfSome aim.top (λ k. 1 ≤ k)
 
--- the rules of a kept answer: nothing is counted that isn't there, and its entries are the answer of its records
-pub record IsKeeping (aim : Aim) (base : ℕ × List (List (ℕ × ℤ)))
+-- the rules of a kept answer: nothing is counted that isn't there, the first of its records are noted, and its entries are the
+-- answer of its records
+pub record IsKeeping (aim : Aim) (base : ℕ × List (List (ℕ × ℤ))) (noted : List (List (ℕ × ℤ)))
     (entries : List (List ℤ × Held)) : Type 0 where
   pub asked : IsAim aim
   pub own : carried_of base ≡ 0
+  pub front : IsFront noted (records_of base)
   pub answer : entries_from entries ≡ answer_of (keeping aim (records_of base))
 
 -- a batch whose records are the last ones, and old entries that are the answer of those before: without a limit or without a

@@ -4,4 +4,7 @@ pub mod Changes
 pub mod Touched
 pub mod Laws
 pub mod Entries
+pub mod Shared
+pub mod Holders
+pub mod Start
 pub mod Worked

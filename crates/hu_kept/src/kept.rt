@@ -1,6 +1,6 @@
 //! The kept answer.
 
-ghost use Rattle.std.specs.Prelude.{◌≡◌, ◌⊎◌, ◌+◌, ◌<◌, ◌≤◌, ◌^◌, pos, ◌≤ℤ◌, None, IfOk, IfSome, OnOk, OnErr, IsOkUnless};
+ghost use Rattle.std.specs.Prelude.{◌≡◌, ◌⊎◌, ◌+◌, ◌<◌, ◌≤◌, ◌^◌, false, pos, ◌≤ℤ◌, None, IfOk, IfSome, OnOk, OnErr, IsOkUnless};
 ghost use Rattle.std.specs.List.{list_any, sum_by};
 ghost use Rattle.hu_kind.specs.Record.{absolute_of, any_negative};
 ghost use Rattle.hu_base.specs.Base.{records_of};
@@ -9,12 +9,13 @@ ghost use Rattle.hu_kept.specs.Changes.{changes};
 ghost use Rattle.hu_kept.specs.Laws.{NoneBelow};
 
 use crate::aim::Aim;
+use crate::batch::Batch;
 use crate::changes::Changes;
 use crate::gates::{Gates, Pairs};
 use crate::held::{Held, copies};
+use crate::holders::Holders;
 use crate::renewal::renewed;
 use hu_base::Base;
-use hu_closed::RecordSets;
 use hu_kind::{Entry, Key, NoMemory, Record};
 use indexmap::IndexMap;
 use std::alloc::Global;
@@ -44,6 +45,7 @@ impl From<NoMemory> for AppendFault {
 #[derive(Drop)]
 pub struct Kept {
     records: Base<Record>,
+    holders: Holders,
     aim: Aim,
     entries: IndexMap<Key, Held>,
     alloc: Global,
@@ -58,7 +60,7 @@ impl Model for Kept {
 
     ghost view = { λ k. keeping k.aim (records_of k.records) };
 
-    ghost invariant = { λ k. IsKeeping k.aim k.records k.entries.entries };
+    ghost invariant = { λ k. IsKeeping k.aim k.records k.holders k.entries.entries };
 }
 
 impl Kept {
@@ -70,6 +72,7 @@ impl Kept {
     {
         Kept {
             records: Base::after(alloc, 0),
+            holders: Holders::none(alloc),
             aim: Aim { least, top, closed },
             entries: IndexMap::new(alloc),
             alloc,
@@ -77,7 +80,9 @@ impl Kept {
     }
 
     /// Appends the records of a batch, whose carried sum isn't counted, and tells how the answer changed. After a refusal
-    /// the kept answer is as before, and the batch is dropped.
+    /// the kept answer is as before, and the batch is dropped. The first append, and one with a value below 0 where there is
+    /// a limit, mines all records. Another one looks up the items of the records of the last append, and the records that
+    /// hold an item of the batch; it ranks these items and searches what the records hold of them. It copies the entries.
     pub fn append(&mut self, batch: Base<Record>) -> Result<Changes, AppendFault>
         ensures ok { OnOk result (self.new ≡ with_batch self.old (records_of batch)) }
         ensures changes { IfOk result (λ told. told ≡ changes (answer_of self.old)
@@ -107,7 +112,8 @@ impl Kept {
             → result ≡ Err (AppendFault.SumTooLarge (pos (sum_by absolute_of (self.old).records)) (pos (sum_by absolute_of (records_of batch)))) }
     {
         self.room(&batch)?;
-        let touched = touched_sets(self.alloc, self.aim.top, &batch)?;
+        let touched = self.touched(&batch)?;
+        self.holders.note(self.alloc, &self.records)?;
         let count = self.records.records().len();
         if let Err(_fault) = self.records.join(batch) {
             return Err(AppendFault::NoMemory);
@@ -118,6 +124,7 @@ impl Kept {
             self.aim,
             &self.entries,
             touched.as_ref(),
+            &self.holders,
             gates,
         );
         match entries {
@@ -140,6 +147,20 @@ impl Kept {
         copies(alloc, &self.entries)
     }
 
+    /// The batch, where it is enough to search the patterns that it touches. Where there are no records yet, all patterns
+    /// are touched. With a limit and a value below 0 it isn't enough: an entry of the first k may lose what it earned, and an
+    /// untouched pattern outside them may come in.
+    fn touched(&self, batch: &Base<Record>) -> Result<Option<Batch>, NoMemory>
+        ensures sets { IfOk result (λ found. IfSome found (λ one. one ≡ records_of batch.now)) }
+        ensures either { IfOk result (λ found. IfSome found
+            (λ one. ((self.now).top ≡ None) ⊎ NoneBelow (records_of batch.now))) }
+    {
+        if self.records.records().is_empty() || may_lose(self.aim.top, batch.records()) {
+            return Ok(None);
+        }
+        Ok(Some(Batch::of(self.alloc, batch)?))
+    }
+
     /// Refuses a batch with which the absolute sums would pass 2^127 - 1.
     fn room(&self, batch: &Base<Record>) -> Result<(), AppendFault>
         ensures fits { OnOk result (sum_by absolute_of (self.now).records + sum_by absolute_of
@@ -159,21 +180,11 @@ impl Kept {
     }
 }
 
-/// The record sets of a batch, where it is enough to search the patterns that it touches. With a limit and a value below 0
-/// it isn't: an entry of the first k may lose what it earned, and an untouched pattern outside them may come in.
-fn touched_sets(
-    alloc: Global,
-    top: Option<u32>,
-    batch: &Base<Record>,
-) -> Result<Option<RecordSets>, NoMemory>
-    ensures sets { IfOk result (λ found. IfSome found (λ sets. sets ≡ records_of batch.now)) }
-    ensures either { IfOk result
-        (λ found. IfSome found (λ sets. (top ≡ None) ⊎ NoneBelow (records_of batch.now))) }
+/// Whether there is a limit, and a value below 0, by which an entry may lose.
+fn may_lose(top: Option<u32>, records: &[Record]) -> bool
+    ensures { result ≡ false → (top ≡ None) ⊎ NoneBelow records.now }
 {
-    if top.is_some() && any_negative(batch.records()) {
-        return Ok(None);
-    }
-    Ok(Some(RecordSets::of(alloc, batch)?))
+    top.is_some() && any_negative(records)
 }
 
 /// Whether a record holds a value below 0.

@@ -1,20 +1,25 @@
 //! The answer after an append.
 
-ghost use Rattle.std.specs.Prelude.{◌≡◌, ◌≤ℤ◌, [], ◌∷◌, if◌then◌else◌, IfOk, IfSome, OnOk, None, option_copied};
+ghost use Rattle.std.specs.Prelude.{◌≡◌, ◌≤ℤ◌, [], ◌∷◌, ◌++◌, if◌then◌else◌, IfOk, IfSome, OnOk, None, option_copied};
 ghost use Rattle.hu_kind.specs.Itemsets.{closed_patterns};
 ghost use Rattle.hu_base.specs.Base.{records_of};
 ghost use Rattle.hu_collect.specs.Rule.{made, rule_of, floor_of};
 ghost use Rattle.hu_kept.specs.Limited.{rule_in, content_in};
 ghost use Rattle.hu_closed.specs.ClosedOnly.{IsRankingOf};
 ghost use Rattle.hu_totals.specs.Laws.{KeepsPatterns};
+ghost use Rattle.hu_totals.specs.Totals.{item_totals};
 ghost use Rattle.hu_kept.specs.Kept.{answer_of, patterns_of};
 ghost use Rattle.hu_kept.specs.Touched.{is_touched, untouched, within};
 ghost use Rattle.hu_kept.specs.Entries.{entries_from, entry_from, keeping, Continues, IsAim};
 
 use crate::aim::Aim;
+use crate::batch::Batch;
 use crate::gates::Gates;
 use crate::held::{Held, by_key};
+use crate::holders::Holders;
 use crate::search::searched;
+use crate::shared::shared;
+use crate::start::start_of;
 use hu_base::Base;
 use hu_closed::{ClosedOnly, RecordSets};
 use hu_collect::{Collect, Limited};
@@ -23,23 +28,25 @@ use hu_totals::{RankOrder, Ranked, Totals};
 use indexmap::IndexMap;
 use std::alloc::Global;
 
-/// The entries of all records by their keys. `touched` are the record sets of a batch that continues the old entries; where
-/// there are none, the entries are searched anew.
+/// The entries of all records by their keys. `touched` is a batch that continues the old entries, after the records that the
+/// holders have noted; where there is none, the entries are searched anew.
 pub(crate) fn renewed<G: Gates>(
     alloc: Global,
     base: &Base<Record>,
     aim: Aim,
     old: &IndexMap<Key, Held>,
-    touched: Option<&RecordSets>,
+    touched: Option<&Batch>,
+    holders: &Holders,
     gates: &G,
 ) -> Result<IndexMap<Key, Held>, NoMemory>
     requires aim { IsAim aim }
     requires continues { IfSome touched (λ batch. Continues aim (records_of base.now)
         (entries_from old.now.entries) batch.now) }
+    requires noted { IfSome touched (λ batch. holders.now ++ batch.now ≡ records_of base.now) }
     ensures { IfOk result (λ held. entries_from held.entries
         ≡ answer_of (keeping aim (records_of base.now))) }
 {
-    let entries = new_entries(alloc, base, aim, old, touched, gates)?;
+    let entries = new_entries(alloc, base, aim, old, touched, holders, gates)?;
     by_key(alloc, entries)
 }
 
@@ -49,21 +56,23 @@ fn new_entries<G: Gates>(
     base: &Base<Record>,
     aim: Aim,
     old: &IndexMap<Key, Held>,
-    touched: Option<&RecordSets>,
+    touched: Option<&Batch>,
+    holders: &Holders,
     gates: &G,
 ) -> Result<Vec<Entry>, NoMemory>
     requires aim { IsAim aim }
     requires continues { IfSome touched (λ batch. Continues aim (records_of base.now)
         (entries_from old.now.entries) batch.now) }
+    requires noted { IfSome touched (λ batch. holders.now ++ batch.now ≡ records_of base.now) }
     ensures { IfOk result (λ entries. entries.items ≡ answer_of (keeping aim (records_of base.now))) }
 {
     match touched {
-        Some(batch) => continued(alloc, base, aim, old, batch, gates),
+        Some(batch) => continued(alloc, base, aim, old, batch, holders, gates),
         None => anew(alloc, base, aim, gates),
     }
 }
 
-/// The entries of all records, searched anew.
+/// The entries of all records, searched from a start that serves them all.
 fn anew<G: Gates>(
     alloc: Global,
     base: &Base<Record>,
@@ -73,25 +82,42 @@ fn anew<G: Gates>(
     requires { IsAim aim }
     ensures { IfOk result (λ entries. entries.items ≡ answer_of (keeping aim (records_of base.now))) }
 {
-    let collect = Limited::new(alloc, aim.top, aim.least);
-    entries_of(alloc, base, aim.closed, gates, collect, None)
+    let totals = Totals::of(alloc, base)?;
+    let start = start_of(alloc, &totals, aim)?;
+    let collect = Limited::new(alloc, aim.top, start);
+    entries_of(alloc, base, &totals, aim.closed, gates, collect, None)
 }
 
-/// The entries of all records, of which only those are searched that a batch touches.
+/// The entries of all records, of which only those are searched that a batch touches, in what the records share with it.
+/// Items that the batch doesn't hold take no ranks.
 fn continued<G: Gates>(
     alloc: Global,
     base: &Base<Record>,
     aim: Aim,
     old: &IndexMap<Key, Held>,
-    batch: &RecordSets,
+    batch: &Batch,
+    holders: &Holders,
     gates: &G,
 ) -> Result<Vec<Entry>, NoMemory>
     requires aim { IsAim aim }
     requires continues { Continues aim (records_of base.now) (entries_from old.now.entries) batch.now }
+    requires noted { holders.now ++ batch.now ≡ records_of base.now }
     ensures { IfOk result (λ entries. entries.items ≡ answer_of (keeping aim (records_of base.now))) }
 {
-    let collect = with_untouched(alloc, aim, old, batch)?;
-    entries_of(alloc, base, aim.closed, gates, collect, Some(batch))
+    let places = holders.places(alloc, batch, base.records().len())?;
+    let narrow = shared(alloc, base, &places, batch)?;
+    let totals = Totals::of(alloc, &narrow)?;
+    let sets = batch.sets();
+    let collect = with_untouched(alloc, aim, old, sets)?;
+    entries_of(
+        alloc,
+        &narrow,
+        &totals,
+        aim.closed,
+        gates,
+        collect,
+        Some(sets),
+    )
 }
 
 /// A collector with the old entries that a batch doesn't touch.
@@ -136,17 +162,18 @@ fn offer_untouched(
 fn entries_of<G: Gates>(
     alloc: Global,
     base: &Base<Record>,
+    totals: &Totals,
     closed: bool,
     gates: &G,
     collect: Limited,
     batch: Option<&RecordSets>,
 ) -> Result<Vec<Entry>, NoMemory>
+    requires { totals.now ≡ item_totals (records_of base.now) }
     ensures { IfOk result (λ entries. entries.items ≡ made
         (within (option_copied batch.entry) (rule_in collect)) (content_in collect)
         (patterns_of closed (records_of base.now))) }
 {
-    let totals = Totals::of(alloc, base)?;
-    let ranked = Ranked::ordered(alloc, base, &totals, collect.floor(), RankOrder::Value)?;
+    let ranked = Ranked::ordered(alloc, base, totals, collect.floor(), RankOrder::Value)?;
     if closed {
         closed_entries(alloc, base, &ranked, gates, collect, batch)
     } else {

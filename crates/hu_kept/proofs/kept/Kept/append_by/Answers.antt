@@ -1,8 +1,9 @@
-use Rattle.std.proofs.Common.{◌≡◌, ◌∙◌, ◌++◌, ap}
+use Rattle.std.proofs.Common.{◌≡◌, ◌∙◌, ◌++◌, [], length, ap, sym, subst, append-nil}
 use Rattle.hu_base.specs.Base.{records_of}
 use Rattle.hu_kept.specs.Changes.{changes}
-use Rattle.hu_kept.specs.Entries.{entries_from, keeping}
+use Rattle.hu_kept.specs.Entries.{IsKeeping, entries_from, keeping}
 use Rattle.hu_kept.specs.Kept.{answer_of, with_batch}
+use Rattle.hu_kept.proofs.HeldLemmas.{shortened}
 use Rattle.hu_kept.proofs.kept.Kept.append_by.Goals as goal
 
 pub returns-in-Ok-clause-changes : goal.returns-in-Ok-clause-changes
@@ -14,3 +15,14 @@ returns-in-Ok-clause-changes g c =
     ∙ ap (λ rs. answer_of (keeping c.self.inside.aim rs)) joined
     ∙ ap (λ kept. answer_of (with_batch kept (records_of c.args.batch))) c.self.view_is in
     c.between-changes.ensures ∙ (λ j. changes (old j) (new j))
+
+pub invariant_of-self-in-Err-entries : goal.invariant_of-self-in-Err-entries
+invariant_of-self-in-Err-entries g c =
+    let old = c.self.inside.records in
+    let kept = c.self.invariant in
+    let same = shortened old (records_of c.args.batch) _ c.join.new.self c.shorten.new.self c.in_default.ensures.ok
+    (ap length c.records-count.ensures) c.shorten.ensures in
+    let noted = c.note.new.self in
+    let front : noted ++ [] ≡ records_of old = append-nil noted ∙ c.in_ok-note.ensures.ok in
+    subst (λ base. IsKeeping c.self.inside.aim base noted c.self.inside.entries.entries) (sym same)
+    (record { asked = kept.asked; own = kept.own; front = ([], front); answer = kept.answer })
