@@ -40,7 +40,8 @@ with-few : (item : ℕ) (marks : List Mark) → length (marks_with item marks) �
 with-few item [] = omega arith
 with-few item (mark ∷ marks) = by (is_of item mark) (with-few item marks)
   where
-    by : (b : Bool) → length (marks_with item marks) ≤ length marks → length (cond b (mark ∷ marks_with item marks) (marks_with item marks)) ≤ suc (length marks)
+    by : (b : Bool) → length (marks_with item marks) ≤ length marks
+        → length (cond b (mark ∷ marks_with item marks) (marks_with item marks)) ≤ suc (length marks)
     by true rest = omega arith
     by false rest = omega arith
 
@@ -92,7 +93,8 @@ module _ (records : Records) (keep : ℕ → Bool) (pattern : List (List ℕ)) (
       let split : front ++ rest ≡ all = sym (filter-append (is_of item) (take i marks) (drop i marks)) ∙ ap (marks_with item) (split-at i marks) in
       let fit = step-fits records keep pattern step all is in
       let places = map-append (λ (m : Mark). m.place) front rest in
-      let both : AllByRecursion IsFit (places_of front ++ places_of rest) = subst (AllByRecursion IsFit) places (subst (λ ms. AllByRecursion IsFit (places_of ms))
+      let both : AllByRecursion IsFit (places_of front ++ places_of rest) = subst (AllByRecursion IsFit) places (subst (λ ms. AllByRecursion IsFit
+      (places_of ms))
       (sym split) fit) in
       let fit_front = each-left IsFit (places_of front) (places_of rest) both in
       let fit_rest = each-right IsFit (places_of front) (places_of rest) both in
@@ -149,7 +151,8 @@ module _ (records : Records) (keep : ℕ → Bool) (pattern : List (List ℕ)) (
               absurd (omega (arith, none, some))
         ]
 
-pub has-push : (children : List Child) (child : Child) (growth : Growth) (item : ℕ) → HasStep children growth item → HasStep (children ++ child ∷ []) growth item
+pub has-push : (children : List Child) (child : Child) (growth : Growth) (item : ℕ) → HasStep children growth item
+    → HasStep (children ++ child ∷ []) growth item
 has-push children child growth item has = (has.0, Contains-append_left children (child ∷ []) has.0 has.1, has.2, has.3)
 
 pub has-here : (children : List Child) (child : Child) (growth : Growth) (item : ℕ) → child.step.growth ≡ growth → child.step.item.0 ≡ item

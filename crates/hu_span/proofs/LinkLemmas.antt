@@ -100,7 +100,8 @@ back-with item (mark ∷ marks) (suc place) inside here d =
     let rest = back-with item marks place (omega arith) here d in
     ap (λ ms. cond (eqb item mark.item.0) (mark ∷ ms) ms) rest ∙ out (eqb item mark.item.0)
   where
-    out : (b : Bool) → cond b (mark ∷ marks_with item (take place marks) ++ get_or marks place d ∷ []) (marks_with item (take place marks) ++ get_or marks place d ∷ [])
+    out : (b : Bool) → cond b (mark ∷ marks_with item (take place marks) ++ get_or marks place d ∷ []) (marks_with item
+        (take place marks) ++ get_or marks place d ∷ [])
         ≡ cond b (mark ∷ marks_with item (take place marks)) (marks_with item (take place marks)) ++ get_or marks place d ∷ []
     out true = refl
     out false = refl
@@ -316,7 +317,8 @@ links-again old new keys item number is here same olders lasts =
         → IsBack (keys ++ item ∷ []) (at old.numbers.items.items n) (at (set old.lasts.items number (length new.olders.items)) n) (length (keys ++ item ∷ []))
     turn n within inside long = elim (cases_eq n number) [
       | inl e ↦
-          let now = ap (at (set old.lasts.items number (length new.olders.items))) e ∙ get_or-set_same old.lasts.items number (length new.olders.items) 0 inside ∙ long in
+          let now = ap (at (set old.lasts.items number (length new.olders.items))) e
+          ∙ get_or-set_same old.lasts.items number (length new.olders.items) 0 inside ∙ long in
           let key : at old.numbers.items.items n ≡ item = ap (at old.numbers.items.items) e ∙ here.here in
           subst (λ u. IsBack (keys ++ item ∷ []) (at old.numbers.items.items n) u (length (keys ++ item ∷ []))) (sym now)
           (subst (λ k. IsBack (keys ++ item ∷ []) k (length keys + 1) (length (keys ++ item ∷ []))) (sym key) (back-same keys item))
@@ -331,7 +333,8 @@ links-again old new keys item number is here same olders lasts =
         → 0 < at (set old.lasts.items number (length new.olders.items)) n
     up n within inside long = elim (cases_eq n number) [
       | inl e ↦
-          let now = ap (at (set old.lasts.items number (length new.olders.items))) e ∙ get_or-set_same old.lasts.items number (length new.olders.items) 0 inside ∙ long in
+          let now = ap (at (set old.lasts.items number (length new.olders.items))) e
+          ∙ get_or-set_same old.lasts.items number (length new.olders.items) 0 inside ∙ long in
           omega (arith, now)
       | inr ne ↦
           let now = get_or-set_other old.lasts.items number n (length new.olders.items) 0 ne in
@@ -373,7 +376,8 @@ links-new old new keys item is absent numbers items olders lasts =
         (length (keys ++ item ∷ []))
     turn n within long = elim (cases_eq n (length old.numbers.items.items)) [
       | inl e ↦
-          let key : at (old.numbers.items.items ++ item ∷ []) n ≡ item = ap (at (old.numbers.items.items ++ item ∷ [])) e ∙ at-end old.numbers.items.items item in
+          let key : at (old.numbers.items.items ++ item ∷ []) n
+          ≡ item = ap (at (old.numbers.items.items ++ item ∷ [])) e ∙ at-end old.numbers.items.items item in
           let now = ap (at (old.lasts.items ++ length new.olders.items ∷ [])) (e ∙ sym is.size) ∙ at-end old.lasts.items (length new.olders.items) ∙ long in
           subst (λ u. IsBack (keys ++ item ∷ []) (at (old.numbers.items.items ++ item ∷ []) n) u (length (keys ++ item ∷ []))) (sym now)
           (subst (λ k. IsBack (keys ++ item ∷ []) k (length keys + 1) (length (keys ++ item ∷ []))) (sym key) (back-same keys item))
@@ -404,7 +408,8 @@ links-new old new keys item is absent numbers items olders lasts =
           (at-end old.numbers.items.items item ∙ sym (at-end keys item) ∙ ap (at (keys ++ item ∷ [])) (sym last) ∙ e)
       | inr before ↦
           let low : place < length keys = omega (arith, within, more keys item, before) in
-          is.known key (λ p inside same. gone p (omega (arith, inside, more old.numbers.items.items item)) (at-before old.numbers.items.items item p inside ∙ same))
+          is.known key (λ p inside same. gone p (omega (arith, inside, more old.numbers.items.items item)) (at-before old.numbers.items.items item p inside
+          ∙ same))
           place low (sym (at-before keys item place low) ∙ e)
     ]
 

@@ -74,7 +74,8 @@ pub record AreSeen (records : Records) (keep : ℕ → Bool) (pattern : List (Li
   pub are : AreChildren records keep pattern children
   pub spreads : AllByRecursion (IsSpread reaches records pattern) children
 
-pub seen-of : {records : Records} {keep : ℕ → Bool} {pattern : List (List ℕ)} {reaches : List ℤ} {grown : Grown} {into after : List Mark} {children seen : List Child}
+pub seen-of : {records : Records} {keep : ℕ → Bool} {pattern : List (List ℕ)} {reaches : List ℤ} {grown : Grown} {into after : List Mark}
+    {children seen : List Child}
     → AreGathered records keep pattern grown → into ≡ grown.into.items → after ≡ grown.after.items → seen ≡ children
     → (IsGathered records keep pattern IntoLast into → IsGathered records keep pattern AfterLast after → AreChildren records keep pattern children)
     → (IsGathered records keep pattern IntoLast into → IsGathered records keep pattern AfterLast after

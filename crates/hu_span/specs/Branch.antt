@@ -25,11 +25,13 @@ pub record IsBranch (records : Records) (keep : ℕ → Bool) (pattern : List (L
 
 -- the marks of a child's item are its places
 abbrev pub HasPlaces : Records → List (List ℕ) → List Mark → Child → Type 0
-HasPlaces records pattern marks child = ArePlaces records (stepped pattern child.step) child.step.item.0
+HasPlaces records pattern marks child =
+    ArePlaces records (stepped pattern child.step) child.step.item.0
     (marks_with child.step.item.0 marks)
 
 -- a branch is a child with its places
-pub record IsCopy (records : Records) (pattern : List (List ℕ)) (child : Child) (branch : Branch) : Type 0 where
+pub record IsCopy (records : Records) (pattern : List (List ℕ)) (child : Child)
+    (branch : Branch) : Type 0 where
   pub step : branch.step ≡ child.step
   pub places : ArePlaces records (stepped pattern child.step) child.step.item.0 branch.marks.items
   pub bound : branch.bound ≡ child.bound
@@ -59,11 +61,12 @@ IsPushed false marks old new child = new ≡ old
 -- bounds that fall
 abbrev pub Fall : List Branch → Type 0
 Fall [] = Unit {0}
-Fall (branch ∷ branches) = AllByRecursion (λ later. later.bound ≤ℤ branch.bound) branches × Fall branches
+Fall (branch ∷ branches) =
+    AllByRecursion (λ later. later.bound ≤ℤ branch.bound) branches × Fall branches
 
 -- the branches of a kind of growth are those children of all that reach a floor
-pub record AreBranchesBy (records : Records) (keep : ℕ → Bool) (pattern : List (List ℕ)) (growth : Growth)
-    (floor : ℤ) (branches : List Branch) : Type 0 where
+pub record AreBranchesBy (records : Records) (keep : ℕ → Bool) (pattern : List (List ℕ))
+    (growth : Growth) (floor : ℤ) (branches : List Branch) : Type 0 where
   pub all : List Child
   pub are : AreChildrenBy records keep pattern growth all
   pub copies : AreCopies records pattern floor all branches

@@ -80,7 +80,8 @@ IsSpread reaches records pattern child = IfSome child.spread
     (λ sum. sum ≡ spread reaches (marks_of records (stepped pattern child.step) child.step.item.0))
 
 -- what is told of marks, item by item: their links, and the tally of the marks of each item
-pub record AreTold (reaches : List ℤ) (links : Links) (tells : List Told) (marks : List Mark) : Type 0 where
+pub record AreTold (reaches : List ℤ) (links : Links) (tells : List Told)
+    (marks : List Mark) : Type 0 where
   pub linked : AreLinks links (keys_of marks)
   pub size : length tells ≡ length links.numbers.items.items
   pub each : (number : ℕ) (none : Told) → number < length tells

@@ -103,7 +103,8 @@ MayTake growth [] item = Begins growth
 MayTake growth (items ∷ pattern) item = CanGrow growth (items ∷ pattern) item
 
 -- a mark by which a pattern may grow with kept items
-pub record IsGrowth (keep : ℕ → Bool) (growth : Growth) (pattern : List (List ℕ)) (mark : Mark) : Type 0 where
+pub record IsGrowth (keep : ℕ → Bool) (growth : Growth) (pattern : List (List ℕ))
+    (mark : Mark) : Type 0 where
   pub kept : keep mark.item.0 ≡ true
   pub may : MayTake growth pattern mark.item.0
   pub fit : IsFit mark.place

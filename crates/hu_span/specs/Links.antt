@@ -36,7 +36,8 @@ buckets room items = map (λ item. item % room) items
 -- the rules of numbers: items of a remainder are linked, the last one of each is known
 pub record AreNumbers (numbers : Numbers) : Type 0 where
   pub room : 0 < length numbers.heads.items
-  pub linked : AreLinked (buckets (length numbers.heads.items) numbers.items.items) numbers.olders.items
+  pub linked : AreLinked (buckets (length numbers.heads.items) numbers.items.items)
+      numbers.olders.items
   pub heads : (bucket : ℕ) → bucket < length numbers.heads.items
       → IsBack (buckets (length numbers.heads.items) numbers.items.items) bucket
       (at numbers.heads.items bucket) (length numbers.items.items)
@@ -47,8 +48,10 @@ pub record AreLinks (links : Links) (keys : List ℕ) : Type 0 where
   pub linked : AreLinked keys links.olders.items
   pub size : length links.lasts.items ≡ length links.numbers.items.items
   pub lasts : (number : ℕ) → number < length links.numbers.items.items
-      → IsBack keys (at links.numbers.items.items number) (at links.lasts.items number) (length keys)
-  pub some : (number : ℕ) → number < length links.numbers.items.items → 0 < at links.lasts.items number
+      → IsBack keys (at links.numbers.items.items number) (at links.lasts.items number)
+      (length keys)
+  pub some : (number : ℕ) → number < length links.numbers.items.items
+      → 0 < at links.lasts.items number
   pub known : (key : ℕ) → IsAbsent links.numbers.items.items key → IsAbsent keys key
   pub once : (first second : ℕ) → first < length links.numbers.items.items
       → second < length links.numbers.items.items
@@ -57,7 +60,8 @@ pub record AreLinks (links : Links) (keys : List ℕ) : Type 0 where
 -- items with one more, if it is a new one, by the number that it has
 pub record IsNumbered (old new : List ℕ) (item number : ℕ) : Type 0 where
   pub is : IsNumber new item number
-  pub grows : ((new ≡ old) × (number < length old)) ⊎ ((new ≡ old ++ item ∷ []) × (number ≡ length old) × IsAbsent old item)
+  pub grows : ((new ≡ old) × (number < length old))
+      ⊎ ((new ≡ old ++ item ∷ []) × (number ≡ length old) × IsAbsent old item)
 
 -- the items of marks
 abbrev pub keys_of : List Mark → List ℕ

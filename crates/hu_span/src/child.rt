@@ -87,7 +87,7 @@ fn family_of(
         → IfOk result (λ family. AreAllTold rs keep p growth reaches.now family.children.items) }
     ensures family { IfOk result (IsFamily growth marks.now) }
 {
-    let mut links = Links::new(alloc, marks.len() / 4 + 1)?;
+    let mut links = Links::new(alloc, marks.len())?;
     let mut tells = Vec::new(alloc);
     'marks: for mark in marks {
         tell(&mut links, &mut tells, mark, reaches)?;
@@ -125,8 +125,9 @@ fn children_told(
     tells: &[Told],
     growth: Growth,
 ) -> Result<Vec<Child>, NoMemory>
-    requires { (rs : Records) × (keep : ℕ → Bool) × (p : Pattern) × (marks : List Mark) × (reaches : List ℤ)
-        × IsGathered rs keep p growth marks × AreTold reaches links.now tells.now marks }
+    requires { (rs : Records) × (keep : ℕ → Bool) × (p : Pattern) × (marks : List Mark)
+        × (reaches : List ℤ) × IsGathered rs keep p growth marks
+        × AreTold reaches links.now tells.now marks }
     ensures all { (rs : Records) → (keep : ℕ → Bool) → (p : Pattern) → (marks : List Mark)
         → (reaches : List ℤ) → IsGathered rs keep p growth marks
         → AreTold reaches links.now tells.now marks
@@ -145,8 +146,8 @@ fn children_told(
 
 /// The child of a step, by what is told of its marks.
 fn child_of(step: Step, told: Told, last: usize) -> Child
-    requires { (rs : Records) × (keep : ℕ → Bool) × (p : Pattern) × (marks : List Mark) × (reaches : List ℤ)
-        × IsStep rs keep p step marks × IsTold reaches marks told }
+    requires { (rs : Records) × (keep : ℕ → Bool) × (p : Pattern) × (marks : List Mark)
+        × (reaches : List ℤ) × IsStep rs keep p step marks × IsTold reaches marks told }
     ensures step { result.step ≡ step }
     ensures last { result.last ≡ last }
     ensures child { (rs : Records) → (keep : ℕ → Bool) → (p : Pattern) → (marks : List Mark)
@@ -225,7 +226,8 @@ fn kept_of(
     requires size { length olders.now ≡ length marks.now }
     requires linked { AreLinked (keys_of marks.now) olders.now }
     requires lasts { AllByRecursion (IsLast marks.now) children.now }
-    ensures { (rs : Records) → (p : Pattern) → AllByRecursion (HasPlaces rs p marks.now) children.now
+    ensures { (rs : Records) → (p : Pattern)
+        → AllByRecursion (HasPlaces rs p marks.now) children.now
         → IfOk result (λ kept. AreCopies rs p floor children.now kept.items) }
 {
     let mut kept = Vec::new(alloc);

@@ -107,7 +107,7 @@ fn marks_into(
         → IfOk result (λ grown. AreGrown (weighed_of (keeps kept.now) records.now)
         (keeps kept.now) p Growth.IntoLast grown.items) }
 {
-    let mut grown = Vec::new(alloc);
+    let mut grown = Vec::with_capacity(alloc, marks.len())?;
     'marks: for mark in marks {
         push_beside(&mut grown, kept, records[mark.row].elements(), mark)?;
     }
@@ -129,7 +129,7 @@ fn marks_after(
         → IfOk result (λ grown. AreGrown (weighed_of (keeps kept.now) records.now)
         (keeps kept.now) p Growth.AfterLast grown.items) }
 {
-    let mut grown = Vec::new(alloc);
+    let mut grown = Vec::with_capacity(alloc, marks.len())?;
     let mut left = marks;
     'rows: while let Some((first, later)) = left.split_first() {
         let (row, next) = later.split_at(row_len(later, first.row));

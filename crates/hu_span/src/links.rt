@@ -93,16 +93,15 @@ pub(crate) struct Links {
 }
 
 impl Links {
-    /// No marks, with room for so many remainders of items.
-    pub(crate) fn new(alloc: Global, room: usize) -> Result<Links, NoMemory>
-        requires { 0 < room }
+    /// No marks, with room for so many.
+    pub(crate) fn new(alloc: Global, count: usize) -> Result<Links, NoMemory>
         ensures rules { IfOk result (λ links. AreLinks links []) }
         ensures none { IfOk result (λ links. links.numbers.items.items ≡ []) }
     {
         Ok(Links {
-            numbers: Numbers::new(alloc, room)?,
+            numbers: Numbers::new(alloc, count / 4 + 1)?,
             lasts: Vec::new(alloc),
-            olders: Vec::new(alloc),
+            olders: Vec::with_capacity(alloc, count)?,
         })
     }
 
