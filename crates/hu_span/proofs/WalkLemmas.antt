@@ -27,7 +27,7 @@ use Rattle.hu_span.specs.Gather.{cells_after, marks_in, marks_past, tail_marks, 
 use Rattle.hu_span.specs.Kept.{counted, takes, weighed, weighed_in}
 use Rattle.hu_span.specs.Mark.{mark_at, places_of}
 use Rattle.hu_span.proofs.NumberLemmas.{kept-z}
-use Rattle.hu_span.proofs.WeighedLemmas.{weigh, weighed-after, weighed-element, weighed-inside}
+use Rattle.hu_span.proofs.WeighedLemmas.{weigh, weighed-after, weighed-element, weighed-inside, weighed-sequence}
 
 -- ---- the marks of a tail
 
@@ -272,6 +272,38 @@ module _ (elements : List (List (ℕ × ℤ))) (rules : IsSequence elements) whe
 
   pub marks-end : (e : ℕ) (walk : Walk) → length elements ≤ e → marks_past elements e walk ≡ []
   marks-end e walk past = ap (walk_marks walk.row e walk.best walk.ahead (places_of walk.left.now)) (drop-past elements e past)
+
+-- ---- an element whose kept cells are summed
+
+-- the kept cells of an element, what is left behind it, and what all elements from another one on hold
+pub record IsElement (keep : ℕ → Bool) (elements : List (List (ℕ × ℤ))) (e first : ℕ) (cells : List (ℕ × ℤ)) : Type 0 where
+  pub above : AllByRecursion IsAbove cells
+  pub low : pos 0 ≤ℤ total cells
+  pub split : totals (drop e (weighed_in keep elements)) ≡ total cells +ℤ totals (drop (suc e) (weighed_in keep elements))
+  pub later : pos 0 ≤ℤ totals (drop (suc e) (weighed_in keep elements))
+  pub most : totals (drop e (weighed_in keep elements)) ≤ℤ totals (weighed_in keep elements)
+  pub front : totals (drop first (weighed_in keep elements)) ≤ℤ totals (weighed_in keep elements)
+  pub fits : totals (weighed_in keep elements) <ℤ pos (2 ^ 127)
+
+pub element-turn : (keep : ℕ → Bool) (elements : List (List (ℕ × ℤ))) (e first : ℕ) (cells : List (ℕ × ℤ)) → IsSequence elements → e < length elements
+    → cells ≡ element_at elements e → IsElement keep elements e first (weighed keep cells)
+element-turn keep elements e first cells rules inside seen =
+    let es = weighed_in keep elements in
+    let kept = weighed-sequence keep elements rules in
+    let size = length-map elements (weighed keep) in
+    let here = ap (weighed keep) seen ∙ sym (weighed-element keep elements e) in
+    let same = ap total here in
+    let low' = low-at es kept e in
+    let split' = ap totals (drop-at es e (omega (arith, size, inside))) in
+    record {
+      above = subst (AllByRecursion IsAbove) (sym here) (element_above es kept e);
+      low = omega (arith, ints, same, low');
+      split = omega (arith, ints, same, split');
+      later = low-later es kept (suc e);
+      most = later-within es kept e;
+      front = later-within es kept first;
+      fits = totals-fit es kept;
+    }
 
 -- ---- the cells that are left of a tail
 
