@@ -37,10 +37,10 @@ pub record IsNode (records : Records) (keep : ℕ → Bool) (steps pushed : List
   pub places : ArePlaces records (pattern_of pushed) (last_item (pattern_of pushed)) branch.marks.items
   pub nearer : 2 * (4097 - length pushed) + 1 < 2 * (4097 - length steps)
 
-pub node : (keep : ℕ → Bool) (records : Records) (steps pushed : List Step) (branch : Branch) → AreRecords records → IsBegun (pattern_of steps)
+pub node : {keep : ℕ → Bool} {records : Records} {steps pushed : List Step} {branch : Branch} → AreRecords records → IsBegun (pattern_of steps)
     → AreKept keep (pattern_of steps) → IsBranch (weighed_of keep records) keep (pattern_of steps) branch → pushed ≡ steps ++ branch.step ∷ []
     → IsNode (weighed_of keep records) keep steps pushed branch
-node keep records steps pushed branch rules begun own is to =
+node {keep} {records} {steps} {pushed} {branch} rules begun own is to =
     let rs = weighed_of keep records in
     let p = pattern_of steps in
     let step = branch.step in
