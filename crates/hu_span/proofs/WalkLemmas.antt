@@ -338,6 +338,31 @@ pub counted-z : (b : Bool) (v : ℤ) → pos 0 ≤ℤ counted b v → counted b 
 counted-z true v low high = kept-z v low high
 counted-z false v low high = refl
 
+-- a cell's value where it counts, as a number
+pub record IsCounted (keep : ℕ → Bool) (cells : List Cell) (i : ℕ) (cell : Cell) (value : ℤ) : Type 0 where
+  pub left : IsCellLeft keep cells i cell
+  pub sum : total (weighed keep (pairs_of (drop i cells)))
+      ≡ counted (keep cell.item.0) cell.value +ℤ total (weighed keep (pairs_of (drop (i + 1) cells)))
+  pub is : value ≡ counted (keep cell.item.0) cell.value
+  pub stored : to_z w128 (of_z w128 value) ≡ value
+
+pub cell-counted : (keep : ℕ → Bool) (cells : List Cell) (i : ℕ) (d : Cell) → AllByRecursion IsAbove (weighed keep (pairs_of cells)) → i < length cells
+    → total (weighed keep (pairs_of cells)) <ℤ pos (2 ^ 127) → (value : ℤ) (b : Bool)
+    → value ≡ counted b (to_z w128 (of_z w128 (get_or cells i d).value)) → b ≡ keep (get_or cells i d).item.0
+    → IsCounted keep cells i (get_or cells i d) value
+cell-counted keep cells i d above within fits value b is kept =
+    let cell = get_or cells i d in
+    let left = cell-left keep cells i d above within in
+    let sum = ap total left.next in
+    let same = is ∙ ap (λ k. counted k (to_z w128 (of_z w128 cell.value))) kept
+    ∙ counted-z (keep cell.item.0) cell.value left.low (omega (arith, ints, sum, left.later, left.front, fits)) in
+    record {
+      left = left;
+      sum = sum;
+      is = same;
+      stored = kept-z value (omega (arith, ints, same, left.low)) (omega (arith, ints, same, sum, left.later, left.front, fits));
+    }
+
 taken-next : (marks : List Mark) (b : Bool) (mark : Mark) (rest : List Mark) → (marks ++ filter (λ _. b) (mark ∷ [])) ++ rest ≡ marks ++ cond b
     (mark ∷ rest) rest
 taken-next marks true mark rest = append_assoc marks (mark ∷ []) rest
