@@ -18,8 +18,6 @@ use Rattle.hu_span.proofs.gather.first_marks.Goals as goal
 pub push_walk-requires-clause-walk : goal.push_walk-requires-clause-walk
 push_walk-requires-clause-walk c =
     let keep = keeps c.args.kept.now in
-    let records = c.args.records.now in
-    let row = c.records.row in
     let r = c.index-records-row.result in
     let w = weighed_in keep r in
     let rules = weighed-sequence keep r c.elements-elements.ensures.rules in
