@@ -1,16 +1,13 @@
--- Children, by their marks and in the order of their falling bounds.
-use Rattle.std.proofs.Common.{◌≡◌, ℕ, suc, ◌+◌, ◌<◌, ◌^◌, Bool, true, false, ℤ, pos, ◌≤ℤ◌, ◌<ℤ◌, Option, None, Some}
-use Rattle.std.proofs.Common.{List, [], ◌∷◌, ◌++◌, map, length, take, drop, cond, eqb, refl, sym, ap, ◌∙◌, subst, ◌⊎◌, inl, inr, arith, append_assoc}
+-- Children, by what is told of their marks.
+use Rattle.std.proofs.Common.{◌≡◌, ℕ, suc, ◌+◌, ◌<◌, ◌^◌, Bool, true, ℤ, pos, ◌≤ℤ◌, ◌<ℤ◌, Option, None, Some}
+use Rattle.std.proofs.Common.{List, [], ◌∷◌, ◌++◌, map, length, refl, sym, ap, ◌∙◌, subst, arith, append_assoc}
 use Rattle.std.proofs.Common.{length-append}
 use Rattle.std.specs.List.{AllByRecursion}
-use Rattle.std.specs.List.Sorted.{IsNonDecreasingBy}
-use Rattle.std.proofs.lemmas.Bool.{eq-eqb, eqb-true}
+use Rattle.std.proofs.lemmas.Bool.{eq-eqb}
 use Rattle.std.proofs.lemmas.Int.{ints}
 use Rattle.std.proofs.lemmas.List.{map-append}
-use Rattle.std.proofs.lemmas.List.Elements.{Contains-append_left, Contains-push}
 use Rattle.hu_kind.specs.Sequence.{best_utility, better, sequence_support, sequence_utility}
 use Rattle.hu_kind.proofs.lemmas.Members.{Member, Contains-from_member, Member-append_left, Member-append_right, Member-filter, Member-from_contains}
-use Rattle.hu_kind.proofs.lemmas.Members.{Member-from_filter}
 use Rattle.hu_kind.proofs.lemmas.Occurring.{at_member}
 use Rattle.hu_kind.proofs.lemmas.Each.{each-append, each-left, each-right}
 use Rattle.hu_chain.specs.declared.chain.Growth.{Growth}
@@ -27,12 +24,14 @@ use Rattle.hu_chain.proofs.lemmas.Patterns.{last_item-grown, Ends-grown}
 use Rattle.hu_span.specs.declared.child.Child.{Child}
 use Rattle.hu_span.specs.declared.mark.Mark.{Mark}
 use Rattle.hu_span.specs.declared.step.Step.{Step}
-use Rattle.hu_span.specs.Child.{stepped, AreChildren, AreChildrenBy, ArePlaces, HasStep, IsChild, IsGathered, IsStep}
+use Rattle.std.proofs.Common.{IfSome}
+use Rattle.hu_span.specs.Child.{stepped, AreChildren, AreChildrenBy, ArePlaces, HasStep, IsChild, IsGathered, IsSpread, IsStep}
+use Rattle.hu_span.specs.Cut.{spread}
 use Rattle.hu_span.specs.Gather.{IsGrowth, MayTake}
 use Rattle.hu_span.specs.Growing.{IsReached, Records}
-use Rattle.hu_span.specs.Mark.{is_of, mark_at, marks_from, marks_of, marks_with, places_of, record_at, run_of, IsMark}
+use Rattle.hu_span.specs.Mark.{is_of, mark_at, marks_from, marks_of, marks_with, places_of, record_at, IsMark}
 use Rattle.hu_span.specs.Tally.{bests_of, count_of, none_told, reaches_of, told}
-use Rattle.hu_span.proofs.MarkLemmas.{each-filter, rises-sorted, run-first, IsRun, Rises}
+use Rattle.hu_span.proofs.MarkLemmas.{each-filter}
 use Rattle.hu_span.proofs.ReachLemmas.{grown-reached}
 use Rattle.hu_span.proofs.TallyLemmas.{bounds-fit, bounds-hold, support-cons, told-all, IsSum}
 
@@ -124,10 +123,9 @@ occurs-marks pattern item row (r ∷ rs) ends some = by (occurs-marks pattern it
 -- ---- a child
 
 -- what is true of a child, by its parts
-record IsWhole (records : Records) (keep : ℕ → Bool) (pattern : List (List ℕ)) (step : Step) (marks : List Mark) (u : ℤ) (n : ℕ) (b : ℤ) : Type 0 where
+record IsWhole (records : Records) (keep : ℕ → Bool) (pattern : List (List ℕ)) (step : Step) (u : ℤ) (n : ℕ) (b : ℤ) : Type 0 where
   pub may : MayTake step.growth pattern step.item.0
   pub kept : keep step.item.0 ≡ true
-  pub places : ArePlaces records (stepped pattern step) step.item.0 marks
   pub occurs : 0 < sequence_support records (stepped pattern step)
   pub utility : u ≡ sequence_utility records (stepped pattern step)
   pub support : n ≡ sequence_support records (stepped pattern step)
@@ -152,6 +150,14 @@ module _ (records : Records) (keep : ℕ → Bool) (pattern : List (List ℕ)) (
   sums = subst (λ ms. IsSum none_told (told ms) (stepped pattern step) records) (sym from.places.is)
       (told-all (stepped pattern step) step.item.0 records (Ends-grown step.growth pattern step.item.0))
 
+  -- its sum over rows
+  pub step-spread : (reaches : List ℤ) (child : Child) → child.step ≡ step → IfSome child.spread (λ sum. sum ≡ spread reaches marks)
+      → IsSpread reaches records pattern child
+  step-spread reaches child step_is some =
+      let is : marks ≡ marks_of records (stepped pattern child.step) child.step.item.0 =
+      from.places.is ∙ sym (λ j. marks_of records (stepped pattern (step_is j)) (step_is j).item.0) in
+      subst (λ ms. IfSome child.spread (λ sum. sum ≡ spread reaches ms)) is some
+
   pub step-reaches : reaches_of (told marks) <ℤ pos (2 ^ 127)
   step-reaches =
       let sum = sums.reaches in
@@ -159,9 +165,9 @@ module _ (records : Records) (keep : ℕ → Bool) (pattern : List (List ℕ)) (
       let fit = from.are.fits in
       omega (arith, ints, sum, most, fit)
 
-  pub step-child : (child : Child) → child.step ≡ step → child.marks.now ≡ marks → child.utility ≡ bests_of (told marks) → child.support ≡ (told marks).rows
+  pub step-child : (child : Child) → child.step ≡ step → child.utility ≡ bests_of (told marks) → child.support ≡ (told marks).rows
       → child.bound ≡ reaches_of (told marks) → IsChild records keep pattern child
-  step-child child step_is marks_is utility support bound =
+  step-child child step_is utility support bound =
       let sum = sums in
       let rows = sum.rows in
       let bests = sum.bests in
@@ -170,11 +176,10 @@ module _ (records : Records) (keep : ℕ → Bool) (pattern : List (List ℕ)) (
       let some = from.some in
       let ends = Ends-grown step.growth pattern step.item.0 in
       let held = marks-occur (stepped pattern step) step.item.0 0 records ends (subst (λ ms. 0 < length ms) from.places.is some) in
-      let P : Step → Type 0 = λ s. IsWhole records keep pattern s child.marks.now child.utility child.support child.bound in
+      let P : Step → Type 0 = λ s. IsWhole records keep pattern s child.utility child.support child.bound in
       let whole : P step = record {
         may = may;
         kept = from.kept;
-        places = subst (ArePlaces records (stepped pattern step) step.item.0) (sym marks_is) from.places;
         occurs = held;
         utility = omega (arith, ints, utility, bests);
         support = omega (arith, support, rows);
@@ -183,12 +188,35 @@ module _ (records : Records) (keep : ℕ → Bool) (pattern : List (List ℕ)) (
             omega (arith, ints, high, bound, reaches);
       } in
       let w : P child.step = subst P (sym step_is) whole in
-      record { may = w.may; kept = w.kept; places = w.places; occurs = w.occurs; utility = w.utility; support = w.support; bound = w.bound }
+      record { may = w.may; kept = w.kept; occurs = w.occurs; utility = w.utility; support = w.support; bound = w.bound }
+
+  pub step-told : (reaches : List ℤ) (child : Child) → child.step ≡ step → child.utility ≡ bests_of (told marks) → child.support ≡ (told marks).rows
+      → child.bound ≡ reaches_of (told marks) → IfSome child.spread (λ sum. sum ≡ spread reaches marks)
+      → IsChild records keep pattern child × IsSpread reaches records pattern child
+  step-told reaches child step_is utility support bound some = (step-child child step_is utility support bound, step-spread reaches child step_is some)
 
 -- ---- all children of a kind of growth
 
 module _ (records : Records) (keep : ℕ → Bool) (pattern : List (List ℕ)) (growth : Growth) (marks : List Mark)
     (from : IsGathered records keep pattern growth marks) where
+  -- the marks of an item are the places of the pattern grown by it
+  pub places-gathered : (item : ℕ) → keep item ≡ true → MayTake growth pattern item
+      → ArePlaces records (grown growth pattern item) item (marks_with item marks)
+  places-gathered item kept may =
+      let grows = from.grown in
+      let places = grows.places item kept may in
+      let fit = subst (λ ms. AllByRecursion IsFit (places_of ms)) places (fit-growth (marks_with item marks)
+      (each-filter (IsGrowth keep growth pattern) (is_of item) marks grows.each)) in
+      record {
+        is = places;
+        each = subst (AllByRecursion (IsMark records item)) (sym places)
+            (each-place records (grown growth pattern item) item (Ends-grown growth pattern item) (last_item-grown growth pattern item) fit);
+      }
+    where
+      fit-growth : (ms : List Mark) → AllByRecursion (IsGrowth keep growth pattern) ms → AllByRecursion IsFit (places_of ms)
+      fit-growth [] all = tt
+      fit-growth (m ∷ ms) all = let first = all.0 in (first.fit, fit-growth ms all.1)
+
   -- the item of one of the marks makes a child
   pub step-gathered : (mark : Mark) → Member mark marks → (run : List Mark) → run ≡ marks_with mark.item.0 marks
       → IsStep records keep pattern (record { growth = growth; item = mark.item }) run
@@ -198,31 +226,19 @@ module _ (records : Records) (keep : ℕ → Bool) (pattern : List (List ℕ)) (
       let here = at_member (IsGrowth keep growth pattern) mark marks grows.each m in
       let may : MayTake growth pattern item.0 = here.may in
       let kept : keep item.0 ≡ true = here.kept in
-      let places = is ∙ grows.places item.0 kept may in
       let among = Member-filter (is_of item.0) mark marks m (eq-eqb item.0 mark.item.0 refl) in
-      let reached = grown-reached growth pattern item.0 from.begun may in
-      let fit = subst (λ ms. AllByRecursion IsFit (places_of ms)) (sym is ∙ places) (fit-each (marks_with item.0 marks)
-      (each-filter (IsGrowth keep growth pattern) (is_of item.0) marks grows.each)) in
       record {
         are = from.are;
         begun = from.begun;
         may = may;
         kept = kept;
         some = subst (λ ms. 0 < length ms) (sym is) (some (marks_with item.0 marks) mark among);
-        places = record {
-          is = places;
-          each = subst (AllByRecursion (IsMark records item.0)) (sym places)
-              (each-place records (grown growth pattern item.0) item.0 (Ends-grown growth pattern item.0) (last_item-grown growth pattern item.0) fit);
-        };
+        places = subst (ArePlaces records (grown growth pattern item.0) item.0) (sym is) (places-gathered item.0 kept may);
       }
     where
       some : (ms : List Mark) (mark : Mark) → Member mark ms → 0 < length ms
       some [] mark m = absurd m
       some (x ∷ ms) mark m = omega arith
-
-      fit-each : (ms : List Mark) → AllByRecursion (IsGrowth keep growth pattern) ms → AllByRecursion IsFit (places_of ms)
-      fit-each [] all = tt
-      fit-each (m ∷ ms) all = let first = all.0 in (first.fit, fit-each ms all.1)
 
   -- and there are marks of each item by which the pattern occurs
   pub marks-gathered : (item : ℕ) → keep item ≡ true → MayTake growth pattern item → 0 < sequence_support records (grown growth pattern item)
@@ -259,72 +275,3 @@ children-both records keep pattern first later into after = record {
       has.2,
       has.3,
     )
-
--- ---- children by their marks, item by item
-
--- the marks of some items are left, all of each, and the other items made children
-pub record AreRuns (growth : Growth) (marks left : List Mark) (children : List Child) : Type 0 where
-  pub rises : Rises left
-  pub whole : (item : ℕ) → 0 < length (marks_with item left) → marks_with item left ≡ marks_with item marks
-  pub others : (item : ℕ) → 0 < length (marks_with item marks) → (0 < length (marks_with item left)) ⊎ HasStep children growth item
-
-module _ (growth : Growth) (marks : List Mark) where
-  pub runs-none : IsNonDecreasingBy (λ mark. mark.item.0) marks → AreRuns growth marks marks []
-  runs-none up = record { rises = rises-sorted marks up; whole = λ item some. refl; others = λ item some. inl some }
-
-  pub runs-all : (children : List Child) → AreRuns growth marks [] children → (item : ℕ) → 0 < length (marks_with item marks) → HasStep children growth item
-  runs-all children runs item some = elim (runs.others item some) [ inl none ↦ absurd (omega (arith, none)) | inr has ↦ has ]
-
-  module _ (mark : Mark) (later : List Mark) (children : List Child) (runs : AreRuns growth marks (mark ∷ later) children) where
-    first-some : 0 < length (marks_with mark.item.0 (mark ∷ later))
-    first-some =
-        let yes = eq-eqb mark.item.0 mark.item.0 refl in
-        let rest = marks_with mark.item.0 later in
-        let is : marks_with mark.item.0 (mark ∷ later) ≡ mark ∷ rest = ap (λ b. cond b (mark ∷ rest) rest) yes in
-        subst (λ ms. 0 < length ms) (sym is) (omega arith)
-
-    -- the marks at the front are all of their item
-    pub runs-front : take (run_of mark.item.0 (mark ∷ later)) (mark ∷ later) ≡ marks_with mark.item.0 marks
-    runs-front = let run = run-first mark later runs.rises in run.front ∙ runs.whole mark.item.0 first-some
-
-    pub runs-member : Member mark marks
-    runs-member =
-        let in_left = Member-filter (is_of mark.item.0) mark (mark ∷ later) (inl refl) (eq-eqb mark.item.0 mark.item.0 refl) in
-        let in_all = subst (Member mark) (runs.whole mark.item.0 first-some) in_left in
-        (Member-from_filter (is_of mark.item.0) mark marks in_all).0
-
-    pub runs-next : (child : Child) → child.step ≡ record { growth = growth; item = mark.item }
-        → AreRuns growth marks (drop (run_of mark.item.0 (mark ∷ later)) (mark ∷ later)) (children ++ child ∷ [])
-    runs-next child step = record {
-      rises = run.rises;
-      whole = λ item some. whole item some (eqb item mark.item.0) refl;
-      others = λ item some. elim (runs.others item some) [
-        | inr has ↦ inr (has.0, Contains-append_left children (child ∷ []) has.0 has.1, has.2, has.3)
-        | inl here ↦ others item here (eqb item mark.item.0) refl
-      ];
-    }
-      where
-        run : IsRun mark.item.0 (mark ∷ later)
-        run = run-first mark later runs.rises
-
-        next : List Mark
-        next = drop (run_of mark.item.0 (mark ∷ later)) (mark ∷ later)
-
-        differs : (item : ℕ) → eqb item mark.item.0 ≡ false → (item ≡ mark.item.0) → ⊥
-        differs item e same = let bad : true ≡ false = sym (eq-eqb item mark.item.0 same) ∙ e in cc
-
-        whole : (item : ℕ) → 0 < length (marks_with item (drop (run_of mark.item.0 (mark ∷ later)) (mark ∷ later)))
-            → (b : Bool) → eqb item mark.item.0 ≡ b
-            → marks_with item (drop (run_of mark.item.0 (mark ∷ later)) (mark ∷ later)) ≡ marks_with item marks
-        whole item some true e =
-            let gone = ap (λ i. marks_with i (drop (run_of mark.item.0 (mark ∷ later)) (mark ∷ later))) (eqb-true item mark.item.0 e) ∙ run.gone in
-            absurd (omega (arith, ap length gone, some))
-        whole item some false e =
-            let same = run.others item (differs item e) in
-            same ∙ runs.whole item (subst (λ ms. 0 < length ms) same some)
-
-        others : (item : ℕ) → 0 < length (marks_with item (mark ∷ later)) → (b : Bool) → eqb item mark.item.0 ≡ b
-            → (0 < length (marks_with item (drop (run_of mark.item.0 (mark ∷ later)) (mark ∷ later)))) ⊎ HasStep (children ++ child ∷ []) growth item
-        others item here true e =
-            inr (child, Contains-push children child, ap (λ (s : Step). s.growth) step, ap (λ (s : Step). s.item.0) step ∙ sym (eqb-true item mark.item.0 e))
-        others item here false e = inl (subst (λ ms. 0 < length ms) (sym (run.others item (differs item e))) here)

@@ -22,8 +22,9 @@ use Rattle.hu_chain.proofs.lemmas.Patterns.{Ends-grown}
 use Rattle.hu_span.specs.declared.child.Child.{Child}
 use Rattle.hu_span.specs.declared.mark.Mark.{Mark}
 use Rattle.hu_span.specs.declared.step.Step.{Step}
-use Rattle.hu_span.specs.Child.{stepped, AreChildren, ArePlaces, IsChild}
-use Rattle.hu_span.specs.Cut.{at_row, is_last, spread, spread_after, AreBelow, AreOpen}
+use Rattle.std.proofs.Common.{IfSome}
+use Rattle.hu_span.specs.Child.{stepped, AreChildren, ArePlaces, IsChild, IsSpread}
+use Rattle.hu_span.specs.Cut.{at_row, is_last, spread, spread_after, AreBelow, AreOpen, IsLow}
 use Rattle.hu_span.specs.Growing.{AreRecords, IsReached, Records}
 use Rattle.hu_span.specs.Kept.{keeps, AreKept}
 use Rattle.hu_span.specs.Mark.{mark_at, marks_from, marks_of, IsMark}
@@ -245,10 +246,15 @@ steps-kept keep steps all = let back = from-back keep [] steps all in back.1
 
 -- ---- what a node keeps
 
+low-sum : (o : Option ℤ) (floor sum : ℤ) → IsLow o floor → IfSome o (λ s. s ≡ sum) → sum <ℤ floor
+low-sum None floor sum low is = absurd low
+low-sum (Some s) floor sum low is = omega (arith, ints, low, is)
+
 module _ (records : Records) (keep : ℕ → Bool) (steps : List Step) (marks : List Mark) (children : List Child) (reaches : List ℤ) (floor : ℤ)
     (kept : Bool × List Item) (are : AreRecords records) (reached : IsReached (pattern_of steps))
     (places : ArePlaces records (pattern_of steps) (last_item (pattern_of steps)) marks) (all : AreChildren records keep (pattern_of steps) children)
-    (below : AreBelow reaches marks) (open_at : AreOpen steps children reaches floor kept) where
+    (below : AreBelow reaches marks) (spreads : AllByRecursion (IsSpread reaches records (pattern_of steps)) children)
+    (open_at : AreOpen steps children floor kept) where
   abbrev pub p : List (List ℕ)
   p = pattern_of steps
 
@@ -296,12 +302,14 @@ module _ (records : Records) (keep : ℕ → Bool) (steps : List Step) (marks : 
           let among = Member-from_contains child children has.1 in
           let is = at_member (IsChild records keep p) child children all.each among in
           let step_is : stepped p child.step ≡ q = (λ j. grown (has.2 j) p (has.3 j)) in
-          let marks_is : child.marks.now ≡ marks_of records q x = is.places.is ∙ (λ j. marks_of records (step_is j) (has.3 j)) in
+          let marks_is : marks_of records (stepped p child.step) child.step.item.0 ≡ marks_of records q x = (λ j. marks_of records (step_is j) (has.3 j)) in
+          let known = at_member (IsSpread reaches records p) child children spreads among in
           let most = spread-most reaches q other x 0 None records tt
           (rows-below reaches p other (last_item p) x 0 records are.rules (Ends-reached p reached) from used fits
           (subst (AreBelow reaches) places.is below)) in
           let sum = subst (λ ms. sequence_utility records other ≤ℤ spread reaches ms) (sym marks_is) most in
-          elim (at_member (λ (c : Child). (keeps kept c.step.item.0 ≡ true) ⊎ (spread reaches c.marks.now <ℤ floor)) child children open_at.reaching among) [
+          elim (at_member (λ (c : Child). (keeps kept c.step.item.0 ≡ true) ⊎ IsLow c.spread floor) child children open_at.reaching among) [
             | inl still ↦ let bad : true ≡ false = sym still ∙ ap (keeps kept) has.3 ∙ none in cc
-            | inr low ↦ omega (arith, ints, low, sum, high)
+            | inr low ↦ let less = low-sum child.spread floor (spread reaches (marks_of records (stepped p child.step) child.step.item.0)) low known in omega
+                (arith, ints, less, sum, high)
           ]

@@ -3,6 +3,7 @@ mod StepLemmas
 mod MarkLemmas
 mod GatherLemmas
 mod KeptLemmas
+mod LinkLemmas
 mod WeighedLemmas
 mod WithinLemmas
 mod CutLemmas
@@ -10,6 +11,7 @@ mod OpenLemmas
 mod RestLemmas
 mod NumberLemmas
 mod TallyLemmas
+mod ToldLemmas
 mod ReachLemmas
 mod SearchLemmas
 mod Fronts
@@ -17,5 +19,6 @@ mod BranchLemmas
 mod NodeLemmas
 mod RootLemmas
 mod ChildLemmas
+mod FamilyLemmas
 mod WalkLemmas
 mod RowsLemmas

@@ -11,7 +11,10 @@ use Rattle.hu_chain.specs.declared.chain.Growth.TheVariants.{IntoLast, AfterLast
 use Rattle.hu_span.specs.declared.gather.Grown.{Grown}
 use Rattle.hu_span.specs.declared.mark.Mark.{Mark}
 use Rattle.hu_span.specs.declared.search.Opened.{Opened}
-use Rattle.hu_span.specs.Child.{stepped, AreGathered, ArePlaces}
+use Rattle.std.proofs.Common.{ℤ}
+use Rattle.std.specs.List.{AllByRecursion}
+use Rattle.hu_span.specs.declared.child.Child.{Child}
+use Rattle.hu_span.specs.Child.{stepped, AreChildren, AreGathered, ArePlaces, IsGathered, IsSpread}
 use Rattle.hu_span.specs.Gather.{AreGrown}
 use Rattle.hu_collect.specs.State.{State, IsInOrder, Reached, ReachedSome}
 use Rattle.hu_collect.proofs.lemmas.Searching.{reached-in_order, some-none}
@@ -34,10 +37,10 @@ pub record IsNode (records : Records) (keep : ℕ → Bool) (steps pushed : List
   pub places : ArePlaces records (pattern_of pushed) (last_item (pattern_of pushed)) branch.marks.items
   pub nearer : 2 * (4097 - length pushed) + 1 < 2 * (4097 - length steps)
 
-pub node : (keep : ℕ → Bool) (records : Records) (steps pushed : List Step) (branch : Branch) → AreRecords records → IsBegun (pattern_of steps)
+pub node : {keep : ℕ → Bool} {records : Records} {steps pushed : List Step} {branch : Branch} → AreRecords records → IsBegun (pattern_of steps)
     → AreKept keep (pattern_of steps) → IsBranch (weighed_of keep records) keep (pattern_of steps) branch → pushed ≡ steps ++ branch.step ∷ []
     → IsNode (weighed_of keep records) keep steps pushed branch
-node keep records steps pushed branch rules begun own is to =
+node {keep} {records} {steps} {pushed} {branch} rules begun own is to =
     let rs = weighed_of keep records in
     let p = pattern_of steps in
     let step = branch.step in
@@ -64,6 +67,28 @@ gathered-of are reached into after = record {
   into = record { are = are; begun = inr reached; grown = into };
   after = record { are = are; begun = inr reached; grown = after };
 }
+
+-- what a pattern grows by is seen, and its children with their sums over rows
+pub record AreSeen (records : Records) (keep : ℕ → Bool) (pattern : List (List ℕ)) (reaches : List ℤ) (grown : Grown) (children : List Child) : Type 0 where
+  pub gathered : AreGathered records keep pattern grown
+  pub are : AreChildren records keep pattern children
+  pub spreads : AllByRecursion (IsSpread reaches records pattern) children
+
+pub seen-of : {records : Records} {keep : ℕ → Bool} {pattern : List (List ℕ)} {reaches : List ℤ} {grown : Grown} {into after : List Mark}
+    {children seen : List Child}
+    → AreGathered records keep pattern grown → into ≡ grown.into.items → after ≡ grown.after.items → seen ≡ children
+    → (IsGathered records keep pattern IntoLast into → IsGathered records keep pattern AfterLast after → AreChildren records keep pattern children)
+    → (IsGathered records keep pattern IntoLast into → IsGathered records keep pattern AfterLast after
+    → AllByRecursion (IsSpread reaches records pattern) children)
+    → AreSeen records keep pattern reaches grown seen
+seen-of {records} {keep} {pattern} {reaches} {grown} gathered into after same are spreads =
+    let first = subst (IsGathered records keep pattern IntoLast) (sym into) gathered.into in
+    let second = subst (IsGathered records keep pattern AfterLast) (sym after) gathered.after in
+    record {
+      gathered = gathered;
+      are = subst (AreChildren records keep pattern) (sym same) (are first second);
+      spreads = subst (AllByRecursion (IsSpread reaches records pattern)) (sym same) (spreads first second);
+    }
 
 -- where fewer items count
 module _ (records : Records) (kept fewer : Bool × List Item) (opened : Opened) (marks : List Mark) (pattern : List (List ℕ))

@@ -1,5 +1,5 @@
 -- The items that a node keeps, and what is known of rows, one by one.
-use Rattle.std.proofs.Common.{◌≡◌, ℕ, ◌+◌, ◌<◌, Bool, true, false, eqb, ℤ, ◌≤ℤ◌, ◌<ℤ◌, List, [], ◌∷◌, ◌++◌, map, length, get_or, set, take, refl, sym}
+use Rattle.std.proofs.Common.{◌≡◌, ℕ, ◌+◌, ◌<◌, Bool, true, false, eqb, ℤ, ◌≤ℤ◌, List, [], ◌∷◌, ◌++◌, map, length, get_or, set, take, refl, sym}
 use Rattle.std.proofs.Common.{ap, ◌∙◌, subst, ◌⊎◌, inl, inr, arith, Contains, get_or-set_same, get_or-set_other, ◌≢◌}
 use Rattle.std.specs.List.{AllByRecursion}
 use Rattle.std.proofs.lemmas.Bool.{eqb-true, eqb-false}
@@ -13,7 +13,7 @@ use Rattle.hu_chain.specs.Bound.{reach}
 use Rattle.hu_span.specs.declared.child.Child.{Child}
 use Rattle.hu_span.specs.declared.mark.Mark.{Mark}
 use Rattle.hu_span.specs.declared.step.Step.{Step}
-use Rattle.hu_span.specs.Cut.{at_row, spread, AreBelow, AreOpen}
+use Rattle.hu_span.specs.Cut.{at_row, AreBelow, AreOpen, IsLow}
 use Rattle.hu_span.specs.Kept.{keeps}
 
 -- ---- rows
@@ -66,19 +66,19 @@ contains-last f xs i d within =
     (Member-append_right y (map f (take i xs)) (y ∷ []) (inl refl)))
 
 -- the items of steps and of the first children
-pub record AreSoFar (steps : List Step) (children : List Child) (reaches : List ℤ) (floor : ℤ) (items : List Item) (i : ℕ) : Type 0 where
+pub record AreSoFar (steps : List Step) (children : List Child) (floor : ℤ) (items : List Item) (i : ℕ) : Type 0 where
   pub known : (one : Item) → Contains items one → Contains (map (λ step. step.item) steps) one ⊎ Contains (map (λ child. child.step.item)
       (take i children)) one
   pub own : (one : Item) → Contains (map (λ step. step.item) steps) one → Contains items one
-  pub reaching : AllByRecursion (λ child. Contains items child.step.item ⊎ (spread reaches child.marks.now <ℤ floor)) (take i children)
+  pub reaching : AllByRecursion (λ child. Contains items child.step.item ⊎ IsLow child.spread floor) (take i children)
 
-pub open-next : (steps : List Step) (children : List Child) (reaches : List ℤ) (floor : ℤ) (items new : List Item) (i : ℕ) (d : Child) (is_kept : Bool)
-    → i < length children → AreSoFar steps children reaches floor items i
+pub open-next : (steps : List Step) (children : List Child) (floor : ℤ) (items new : List Item) (i : ℕ) (d : Child) (is_kept : Bool)
+    → i < length children → AreSoFar steps children floor items i
     → ((one : Item) → Contains new one → Contains items one ⊎ (one ≡ (get_or children i d).step.item))
     → ((one : Item) → Contains items one → Contains new one) → (is_kept ≡ true → Contains new (get_or children i d).step.item)
-    → (is_kept ≡ false → spread reaches (get_or children i d).marks.now <ℤ floor) → AreSoFar steps children reaches floor new (i + 1)
-open-next steps children reaches floor items new i d is_kept within so_far known before kept low =
-    let P : Child → Type 0 = λ child. Contains new child.step.item ⊎ (spread reaches child.marks.now <ℤ floor) in
+    → (is_kept ≡ false → IsLow (get_or children i d).spread floor) → AreSoFar steps children floor new (i + 1)
+open-next steps children floor items new i d is_kept within so_far known before kept low =
+    let P : Child → Type 0 = λ child. Contains new child.step.item ⊎ IsLow child.spread floor in
     record {
       known = λ one c. elim (known one c) [
         | inl old ↦ elim (so_far.known one old) [
@@ -91,20 +91,20 @@ open-next steps children reaches floor items new i d is_kept within so_far known
       own = λ one c. before one (so_far.own one c);
       reaching = subst (AllByRecursion P) (sym (take_more children i d within))
           (each-push P (take i children) (get_or children i d)
-          (each-weaker (λ child. Contains items child.step.item ⊎ (spread reaches child.marks.now <ℤ floor)) P (take i children)
+          (each-weaker (λ child. Contains items child.step.item ⊎ IsLow child.spread floor) P (take i children)
           (λ child o. elim o [ inl c ↦ inl (before child.step.item c) | inr l ↦ inr l ]) so_far.reaching)
           (by is_kept refl));
     }
   where
-    by : (b : Bool) → is_kept ≡ b → Contains new (get_or children i d).step.item ⊎ (spread reaches (get_or children i d).marks.now <ℤ floor)
+    by : (b : Bool) → is_kept ≡ b → Contains new (get_or children i d).step.item ⊎ IsLow (get_or children i d).spread floor
     by true e = inl (kept e)
     by false e = inr (low e)
 
-pub open-all : (steps : List Step) (children : List Child) (reaches : List ℤ) (floor : ℤ) (items : List Item) (i : ℕ) (kept : Bool × List Item)
-    → take i children ≡ children → AreSoFar steps children reaches floor items i
+pub open-all : (steps : List Step) (children : List Child) (floor : ℤ) (items : List Item) (i : ℕ) (kept : Bool × List Item)
+    → take i children ≡ children → AreSoFar steps children floor items i
     → ((item : ℕ) → keeps kept item ≡ true → (one : Item) × Contains items one × (one.0 ≡ item))
-    → ((item : Item) → Contains items item → keeps kept item.0 ≡ true) → AreOpen steps children reaches floor kept
-open-all steps children reaches floor items i kept whole so_far known all = record {
+    → ((item : Item) → Contains items item → keeps kept item.0 ≡ true) → AreOpen steps children floor kept
+open-all steps children floor items i kept whole so_far known all = record {
   known = λ item is.
       let found = known item is in
       elim (so_far.known found.0 found.1) [
@@ -122,8 +122,8 @@ open-all steps children reaches floor items i kept whole so_far known all = reco
       ];
   own = by_members (λ (s : Step). keeps kept s.item.0 ≡ true) steps (λ s m.
       all s.item (so_far.own s.item (Contains-from_member s.item (map (λ (t : Step). t.item) steps) (Member-map (λ (t : Step). t.item) s steps m))));
-  reaching = each-weaker (λ child. Contains items child.step.item ⊎ (spread reaches child.marks.now <ℤ floor))
-      (λ child. (keeps kept child.step.item.0 ≡ true) ⊎ (spread reaches child.marks.now <ℤ floor)) children
+  reaching = each-weaker (λ child. Contains items child.step.item ⊎ IsLow child.spread floor)
+      (λ child. (keeps kept child.step.item.0 ≡ true) ⊎ IsLow child.spread floor) children
       (λ child o. elim o [ inl c ↦ inl (all child.step.item c) | inr l ↦ inr l ])
-      (subst (AllByRecursion (λ child. Contains items child.step.item ⊎ (spread reaches child.marks.now <ℤ floor))) whole so_far.reaching);
+      (subst (AllByRecursion (λ child. Contains items child.step.item ⊎ IsLow child.spread floor)) whole so_far.reaching);
 }

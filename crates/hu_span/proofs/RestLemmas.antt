@@ -20,6 +20,9 @@ use Rattle.hu_span.specs.Gather.{cells_after, IsInside}
 use Rattle.hu_span.specs.Growing.{IsReached, Records}
 use Rattle.hu_span.specs.Kept.{weighed, weighed_in, weighed_of, AreKept}
 use Rattle.hu_span.specs.Mark.{mark_at, marks_from, marks_of, places_of, record_at, IsMark}
+use Rattle.std.proofs.Common.{to_z, of_z}
+use Rattle.std.specs.Int.{w128}
+use Rattle.hu_span.proofs.NumberLemmas.{kept-z}
 use Rattle.hu_span.proofs.ChildLemmas.{each-place}
 use Rattle.hu_span.proofs.ReachLemmas.{Ends-reached}
 use Rattle.hu_span.proofs.WalkLemmas.{after-above, after-of, inside-of, inside-weighed, low-later, rest-fits}
@@ -276,3 +279,40 @@ turn records keep last elements d mark is same found =
     any [] k a b inside = absurd (omega arith)
     any (r ∷ rs) zero a b inside = refl
     any (r ∷ rs) (suc k) a b inside = any rs k a b (omega arith)
+
+-- a turn of a walk back over marks
+pub rested-turn : {records : Records} {fewer keep : ℕ → Bool} {last : ℕ} {marks left rested : List Mark} {known : Option Behind}
+    {elements d : List (List (ℕ × ℤ))} (before : List Mark) (mark : Mark) → AreRested records fewer marks left rested known → left ≡ before ++ mark ∷ []
+    → AllByRecursion (IsMark (weighed_of keep records) last) marks → elements ≡ d → d ≡ get_or records mark.row d → IsTurn records keep last elements mark
+rested-turn {records} {fewer} {keep} {last} {marks} {left} {rested} {known} {elements} {d} before mark is last_is each same found =
+    turn records keep last elements d mark
+    (rested-here records fewer marks left before rested mark known is last_is (IsMark (weighed_of keep records) last) each) same found
+
+-- what is left in a place's element and behind it are kept as numbers, and together they are the rest
+pub record IsRestSum (fewer : ℕ → Bool) (elements : List (List (ℕ × ℤ))) (place : Place) (here behind : ℤ) : Type 0 where
+  pub own : to_z w128 (of_z w128 here) ≡ here
+  pub other : to_z w128 (of_z w128 behind) ≡ behind
+  pub low : pos 0 ≤ℤ (here +ℤ behind)
+  pub fits : (here +ℤ behind) <ℤ pos (2 ^ 127)
+  pub rest : to_z w128 (of_z w128 (to_z w128 (of_z w128 here) +ℤ to_z w128 (of_z w128 behind)))
+      ≡ rest_at (weighed_in fewer elements) place.element place.cell
+
+pub rest-sum : (fewer : ℕ → Bool) (elements : List (List (ℕ × ℤ))) (place : Place) → IsSequence elements → IsInside elements place
+    → (cells : List (ℕ × ℤ)) → cells ≡ cells_after elements place → (here : ℤ) (behind : Behind) → here ≡ total (weighed fewer cells)
+    → IsBehind fewer elements behind → behind.first ≡ suc place.element → IsRestSum fewer elements place here behind.sum
+rest-sum fewer elements place rules inside cells after here behind is knows next =
+    let parts = rest-parts fewer elements place rules inside cells after in
+    let es = weighed_in fewer elements in
+    let sum = knows.sum ∙ ap (λ n. totals (drop n es)) next in
+    let a = kept-z here (omega (arith, ints, is, parts.low)) (omega (arith, ints, is, parts.more, parts.fits)) in
+    let b = kept-z behind.sum (omega (arith, ints, sum, parts.more)) (omega (arith, ints, sum, parts.low, parts.fits)) in
+    let both = kept-z (to_z w128 (of_z w128 here) +ℤ to_z w128 (of_z w128 behind.sum)) (omega (arith, ints, a, b, is, sum, parts.low, parts.more))
+    (omega (arith, ints, a, b, is, sum, parts.fits)) in
+    let same = ap total (parts-same fewer elements place rules inside cells after) in
+    record {
+      own = a;
+      other = b;
+      low = omega (arith, ints, is, sum, parts.low, parts.more);
+      fits = omega (arith, ints, is, sum, parts.fits);
+      rest = both ∙ (λ j. (a ∙ is ∙ same) j +ℤ (b ∙ sum) j);
+    }

@@ -1,8 +1,7 @@
 -- What is gathered of all rows: the marks by which a pattern can grow.
 use Rattle.std.proofs.Common.{◌≡◌, ℕ, zero, suc, ◌+◌, ◌<◌, ◌≤◌, Bool, true, false, cond, eqb, ℤ, List, [], ◌∷◌, ◌++◌, map, length, append_assoc, append-nil}
-use Rattle.std.proofs.Common.{length-append, filter, get_or, pos, ◌-ℤ◌, drop, take, refl, sym, ap, ◌∙◌, subst, arith, IsPermutation}
+use Rattle.std.proofs.Common.{length-append, filter, get_or, pos, ◌-ℤ◌, drop, take, refl, sym, ap, ◌∙◌, subst, arith}
 use Rattle.std.specs.List.{flat_map, AllByRecursion}
-use Rattle.std.specs.List.Sorted.{IsNonDecreasingBy}
 use Rattle.std.proofs.lemmas.Bool.{eq-eqb, eqb-true, ne_eqb}
 use Rattle.std.proofs.lemmas.List.{length-map}
 use Rattle.std.proofs.lemmas.List.Concat.{flat_map-append}
@@ -28,7 +27,7 @@ use Rattle.hu_span.specs.Kept.{takes, weighed_in, weighed_of}
 use Rattle.hu_span.specs.Mark.{mark_at, marks_from, marks_of, marks_with, places_of, record_at, IsMark}
 use Rattle.hu_span.proofs.GatherLemmas.{first-found, first_from, grown-found, grown_from}
 use Rattle.hu_span.proofs.WeighedLemmas.{weighed-record}
-use Rattle.hu_span.proofs.MarkLemmas.{each-filter, each-permutation, filter-append, taken-flat_map, taken-kept, taken-with}
+use Rattle.hu_span.proofs.MarkLemmas.{each-filter, filter-append, taken-flat_map, taken-kept, taken-with}
 use Rattle.hu_span.proofs.ReachLemmas.{can-reached, may-reached, Ends-reached}
 
 -- ---- beside each place
@@ -210,22 +209,19 @@ each-all : {A : Type 0} (P : A → Type 0) → ((x : A) → P x) → (xs : List 
 each-all P all [] = tt
 each-all P all (x ∷ xs) = (all x, each-all P all xs)
 
-pub grown-sorted : (keep : ℕ → Bool) (growth : Growth) (records : Records) (pattern : List (List ℕ)) (marks sorted : List Mark)
+pub grown-kept : (keep : ℕ → Bool) (growth : Growth) (records : Records) (pattern : List (List ℕ)) (marks : List Mark)
     → AllByRecursion IsSequence records
     → IsReached pattern
-    → marks ≡ filter (takes keep) (grown_from growth pattern 0 records) → AllByRecursion IsFit (places_of marks) → IsNonDecreasingBy
-    (λ mark. mark.item.0) sorted
-    → IsPermutation marks sorted
-    → ((item : ℕ) → marks_with item sorted ≡ marks_with item marks) → AreGrown records keep pattern growth sorted
-grown-sorted keep growth records pattern marks sorted rules is whole fit up same each =
+    → marks ≡ filter (takes keep) (grown_from growth pattern 0 records) → AllByRecursion IsFit (places_of marks)
+    → AreGrown records keep pattern growth marks
+grown-kept keep growth records pattern marks rules is whole fit =
     let all = grown_from growth pattern 0 records in
     let M : Mark → Type 0 = λ mark. MayTake growth pattern mark.item.0 in
     let kept = subst (AllByRecursion (λ (mark : Mark). keep mark.item.0 ≡ true)) (sym whole) (taken-kept keep all) in
     let mays = subst (AllByRecursion M) (sym whole) (each-filter M (takes keep) all (may growth)) in
     record {
-      sorted = up;
-      each = each-permutation (IsGrowth keep growth pattern) marks sorted same (each-growth keep growth pattern marks kept mays fit);
-      places = λ item k m. each item ∙ ap (marks_with item) whole ∙ taken-with keep item all k
+      each = each-growth keep growth pattern marks kept mays fit;
+      places = λ item k m. ap (marks_with item) whole ∙ taken-with keep item all k
           ∙ grown-found growth pattern item 0 records rules (can-reached growth pattern item is m);
     }
   where
@@ -238,17 +234,14 @@ grown-sorted keep growth records pattern marks sorted rules is whole fit up same
         (λ mark low. may-reached IntoLast pattern mark.item.0 is (record { ends = Ends-reached pattern is; below = low }))
         (grown-above pattern 0 records rules (Ends-reached pattern is))
 
-pub first-sorted : (keep : ℕ → Bool) (records : Records) (marks sorted : List Mark) → AllByRecursion IsSequence records
+pub first-kept : (keep : ℕ → Bool) (records : Records) (marks : List Mark) → AllByRecursion IsSequence records
     → marks ≡ filter (takes keep) (first_from 0 records) → AllByRecursion IsFit (places_of marks)
-    → IsNonDecreasingBy (λ mark. mark.item.0) sorted → IsPermutation marks sorted → ((item : ℕ) → marks_with item sorted ≡ marks_with item marks)
-    → AreGrown records keep [] AfterLast sorted
-first-sorted keep records marks sorted rules whole fit up same each =
+    → AreGrown records keep [] AfterLast marks
+first-kept keep records marks rules whole fit =
     let kept = subst (AllByRecursion (λ (mark : Mark). keep mark.item.0 ≡ true)) (sym whole) (taken-kept keep (first_from 0 records)) in
     record {
-      sorted = up;
-      each = each-permutation (IsGrowth keep AfterLast []) marks sorted same (each-growth keep AfterLast [] marks kept
-          (each-all (λ (mark : Mark). MayTake AfterLast [] mark.item.0) (λ mark. tt) marks) fit);
-      places = λ item k m. each item ∙ ap (marks_with item) whole ∙ taken-with keep item (first_from 0 records) k ∙ first-found item 0 records rules;
+      each = each-growth keep AfterLast [] marks kept (each-all (λ (mark : Mark). MayTake AfterLast [] mark.item.0) (λ mark. tt) marks) fit;
+      places = λ item k m. ap (marks_with item) whole ∙ taken-with keep item (first_from 0 records) k ∙ first-found item 0 records rules;
     }
 
 -- they are among the marks

@@ -1,7 +1,7 @@
 -- What a search makes that offers all children of a pattern and then enters them best bound first.
 use Rattle.std.proofs.Common.{◌≡◌, Bool, true, ℕ, ◌<◌, ◌≤◌, ◌+◌, ℤ, ◌<ℤ◌, ◌≤ℤ◌, List, [], ◌∷◌, length, get_or, take, refl, sym, ap}
 use Rattle.std.proofs.Common.{◌∙◌, subst}
-use Rattle.std.proofs.Common.{inl, inr, ◌⊎◌, arith, Contains, Result, Ok, Err, IsErr, IfOk, Option, None, Some, IfSome}
+use Rattle.std.proofs.Common.{inl, inr, ◌⊎◌, arith, Contains, Result, Ok, Err, IsErr, Option, None, Some, IfSome}
 use Rattle.std.specs.List.{AllByRecursion}
 use Rattle.std.proofs.lemmas.Bool.{false≢true}
 use Rattle.hu_span.specs.declared.search.Opened.{Opened}
@@ -22,8 +22,8 @@ use Rattle.hu_span.specs.declared.child.Child.{Child}
 use Rattle.hu_chain.specs.declared.chain.Growth.TheVariants.{IntoLast, AfterLast}
 use Rattle.hu_span.specs.declared.gather.Grown.{Grown}
 use Rattle.hu_span.specs.declared.child.Branch.{Branch}
-use Rattle.hu_span.specs.Branch.{AreCopies, Fall, IsBranch}
-use Rattle.hu_span.specs.Child.{child_entry, stepped, AreChildren, AreGathered, ArePlaces, IsChild}
+use Rattle.hu_span.specs.Branch.{IsBranch}
+use Rattle.hu_span.specs.Child.{child_entry, stepped, AreChildren, AreGathered, ArePlaces, IsChild, IsSpread}
 use Rattle.hu_span.proofs.BranchLemmas.{branch-of, fall-later, fall-past}
 use Rattle.hu_span.proofs.Fronts.{contains-before, contains-cases, contains-front, contains-here, Member-parts}
 use Rattle.hu_span.specs.Gather.{AreGrown}
@@ -39,8 +39,6 @@ use Rattle.hu_chain.specs.Pattern.{last_item}
 use Rattle.std.proofs.lemmas.List.{length-map}
 use Rattle.hu_span.specs.declared.step.Step.{Step}
 use Rattle.hu_span.specs.Step.{pattern_of}
-use Rattle.std.specs.declared.vec.Vec.{Vec}
-use Rattle.std.specs.declared.alloc.Global.{Global}
 use Rattle.hu_span.proofs.CutLemmas.{grown-back, grown-kept, leads-back, narrow-enough, narrow-fewer, narrow-own}
 use Rattle.hu_span.proofs.WeighedLemmas.{weighed-support, weighed-utility}
 use Rattle.hu_span.proofs.ReachLemmas.{can-reached, grown-reached, may-reached, support-before}
@@ -408,12 +406,6 @@ pub offers-all : {T E : Type 0} (old new : State) (records : Records) (keep : �
 offers-all old new records keep pattern all (Ok x) own are made = (all, are, made)
 offers-all old new records keep pattern all (Err e) own are made = offered-some records keep pattern own all are.each made
 
-pub best-kept : {E : Type 0} (records : Records) (keep : ℕ → Bool) (pattern : List (List ℕ)) (all : List Child) (floor : ℤ)
-    (result : Result (Vec Branch Global) E) → AreChildren records keep pattern all → IfOk result (λ kept. AreCopies floor all kept.items)
-    → IfOk result (λ kept. Fall kept.items) → IfOk result (λ kept. AreKeptBest records keep pattern floor kept.items)
-best-kept records keep pattern all floor (Ok kept) are copies fall = record { all = all; are = are; copies = copies; fall = fall }
-best-kept records keep pattern all floor (Err e) are copies fall = tt
-
 -- the rows and the places of marks
 pub marks-within : (records : Records) (keep : ℕ → Bool) (item n : ℕ) (marks : List Mark) → n ≡ length records
     → AllByRecursion (IsMark (weighed_of keep records) item) marks → AllByRecursion (λ mark. mark.row < n) marks
@@ -427,23 +419,16 @@ pub marks-fit : (records : Records) (item : ℕ) (marks : List Mark) → AllByRe
 marks-fit records item [] all = tt
 marks-fit records item (mark ∷ marks) all = let is = all.0 in (is.fit, marks-fit records item marks all.1)
 
-pub children-within : (records : Records) (keep : ℕ → Bool) (pattern : List (List ℕ)) (n : ℕ) (children : List Child) → n ≡ length records
-    → AllByRecursion (IsChild (weighed_of keep records) keep pattern) children
-    → AllByRecursion (λ child. AllByRecursion (λ mark. mark.row < n) child.marks.now) children
-children-within records keep pattern n [] same all = tt
-children-within records keep pattern n (child ∷ children) same all =
-    let is = all.0 in
-    (marks-within records keep child.step.item.0 n child.marks.now same is.places.each, children-within records keep pattern n children same all.1)
-
 -- what a node keeps, where its children were offered: all that it kept, or what is open
 pub narrowed-all : {old new : State} (records : Records) (kept : Bool × List Item) (steps : List Step) (marks : List Mark) (children : List Child)
     (reaches : List ℤ) (floor : ℤ) (fewer : Option (Bool × List Item)) → AreRecords records → IsReached (pattern_of steps)
     → AreKept (keeps kept) (pattern_of steps)
     → ArePlaces records (pattern_of steps) (last_item (pattern_of steps)) marks → AreChildren records (keeps kept) (pattern_of steps) children
-    → AreBelow reaches marks → floor ≡ floor_in new → IfSome fewer (AreOpen steps children reaches floor)
+    → AreBelow reaches marks → AllByRecursion (IsSpread reaches records (pattern_of steps)) children → floor ≡ floor_in new
+    → IfSome fewer (AreOpen steps children floor)
     → Reached old (IsOneOf records (pattern_of steps) children) new
     → IsNarrowed old new records (keeps kept) (pattern_of steps) (counting fewer kept)
-narrowed-all records kept steps marks children reaches floor None are reached own places all below same opened made = record {
+narrowed-all records kept steps marks children reaches floor None are reached own places all below spreads same opened made = record {
   all = children;
   are = all;
   offers = made;
@@ -451,14 +436,14 @@ narrowed-all records kept steps marks children reaches floor None are reached ow
   own = own;
   enough = λ other from whole occurs high. whole;
 }
-narrowed-all {new = new} records kept steps marks children reaches floor (Some fewer) are reached own places all below same opened made = record {
+narrowed-all {new = new} records kept steps marks children reaches floor (Some fewer) are reached own places all below spreads same opened made = record {
   all = children;
   are = all;
   offers = made;
-  fewer = narrow-fewer records (keeps kept) steps marks children reaches floor fewer are reached places all below opened own;
-  own = narrow-own records (keeps kept) steps marks children reaches floor fewer are reached places all below opened;
+  fewer = narrow-fewer records (keeps kept) steps marks children reaches floor fewer are reached places all below spreads opened own;
+  own = narrow-own records (keeps kept) steps marks children reaches floor fewer are reached places all below spreads opened;
   enough = λ other from whole occurs high.
-      narrow-enough records (keeps kept) steps marks children reaches floor fewer are reached places all below opened other from whole occurs
+      narrow-enough records (keeps kept) steps marks children reaches floor fewer are reached places all below spreads opened other from whole occurs
       (subst (λ f. f ≤ℤ sequence_utility records other) (sym same) high);
 }
 
@@ -485,7 +470,6 @@ first-gathered records keep grown are none after = record {
     are = are;
     begun = inl refl;
     grown = subst (AreGrown records keep [] IntoLast) (sym none) (record {
-      sorted = λ i j d le within. absurd (omega (arith, within));
       each = tt;
       places = λ item kept may. absurd may;
     });

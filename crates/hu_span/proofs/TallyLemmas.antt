@@ -1,6 +1,6 @@
 -- What the places of a pattern tell: its utility, its support and its bound.
 use Rattle.std.proofs.Common.{◌≡◌, ℕ, zero, suc, ◌+◌, ◌<◌, ◌≤◌, ◌^◌, ◌&&◌, Bool, true, false, cond, eqb, ltb, ℤ, pos, ◌+ℤ◌, ◌≤ℤ◌, ◌<ℤ◌, Option, None, Some}
-use Rattle.std.proofs.Common.{is_some, unwrap_or, List, [], ◌∷◌, ◌++◌, map, length, get_or, take, to_z, of_z, refl, sym, ap, ◌∙◌, subst, ◌⊎◌, inl, inr, arith}
+use Rattle.std.proofs.Common.{is_some, unwrap_or, List, [], ◌∷◌, ◌++◌, map, length, get_or, to_z, of_z, refl, sym, ap, ◌∙◌, subst, ◌⊎◌, inl, inr, arith}
 use Rattle.std.proofs.Common.{sum_by}
 use Rattle.std.specs.Int.{int_max, w128}
 use Rattle.std.specs.List.{AllByRecursion}
@@ -106,7 +106,7 @@ told-row item row t (place ∷ places) here some =
     } in
     subst (λ (s : Tally). IsRow t (told_from s (map (mark_at row item) places)) (place ∷ places)) (sym is) joined
 
-told_from-append : (t : Tally) (xs ys : List Mark) → told_from t (xs ++ ys) ≡ told_from (told_from t xs) ys
+pub told_from-append : (t : Tally) (xs ys : List Mark) → told_from t (xs ++ ys) ≡ told_from (told_from t xs) ys
 told_from-append t [] ys = refl
 told_from-append t (x ∷ xs) ys = told_from-append (told_with t x) xs ys
 
@@ -274,17 +274,6 @@ told-next t mark differs = by (ltb 0 t.rows) (eqb t.row mark.row) refl refl
 
 pub told-push : (t : Tally) (marks : List Mark) (mark : Mark) → told_from t (marks ++ mark ∷ []) ≡ told_with (told_from t marks) mark
 told-push t marks mark = told_from-append t marks (mark ∷ [])
-
--- the tally of the front of marks reaches no further than all of them
-pub front-reaches : (marks : List Mark) (i : ℕ) → AllByRecursion IsFit (places_of marks)
-    → reaches_of (told_from none_told (take i marks)) ≤ℤ reaches_of (told marks)
-front-reaches marks i fit = by none_told marks i IsTally-none fit
-  where
-    by : (t : Tally) (ms : List Mark) (i : ℕ) → IsTally t → AllByRecursion IsFit (places_of ms)
-        → reaches_of (told_from t (take i ms)) ≤ℤ reaches_of (told_from t ms)
-    by t ms zero is fit = reaches-most t ms is fit
-    by t [] (suc i) is fit = omega (arith, ints)
-    by t (m ∷ ms) (suc i) is fit = by (told_with t m) ms i (IsTally-with t m is fit.0) fit.1
 
 -- ---- a tally fits
 

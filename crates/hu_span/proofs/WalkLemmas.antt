@@ -27,7 +27,7 @@ use Rattle.hu_span.specs.Gather.{cells_after, marks_in, marks_past, tail_marks, 
 use Rattle.hu_span.specs.Kept.{counted, takes, weighed, weighed_in}
 use Rattle.hu_span.specs.Mark.{mark_at, places_of}
 use Rattle.hu_span.proofs.NumberLemmas.{kept-z}
-use Rattle.hu_span.proofs.WeighedLemmas.{weigh, weighed-after, weighed-element, weighed-inside}
+use Rattle.hu_span.proofs.WeighedLemmas.{weigh, weighed-after, weighed-element, weighed-inside, weighed-sequence}
 
 -- ---- the marks of a tail
 
@@ -273,6 +273,38 @@ module _ (elements : List (List (ℕ × ℤ))) (rules : IsSequence elements) whe
   pub marks-end : (e : ℕ) (walk : Walk) → length elements ≤ e → marks_past elements e walk ≡ []
   marks-end e walk past = ap (walk_marks walk.row e walk.best walk.ahead (places_of walk.left.now)) (drop-past elements e past)
 
+-- ---- an element whose kept cells are summed
+
+-- the kept cells of an element, what is left behind it, and what all elements from another one on hold
+pub record IsElement (keep : ℕ → Bool) (elements : List (List (ℕ × ℤ))) (e first : ℕ) (cells : List (ℕ × ℤ)) : Type 0 where
+  pub above : AllByRecursion IsAbove cells
+  pub low : pos 0 ≤ℤ total cells
+  pub split : totals (drop e (weighed_in keep elements)) ≡ total cells +ℤ totals (drop (suc e) (weighed_in keep elements))
+  pub later : pos 0 ≤ℤ totals (drop (suc e) (weighed_in keep elements))
+  pub most : totals (drop e (weighed_in keep elements)) ≤ℤ totals (weighed_in keep elements)
+  pub front : totals (drop first (weighed_in keep elements)) ≤ℤ totals (weighed_in keep elements)
+  pub fits : totals (weighed_in keep elements) <ℤ pos (2 ^ 127)
+
+pub element-turn : (keep : ℕ → Bool) (elements : List (List (ℕ × ℤ))) (e first : ℕ) (cells : List (ℕ × ℤ)) → IsSequence elements → e < length elements
+    → cells ≡ element_at elements e → IsElement keep elements e first (weighed keep cells)
+element-turn keep elements e first cells rules inside seen =
+    let es = weighed_in keep elements in
+    let kept = weighed-sequence keep elements rules in
+    let size = length-map elements (weighed keep) in
+    let here = ap (weighed keep) seen ∙ sym (weighed-element keep elements e) in
+    let same = ap total here in
+    let low' = low-at es kept e in
+    let split' = ap totals (drop-at es e (omega (arith, size, inside))) in
+    record {
+      above = subst (AllByRecursion IsAbove) (sym here) (element_above es kept e);
+      low = omega (arith, ints, same, low');
+      split = omega (arith, ints, same, split');
+      later = low-later es kept (suc e);
+      most = later-within es kept e;
+      front = later-within es kept first;
+      fits = totals-fit es kept;
+    }
+
 -- ---- the cells that are left of a tail
 
 -- a cell, and those after it
@@ -305,6 +337,31 @@ cell-left keep cells i d above within =
 pub counted-z : (b : Bool) (v : ℤ) → pos 0 ≤ℤ counted b v → counted b v <ℤ pos (2 ^ 127) → counted b (to_z w128 (of_z w128 v)) ≡ counted b v
 counted-z true v low high = kept-z v low high
 counted-z false v low high = refl
+
+-- a cell's value where it counts, as a number
+pub record IsCounted (keep : ℕ → Bool) (cells : List Cell) (i : ℕ) (cell : Cell) (value : ℤ) : Type 0 where
+  pub left : IsCellLeft keep cells i cell
+  pub sum : total (weighed keep (pairs_of (drop i cells)))
+      ≡ counted (keep cell.item.0) cell.value +ℤ total (weighed keep (pairs_of (drop (i + 1) cells)))
+  pub is : value ≡ counted (keep cell.item.0) cell.value
+  pub stored : to_z w128 (of_z w128 value) ≡ value
+
+pub cell-counted : (keep : ℕ → Bool) (cells : List Cell) (i : ℕ) (d : Cell) → AllByRecursion IsAbove (weighed keep (pairs_of cells)) → i < length cells
+    → total (weighed keep (pairs_of cells)) <ℤ pos (2 ^ 127) → (value : ℤ) (b : Bool)
+    → value ≡ counted b (to_z w128 (of_z w128 (get_or cells i d).value)) → b ≡ keep (get_or cells i d).item.0
+    → IsCounted keep cells i (get_or cells i d) value
+cell-counted keep cells i d above within fits value b is kept =
+    let cell = get_or cells i d in
+    let left = cell-left keep cells i d above within in
+    let sum = ap total left.next in
+    let same = is ∙ ap (λ k. counted k (to_z w128 (of_z w128 cell.value))) kept
+    ∙ counted-z (keep cell.item.0) cell.value left.low (omega (arith, ints, sum, left.later, left.front, fits)) in
+    record {
+      left = left;
+      sum = sum;
+      is = same;
+      stored = kept-z value (omega (arith, ints, same, left.low)) (omega (arith, ints, same, sum, left.later, left.front, fits));
+    }
 
 taken-next : (marks : List Mark) (b : Bool) (mark : Mark) (rest : List Mark) → (marks ++ filter (λ _. b) (mark ∷ [])) ++ rest ≡ marks ++ cond b
     (mark ∷ rest) rest

@@ -5,9 +5,12 @@ use Rattle.hu_kind.specs.Sequence.{sequence_support, sequence_utility}
 use Rattle.hu_chain.specs.Grown.{IsGrownFrom}
 use Rattle.hu_span.specs.declared.child.Branch.{Branch}
 use Rattle.hu_span.specs.declared.child.Child.{Child}
-use Rattle.hu_span.specs.Child.{stepped, ArePlaces}
+use Rattle.hu_span.specs.declared.mark.Mark.{Mark}
+use Rattle.hu_chain.specs.declared.chain.Growth.{Growth}
+use Rattle.hu_span.specs.Child.{stepped, AreChildrenBy, ArePlaces}
 use Rattle.hu_span.specs.Gather.{MayTake}
 use Rattle.hu_span.specs.Growing.{Records}
+use Rattle.hu_span.specs.Mark.{marks_with}
 
 -- a branch of a pattern: a step by a kept item that the pattern may take, where what it makes occurs, with its places; no
 -- pattern earns more than its bound that grows from it
@@ -20,30 +23,50 @@ pub record IsBranch (records : Records) (keep : ℕ → Bool) (pattern : List (L
   pub bound : (other : List (List ℕ)) → IsGrownFrom (stepped pattern branch.step) other
       → sequence_utility records other ≤ℤ branch.bound
 
--- a branch is a child with places of its own
-pub record IsCopy (child : Child) (branch : Branch) : Type 0 where
+-- the marks of a child's item are its places
+abbrev pub HasPlaces : Records → List (List ℕ) → List Mark → Child → Type 0
+HasPlaces records pattern marks child =
+    ArePlaces records (stepped pattern child.step) child.step.item.0
+    (marks_with child.step.item.0 marks)
+
+-- a branch is a child with its places
+pub record IsCopy (records : Records) (pattern : List (List ℕ)) (child : Child)
+    (branch : Branch) : Type 0 where
   pub step : branch.step ≡ child.step
-  pub marks : branch.marks.items ≡ child.marks.now
+  pub places : ArePlaces records (stepped pattern child.step) child.step.item.0 branch.marks.items
   pub bound : branch.bound ≡ child.bound
 
 -- one of the branches is a child
-pub record HasCopy (branches : List Branch) (child : Child) : Type 0 where
+pub record HasCopy (records : Records) (pattern : List (List ℕ)) (branches : List Branch)
+    (child : Child) : Type 0 where
   pub branch : Branch
   pub among : Contains branches branch
-  pub is : IsCopy child branch
+  pub is : IsCopy records pattern child branch
 
 -- the branches are children, and all of those whose bound reaches a floor
-pub record AreCopies (floor : ℤ) (children : List Child) (branches : List Branch) : Type 0 where
+pub record AreCopies (records : Records) (pattern : List (List ℕ)) (floor : ℤ)
+    (children : List Child) (branches : List Branch) : Type 0 where
   pub each : (branch : Branch) → Contains branches branch
-      → (child : Child) × Contains children child × IsCopy child branch
-  pub all : (child : Child) → Contains children child → HasCopy branches child ⊎ (child.bound <ℤ floor)
+      → (child : Child) × Contains children child × IsCopy records pattern child branch
+  pub all : (child : Child) → Contains children child
+      → HasCopy records pattern branches child ⊎ (child.bound <ℤ floor)
 
--- branches with a child more, if it is kept
-abbrev pub IsPushed : Bool → List Branch → List Branch → Child → Type 0
-IsPushed true old new child = (branch : Branch) × (new ≡ old ++ branch ∷ []) × IsCopy child branch
-IsPushed false old new child = new ≡ old
+-- branches with a child more, if it is kept, by the marks of its item
+abbrev pub IsPushed : Bool → List Mark → List Branch → List Branch → Child → Type 0
+IsPushed true marks old new child = (branch : Branch) × (new ≡ old ++ branch ∷ [])
+    × (branch.step ≡ child.step) × (branch.marks.items ≡ marks_with child.step.item.0 marks)
+    × (branch.bound ≡ child.bound)
+IsPushed false marks old new child = new ≡ old
 
 -- bounds that fall
 abbrev pub Fall : List Branch → Type 0
 Fall [] = Unit {0}
-Fall (branch ∷ branches) = AllByRecursion (λ later. later.bound ≤ℤ branch.bound) branches × Fall branches
+Fall (branch ∷ branches) =
+    AllByRecursion (λ later. later.bound ≤ℤ branch.bound) branches × Fall branches
+
+-- the branches of a kind of growth are those children of all that reach a floor
+pub record AreBranchesBy (records : Records) (keep : ℕ → Bool) (pattern : List (List ℕ))
+    (growth : Growth) (floor : ℤ) (branches : List Branch) : Type 0 where
+  pub all : List Child
+  pub are : AreChildrenBy records keep pattern growth all
+  pub copies : AreCopies records pattern floor all branches

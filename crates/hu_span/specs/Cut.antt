@@ -53,12 +53,17 @@ spread reaches marks = spread_after reaches None marks
 abbrev pub AreBelow : List ℤ → List Mark → Type 0
 AreBelow reaches marks = AllByRecursion (λ mark. reach mark.place ≤ℤ at_row reaches mark.row) marks
 
+-- a sum that is known stays below a floor
+abbrev pub IsLow : Option ℤ → ℤ → Type 0
+IsLow None floor = ⊥
+IsLow (Some sum) floor = sum <ℤ floor
+
 -- the items that are kept at a node: those of its steps, and those of its children whose rows reach the floor
-pub record AreOpen (steps : List Step) (children : List Child) (reaches : List ℤ) (floor : ℤ)
+pub record AreOpen (steps : List Step) (children : List Child) (floor : ℤ)
     (kept : Bool × List Item) : Type 0 where
   pub known : (item : ℕ) → keeps kept item ≡ true
       → Contains (map (λ step. step.item.0) steps) item ⊎ Contains
       (map (λ child. child.step.item.0) children) item
   pub own : AllByRecursion (λ step. keeps kept step.item.0 ≡ true) steps
   pub reaching : AllByRecursion (λ child. (keeps kept child.step.item.0 ≡ true) ⊎
-      (spread reaches child.marks.now <ℤ floor)) children
+      IsLow child.spread floor) children

@@ -24,7 +24,6 @@ use Rattle.std.specs.Prelude.{
 }
 use Rattle.std.specs.Prelude.{◌++◌, drop, length}
 use Rattle.std.specs.List.{flat_map, AllByRecursion}
-use Rattle.std.specs.List.Sorted.{IsNonDecreasingBy}
 use Rattle.hu_kind.specs.Cell.{pairs_of}
 use Rattle.hu_kind.specs.Record.{total}
 use Rattle.hu_chain.specs.declared.chain.Growth.{Growth}
@@ -104,15 +103,15 @@ MayTake growth [] item = Begins growth
 MayTake growth (items ∷ pattern) item = CanGrow growth (items ∷ pattern) item
 
 -- a mark by which a pattern may grow with kept items
-pub record IsGrowth (keep : ℕ → Bool) (growth : Growth) (pattern : List (List ℕ)) (mark : Mark) : Type 0 where
+pub record IsGrowth (keep : ℕ → Bool) (growth : Growth) (pattern : List (List ℕ))
+    (mark : Mark) : Type 0 where
   pub kept : keep mark.item.0 ≡ true
   pub may : MayTake growth pattern mark.item.0
   pub fit : IsFit mark.place
 
--- marks of all kept items by which a pattern can grow, in the order of the items: those of each are the places of the grown pattern
+-- marks of all kept items by which a pattern can grow: those of each are the places of the grown pattern
 pub record AreGrown (records : List (List (List (ℕ × ℤ)))) (keep : ℕ → Bool)
     (pattern : List (List ℕ)) (growth : Growth) (marks : List Mark) : Type 0 where
-  pub sorted : IsNonDecreasingBy (λ mark. mark.item.0) marks
   pub each : AllByRecursion (IsGrowth keep growth pattern) marks
   pub places : (item : ℕ) → keep item ≡ true → MayTake growth pattern item → marks_with item marks
       ≡ marks_of records (grown growth pattern item) item

@@ -1,4 +1,5 @@
 pub mod Kept
+pub mod Links
 pub mod Step
 pub mod Mark
 pub mod Gather

@@ -1,5 +1,5 @@
 -- Marks: the cells of an item at which a pattern ends, in records by their numbers.
-use Rattle.std.specs.Prelude.{◌<◌, ◌==◌, ℕ, suc, ℤ, Bool, List, [], ◌∷◌, ◌++◌, map, length, slice_index_or, if◌then◌else◌}
+use Rattle.std.specs.Prelude.{◌<◌, ◌==◌, ℕ, suc, ℤ, Bool, List, [], ◌∷◌, ◌++◌, map, length, slice_index_or}
 use Rattle.std.specs.List.{filter}
 use Rattle.hu_chain.specs.declared.place.Place.{Place}
 use Rattle.hu_chain.specs.Bound.{IsFit}
@@ -18,11 +18,6 @@ is_of item mark = item == mark.item.0
 -- the marks of an item
 abbrev pub marks_with : ℕ → List Mark → List Mark
 marks_with item marks = filter (is_of item) marks
-
--- how many marks at the front are of an item
-abbrev pub run_of : ℕ → List Mark → ℕ
-run_of item [] = 0
-run_of item (mark ∷ marks) = if mark.item.0 == item then suc (run_of item marks) else 0
 
 -- the places of marks
 abbrev pub places_of : List Mark → List Place

@@ -36,7 +36,7 @@ pub record AreKeptBest (records : Records) (keep : ℕ → Bool) (pattern : List
     (kept : List Branch) : Type 0 where
   pub all : List Child
   pub are : AreChildren records keep pattern all
-  pub copies : AreCopies floor all kept
+  pub copies : AreCopies records pattern floor all kept
   pub fall : Fall kept
 
 -- the first of the kept children were entered

@@ -18,9 +18,12 @@ use Rattle.std.specs.Prelude.{
   if◌then◌else◌,
 }
 use Rattle.std.specs.Int.{int_max}
+use Rattle.std.specs.Prelude.{◌≡◌, IfSome}
 use Rattle.hu_chain.specs.Bound.{reach}
+use Rattle.hu_span.specs.Cut.{at_row, spread}
 use Rattle.hu_span.specs.declared.mark.Mark.{Mark}
 use Rattle.hu_span.specs.declared.tally.Tally.{Tally}
+use Rattle.hu_span.specs.declared.tally.Told.{Told}
 
 -- what no mark tells
 abbrev pub none_told : Tally
@@ -78,3 +81,12 @@ pub record IsTally (t : Tally) : Type 0 where
   pub bests : pos 0 ≤ℤ t.bests
   pub reach : t.best ≤ℤ t.reach
   pub reaches : t.bests ≤ℤ t.reaches
+
+-- what a mark more in a row adds to the sum over rows: the row's, where it is the first of the row
+abbrev pub spread_more : List ℤ → Tally → ℕ → ℤ
+spread_more reaches t row = if nat_lt 0 t.rows && (t.row == row) then pos 0 else at_row reaches row
+
+-- what is told of marks: their tally, and the sum over their rows where it is known
+pub record IsTold (reaches : List ℤ) (marks : List Mark) (what : Told) : Type 0 where
+  pub tally : what.tally ≡ told marks
+  pub spread : IfSome what.spread (λ sum. sum ≡ spread reaches marks)

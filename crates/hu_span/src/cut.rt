@@ -1,10 +1,10 @@
 //! Which items are still taken below a pattern: those whose records reach the floor.
 
-ghost use Rattle.std.specs.Prelude.{◌≡◌, ◌⊎◌, ◌<◌, ◌<ℤ◌, true, false, length, IfOk, IfSome, OnOk};
+ghost use Rattle.std.specs.Prelude.{◌≡◌, ◌⊎◌, ◌<◌, true, false, length, IfOk, IfSome, OnOk};
 ghost use Rattle.std.specs.List.{AllByRecursion, Contains};
 ghost use Rattle.hu_kind.specs.declared.item.Item.{Item};
 ghost use Rattle.hu_chain.specs.Bound.{IsFit};
-ghost use Rattle.hu_span.specs.Cut.{spread, AreBelow, AreOpen};
+ghost use Rattle.hu_span.specs.Cut.{AreBelow, AreOpen, IsLow};
 ghost use Rattle.hu_span.specs.Mark.{places_of};
 
 use crate::child::Child;
@@ -32,25 +32,17 @@ pub(crate) fn set_reaches(marks: &[Mark], reaches: &mut [i128])
 pub(crate) fn open_items(
     alloc: Global,
     steps: &[Step],
-    children: &[Child<'_>],
-    reaches: &[i128],
+    children: &[Child],
     floor: i128,
 ) -> Result<Option<Kept>, NoMemory>
-    requires { AllByRecursion (λ child. AllByRecursion
-        (λ mark. mark.row < length reaches.now) child.marks.now) children.now }
-    ensures { IfOk result (λ fewer. IfSome fewer (AreOpen steps.now children.now reaches.now
-        floor)) }
+    ensures { IfOk result (λ fewer. IfSome fewer (AreOpen steps.now children.now floor)) }
 {
     let mut items = Vec::new(alloc);
     'steps: for step in steps {
         items.push(step.item)?;
     }
     'children: for child in children {
-        push_if(
-            &mut items,
-            child.step.item,
-            is_open(child.marks, reaches, floor),
-        )?;
+        push_if(&mut items, child.step.item, is_open(child, floor))?;
     }
     if items.len().checked_sub(steps.len()) == Some(children.len()) {
         return Ok(None);
@@ -59,31 +51,14 @@ pub(crate) fn open_items(
     Ok(Some(kept))
 }
 
-/// Whether the rows of marks reach a floor together. They do where no number tells their sum.
-fn is_open(marks: &[Mark], reaches: &[i128], floor: i128) -> bool
-    requires { AllByRecursion (λ mark. mark.row < length reaches.now) marks.now }
-    ensures { result ≡ false → spread reaches.now marks.now <ℤ floor }
+/// Whether the rows of a child reach a floor together. They do where no number tells their sum.
+fn is_open(child: &Child, floor: i128) -> bool
+    ensures { result ≡ false → IsLow child.now.spread floor }
 {
-    match spread(marks, reaches) {
+    match child.spread {
         Some(sum) => sum >= floor,
         None => true,
     }
-}
-
-/// The sum over the rows of marks, each row once.
-fn spread(marks: &[Mark], reaches: &[i128]) -> Option<i128>
-    requires { AllByRecursion (λ mark. mark.row < length reaches.now) marks.now }
-    ensures { IfSome result (λ sum. sum ≡ spread reaches.now marks.now) }
-{
-    let mut sum: i128 = 0;
-    let mut last = None;
-    'marks: for mark in marks {
-        if last != Some(mark.row) {
-            sum = sum.checked_add(reaches[mark.row])?;
-        }
-        last = Some(mark.row);
-    }
-    Some(sum)
 }
 
 /// Appends an item that is kept.

@@ -16,7 +16,7 @@ ghost use Rattle.hu_span.specs.Kept.{keeps, takes, weighed, weighed_in, weighed_
 ghost use Rattle.hu_span.specs.Mark.{places_of};
 
 use crate::kept::{Kept, counted};
-use crate::mark::{Mark, by_item};
+use crate::mark::Mark;
 use hu_chain::{Growth, Place};
 use hu_kind::{Cell, Element, NoMemory, SeqRecord};
 use std::alloc::Global;
@@ -71,7 +71,7 @@ pub(crate) fn first_grown(
     })
 }
 
-/// The marks of the kept items of records, in the order of the items.
+/// The marks of the kept items of records.
 fn first_marks(alloc: Global, records: &[SeqRecord], kept: &Kept) -> Result<Vec<Mark>, NoMemory>
     ensures marks { IfOk result (λ marks.
         AreGrown (weighed_of (keeps kept.now) records.now)
@@ -89,11 +89,10 @@ fn first_marks(alloc: Global, records: &[SeqRecord], kept: &Kept) -> Result<Vec<
         };
         push_walk(&mut marks, kept, elements, 0, walk)?;
     }
-    by_item(&mut marks)?;
     Ok(marks)
 }
 
-/// The marks of a pattern with an item more in its last itemset, in the order of the items.
+/// The marks of a pattern with an item more in its last itemset.
 fn marks_into(
     alloc: Global,
     records: &[SeqRecord],
@@ -108,15 +107,14 @@ fn marks_into(
         → IfOk result (λ grown. AreGrown (weighed_of (keeps kept.now) records.now)
         (keeps kept.now) p Growth.IntoLast grown.items) }
 {
-    let mut grown = Vec::new(alloc);
+    let mut grown = Vec::with_capacity(alloc, marks.len())?;
     'marks: for mark in marks {
         push_beside(&mut grown, kept, records[mark.row].elements(), mark)?;
     }
-    by_item(&mut grown)?;
     Ok(grown)
 }
 
-/// The marks of a pattern with an item in a new last itemset, in the order of the items.
+/// The marks of a pattern with an item in a new last itemset.
 fn marks_after(
     alloc: Global,
     records: &[SeqRecord],
@@ -131,14 +129,13 @@ fn marks_after(
         → IfOk result (λ grown. AreGrown (weighed_of (keeps kept.now) records.now)
         (keeps kept.now) p Growth.AfterLast grown.items) }
 {
-    let mut grown = Vec::new(alloc);
+    let mut grown = Vec::with_capacity(alloc, marks.len())?;
     let mut left = marks;
     'rows: while let Some((first, later)) = left.split_first() {
         let (row, next) = later.split_at(row_len(later, first.row));
         push_later(&mut grown, kept, records[first.row].elements(), first, row)?;
         left = next;
     }
-    by_item(&mut grown)?;
     Ok(grown)
 }
 

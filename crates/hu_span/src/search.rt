@@ -27,8 +27,9 @@ use std::alloc::Global;
 
 /// Offers the sequences that can change what the collector holds, with their utility and their support, so that it holds
 /// what all sequences that occur would make. The places of all patterns with one item more than a pattern are gathered in
-/// one pass over its places and put in the order of their items by one sort. All these patterns are offered before any is
-/// entered. Then those items are dropped that reach the floor in no pattern below: the sum over the records in which an item
+/// one pass over its places. A second pass sums what they tell of each item and links those of an item, so that they are
+/// taken apart for the patterns that are entered alone. All these patterns are offered before any is entered. Then those
+/// items are dropped that reach the floor in no pattern below: the sum over the records in which an item
 /// makes a child, each with the greatest utility and all that is left after it. Where some are dropped, what is left of a
 /// record is summed anew without them, in one walk from its end, and the places are gathered again. The patterns are entered
 /// best bound first, up to the first whose bound is below the floor of the moment. The bound is the sum over the records of
@@ -181,10 +182,10 @@ fn narrowed<C: Collect>(
         (weighed_of (keeps kept.now) records.now) kept.now (pattern_of steps.old.items) result }
 {
     let grown = gathered(alloc, records, kept, marks)?;
-    let children = children_of(alloc, &grown.into, &grown.after)?;
-    offer_children(alloc, steps, &children, collect)?;
     set_reaches(marks, reaches);
-    let fewer = open_items(alloc, steps, &children, reaches, collect.floor())?;
+    let children = children_of(alloc, &grown.into, &grown.after, reaches)?;
+    offer_children(alloc, steps, &children, collect)?;
+    let fewer = open_items(alloc, steps, &children, collect.floor())?;
     drop(children);
     Ok(Opened { fewer, grown })
 }
@@ -225,8 +226,7 @@ fn best_branches(alloc: Global, grown: Grown, floor: i128) -> Result<Vec<Branch>
     ensures { (rs : Records) → (keep : ℕ → Bool) → (p : Pattern) → AreGathered rs keep p grown
         → IfOk result (λ kept. AreKeptBest rs keep p floor kept.items) }
 {
-    let children = children_of(alloc, &grown.into, &grown.after)?;
-    best_of(alloc, &children, floor)
+    best_of(alloc, &grown.into, &grown.after, floor)
 }
 
 /// Offers the children of a pattern, by its marks of the two kinds of growth.
@@ -245,7 +245,7 @@ fn offer_grown<C: Collect>(
         → OffersAll (C.state collect.old) (C.state collect.new) rs keep
         (pattern_of steps.old.items) result }
 {
-    let children = children_of(alloc, &grown.into, &grown.after)?;
+    let children = children_of(alloc, &grown.into, &grown.after, &[])?;
     offer_children(alloc, steps, &children, collect)
 }
 
@@ -253,7 +253,7 @@ fn offer_grown<C: Collect>(
 fn offer_children<C: Collect>(
     alloc: Global,
     steps: &mut Vec<Step>,
-    children: &[Child<'_>],
+    children: &[Child],
     collect: &mut C,
 ) -> Result<(), NoMemory>
     requires ordered { IsInOrder (C.state collect.old) }
@@ -275,7 +275,7 @@ fn offer_children<C: Collect>(
 fn offer_child<C: Collect>(
     alloc: Global,
     steps: &mut Vec<Step>,
-    child: &Child<'_>,
+    child: &Child,
     collect: &mut C,
 ) -> Result<(), NoMemory>
     requires { (rs : Records) × (keep : ℕ → Bool) × IsChild rs keep

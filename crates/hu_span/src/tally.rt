@@ -1,10 +1,9 @@
 //! What marks of one pattern tell: its utility, its support and a bound, summed row by row.
 
-ghost use Rattle.std.specs.Prelude.{◌≡◌, ◌+◌, ◌<◌, ◌^◌, ◌<ℤ◌, pos};
-ghost use Rattle.std.specs.List.{AllByRecursion};
+ghost use Rattle.std.specs.Prelude.{◌≡◌, ◌+◌, ◌++◌, ◌∷◌, [], ◌<◌, ◌^◌, ◌+ℤ◌, ◌<ℤ◌, pos, ℕ, ℤ, List, IfSome};
 ghost use Rattle.hu_chain.specs.Bound.{IsFit};
-ghost use Rattle.hu_span.specs.Mark.{places_of};
-ghost use Rattle.hu_span.specs.Tally.{IsTally, none_told, reaches_of, told, told_with};
+ghost use Rattle.hu_span.specs.declared.mark.Mark.{Mark};
+ghost use Rattle.hu_span.specs.Tally.{spread_more, IsTally, IsTold, none_told, reaches_of, told_with};
 
 use crate::mark::Mark;
 
@@ -69,16 +68,49 @@ impl Tally {
     }
 }
 
-/// What marks tell.
-pub(crate) fn tally_of(marks: &[Mark]) -> Tally
-    requires fit { AllByRecursion IsFit (places_of marks.now) }
-    requires fits { reaches_of (told marks.now) <ℤ pos (2 ^ 127) }
-    ensures value { result ≡ told marks.now }
-    ensures rules { IsTally result }
-{
-    let mut tally = Tally::none();
-    for mark in marks {
-        tally = tally.with(mark);
+/// What is told of the marks of an item.
+#[derive(Clone, Copy)]
+pub(crate) struct Told {
+    pub tally: Tally,
+    /// The sum over the rows of the marks, each row once, where it is known.
+    pub spread: Option<i128>,
+}
+
+impl Told {
+    /// What no mark tells.
+    pub(crate) fn none() -> Told
+        ensures { (reaches : List ℤ) → IsTold reaches [] result }
+    {
+        Told {
+            tally: Tally::none(),
+            spread: Some(0),
+        }
     }
-    tally
+
+    /// What it tells with a mark more, by what is known of the rows.
+    pub(crate) fn with(self, mark: &Mark, reaches: &[i128]) -> Told
+        requires tally { IsTally self.tally }
+        requires fit { IsFit mark.now.place }
+        requires fits { reaches_of self.tally <ℤ pos (2 ^ 127) }
+        requires rows { self.tally.rows + 1 < 2 ^ 64 }
+        ensures { (marks : List Mark) → IsTold reaches.now marks self
+            → IsTold reaches.now (marks ++ mark.now ∷ []) result }
+    {
+        Told {
+            tally: self.tally.with(mark),
+            spread: spread_with(self, mark.row, reaches),
+        }
+    }
+}
+
+/// The sum over rows with a row more.
+fn spread_with(told: Told, row: usize, reaches: &[i128]) -> Option<i128>
+    ensures { IfSome result (λ sum. (before : ℤ) × (told.spread ≡ Some before)
+        × (sum ≡ before +ℤ spread_more reaches.now told.tally row)) }
+{
+    let sum = told.spread?;
+    if told.tally.rows > 0 && told.tally.row == row {
+        return Some(sum);
+    }
+    sum.checked_add(*reaches.get(row)?)
 }

@@ -1,18 +1,26 @@
-use Rattle.std.proofs.Common.{rules, subst}
+use Rattle.std.proofs.Common.{◌++◌, rules, sym, subst, to_z, of_z}
 use Rattle.std.specs.Int.{w128}
 use Rattle.std.proofs.lemmas.Int.{to_z-of_z}
 use Rattle.std.proofs.lemmas.List.Sorted.{answers_always}
 use Rattle.hu_span.specs.Branch.{AreCopies}
-use Rattle.hu_span.proofs.BranchLemmas.{copies-permuted, fall-sorted, stands_before, stands_before_order}
+use Rattle.hu_span.proofs.BranchLemmas.{copies-both, copies-permuted, fall-sorted, stands_before, stands_before_order}
+use Rattle.hu_span.proofs.ChildLemmas.{children-both}
 use Rattle.hu_span.proofs.child.best_of.Goals as goal
 
-pub returns-clause-copies : goal.returns-clause-copies
-returns-clause-copies c =
-    copies-permuted c.args.floor c.args.children.now c.in_ok-kept.kept.items c.sort_unstable_by.new.self.items
-    (subst (λ f. AreCopies f c.args.children.now c.in_ok-kept.kept.items) (to_z-of_z w128 c.args.floor c.ranges.floor) c.in_ok-kept.ensures)
-    c.sort_unstable_by.ensures.permutation
-
-pub returns-clause-fall : goal.returns-clause-fall
-returns-clause-fall c =
-    fall-sorted c.sort_unstable_by.new.self.items
-    (c.sort_unstable_by.ensures.sorted stands_before stands_before_order (answers_always _ _ _ (λ f a r f' k. search rules)))
+pub returns : goal.returns
+returns c rs keep p into after =
+    let floor = to_z w128 (of_z w128 c.args.floor) in
+    let one = c.in_ok-kept.ensures rs keep p into in
+    let two = c.in_ok-later.ensures rs keep p after in
+    let all = one.all ++ two.all in
+    let sorted = c.sort_unstable_by.new.self.items in
+    let both = copies-both rs p floor one.all two.all c.in_ok-kept.kept.items c.in_ok-later.later.items one.copies two.copies in
+    let copies = copies-permuted rs p floor all c.append.new.self.items sorted (subst (AreCopies rs p floor all) (sym c.in_ok-append.ensures.items) both)
+    c.sort_unstable_by.ensures.permutation in
+    record {
+      all = all;
+      are = children-both rs keep p one.all two.all one.are two.are;
+      copies = subst (λ f. AreCopies rs p f all sorted) (to_z-of_z w128 c.args.floor c.ranges.floor) copies;
+      fall = fall-sorted sorted
+          (c.sort_unstable_by.ensures.sorted stands_before stands_before_order (answers_always _ _ _ (λ f a r f' k. search rules)));
+    }

@@ -1,4 +1,4 @@
-use Rattle.std.proofs.Common.{◌∙◌, ◌++◌, refl, sym, ap, subst, rules, SFits}
+use Rattle.std.proofs.Common.{refl, sym, subst, rules, SFits}
 use Rattle.std.specs.Int.{w128}
 use Rattle.std.proofs.lemmas.Int.{to_z-of_z}
 use Rattle.hu_span.specs.Branch.{IsPushed}
@@ -8,10 +8,9 @@ pub returns-in_ok-push : goal.returns-in_ok-push
 returns-in_ok-push c =
     let child = c.args.child.now in
     let fits : SFits w128 child.bound = search rules in
-    let copied = c.in_ok-extend_from_slice.ensures.items ∙ ap (λ ms. ms ++ child.marks.now) c.in_ok-marks.ensures.items in
-    subst (λ b. IsPushed b c.args.kept.now.items c.push.new.self.items child) (sym c.if-is_kept.true)
-    (_, c.in_ok-push.ensures.items, record { step = refl; marks = copied; bound = to_z-of_z w128 child.bound fits })
+    subst (λ b. IsPushed b c.args.marks.now c.args.kept.now.items c.push.new.self.items child) (sym c.if-is_kept.true)
+    (_, c.in_ok-push.ensures.items, refl, c.in_ok-own.ensures child.step.item.0 c.requires.last, to_z-of_z w128 child.bound fits)
 
 pub returns-else-is_kept : goal.returns-else-is_kept
 returns-else-is_kept c =
-    subst (λ b. IsPushed b c.args.kept.now.items c.args.kept.now.items c.args.child.now) (sym c.if-is_kept.false) refl
+    subst (λ b. IsPushed b c.args.marks.now c.args.kept.now.items c.args.kept.now.items c.args.child.now) (sym c.if-is_kept.false) refl

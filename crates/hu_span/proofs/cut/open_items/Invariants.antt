@@ -6,4 +6,4 @@ abbrev pub invariant-steps : goal.invariant-steps
 invariant-steps l = l.items.items ≡ map (λ step. step.item) (take l.step-index l.steps)
 
 abbrev pub invariant-children : goal.invariant-children
-invariant-children l = AreSoFar l.steps l.children l.reaches l.floor l.items.items l.child-index
+invariant-children l = AreSoFar l.steps l.children l.floor l.items.items l.child-index

@@ -11,15 +11,13 @@ use Rattle.hu_span.proofs.MarkLemmas.{filter-append}
 use Rattle.hu_span.proofs.WeighedLemmas.{weighed-rules, weighed-sequence}
 use Rattle.hu_span.proofs.GatherLemmas.{first_from}
 use Rattle.hu_span.proofs.NumberLemmas.{kept-z}
-use Rattle.hu_span.proofs.RowsLemmas.{first-next, first-sorted}
+use Rattle.hu_span.proofs.RowsLemmas.{first-kept, first-next}
 use Rattle.hu_span.proofs.WalkLemmas.{drop-past, low-later, totals-fit}
 use Rattle.hu_span.proofs.gather.first_marks.Goals as goal
 
 pub push_walk-requires-clause-walk : goal.push_walk-requires-clause-walk
 push_walk-requires-clause-walk c =
     let keep = keeps c.args.kept.now in
-    let records = c.args.records.now in
-    let row = c.records.row in
     let r = c.index-records-row.result in
     let w = weighed_in keep r in
     let rules = weighed-sequence keep r c.elements-elements.ensures.rules in
@@ -93,5 +91,4 @@ returns-clause-marks c =
     let whole = sym (append-nil c.records.marks.items)
     ∙ ap (λ left. c.records.marks.items ++ filter (takes keep) (first_from row left)) (sym (drop-past rs row (omega (arith, past, size))))
     ∙ c.records.invariant.so_far in
-    first-sorted keep rs c.records.marks.items c.by_item.new.marks.items (weighed-rules keep records rules) whole c.records.invariant.fit
-    c.in_ok-by_item.ensures.sorted c.in_ok-by_item.ensures.same c.in_ok-by_item.ensures.each
+    first-kept keep rs c.records.marks.items (weighed-rules keep records rules) whole c.records.invariant.fit

@@ -10,7 +10,7 @@ use Rattle.hu_span.specs.Mark.{places_of}
 use Rattle.hu_span.specs.Kept.{keeps, takes, weighed_in, weighed_of}
 use Rattle.hu_span.proofs.WeighedLemmas.{weighed-rules}
 use Rattle.hu_span.proofs.ReachLemmas.{Ends-reached}
-use Rattle.hu_span.proofs.RowsLemmas.{front-within, grown-sorted, no-marks, seen-row, rows-end, rows-fit, rows-next, rows-places, rows-within}
+use Rattle.hu_span.proofs.RowsLemmas.{front-within, grown-kept, no-marks, seen-row, rows-end, rows-fit, rows-next, rows-places, rows-within}
 use Rattle.hu_span.proofs.RowsLemmas.{AreRowsLeft}
 use Rattle.hu_span.proofs.gather.marks_after.Goals as goal
 
@@ -73,6 +73,5 @@ returns c p is places =
     let records = weighed_of keep c.args.records.now in
     let none = no-marks c.rows.left.now c.in_default.ensures.cases in
     let left = subst (λ (ms : List Mark). AreRowsLeft records keep p ms c.rows.grown.items) none (c.rows.invariant p is places) in
-    grown-sorted keep AfterLast records p c.rows.grown.items c.by_item.new.marks.items (weighed-rules keep c.args.records.now c.requires.rules) is
+    grown-kept keep AfterLast records p c.rows.grown.items (weighed-rules keep c.args.records.now c.requires.rules) is
     (rows-end records keep p c.rows.grown.items left) left.fit
-    c.in_ok-by_item.ensures.sorted c.in_ok-by_item.ensures.same c.in_ok-by_item.ensures.each

@@ -24,10 +24,6 @@ total-requires-clause-none_below c =
     let rules = weighed-sequence keep elements c.requires.rules in
     let place = c.args.first.now.place in
     let cells = after-of keep elements place _ c.cells_after.ensures in
-    let is = c.requires.places.1.0 in
-    let fit = c.requires.fit.0 in
-    let later = low-later es rules (suc place.element) in
-    let here = total-above (cells_after es place) (after-above es rules place) in
     subst (AllByRecursion IsAbove) (sym cells) (after-above es rules place)
 
 pub total-requires-clause-fits : goal.total-requires-clause-fits
@@ -41,7 +37,6 @@ total-requires-clause-fits c =
     let is = c.requires.places.1.0 in
     let fit = c.requires.fit.0 in
     let later = low-later es rules (suc place.element) in
-    let here = total-above (cells_after es place) (after-above es rules place) in
     let same = ap total cells in
     omega (arith, ints, same, is.rest, fit.best, fit.reach, later)
 

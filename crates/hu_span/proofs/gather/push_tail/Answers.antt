@@ -4,33 +4,29 @@ use Rattle.std.proofs.lemmas.Int.{ints}
 use Rattle.hu_kind.specs.declared.item.Cell.{Cell}
 use Rattle.hu_kind.specs.Cell.{pairs_of}
 use Rattle.hu_kind.specs.Record.{total}
-use Rattle.hu_span.specs.Kept.{counted, keeps, weighed}
+use Rattle.hu_span.specs.Kept.{keeps, weighed}
 use Rattle.hu_span.proofs.NumberLemmas.{kept-z}
-use Rattle.hu_span.proofs.WalkLemmas.{cell-left, counted-z, drop-past, fit-in, stays-fit, tail-end, tail-next}
+use Rattle.hu_span.proofs.WalkLemmas.{cell-counted, drop-past, fit-in, stays-fit, tail-end, tail-next}
 use Rattle.hu_span.proofs.gather.push_tail.Goals as goal
+
+abbrev no_cell : Cell
+no_cell = record { item = record { 0 = 0 }; value = pos 0 }
 
 pub overflow_sub-rest : goal.overflow_sub-rest
 overflow_sub-rest c =
-    let none : Cell = record { item = record { 0 = 0 }; value = pos 0 } in
     let keep = keeps c.args.kept.now in
     let tail = c.args.tail in
     let i = c.cells.number in
-    let cell = get_or tail.cells.now i none in
-    let left = cell-left keep tail.cells.now i none c.requires.none_below c.cells-test.true in
-    let sum = ap total left.next in
-    let same : c.counted-value.result ≡ counted (keep cell.item.0) (to_z w128 (of_z w128 cell.value)) =
-    c.counted-value.ensures ∙ ap (λ b. counted b (to_z w128 (of_z w128 cell.value))) c.has-is_kept.ensures in
-    let value = same ∙ counted-z (keep cell.item.0) cell.value left.low
-    (omega (arith, ints, sum, left.later, left.front, c.requires.holds, c.requires.fits, c.requires.best)) in
-    let stored = kept-z c.counted-value.result (omega (arith, ints, value, left.low))
-    (omega (arith, ints, value, sum, left.later, left.front, c.requires.holds, c.requires.fits, c.requires.best)) in
-    let best = kept-z tail.best c.requires.best (omega (arith, ints, sum, left.low, left.later, left.front, c.requires.holds, c.requires.fits)) in
+    let t = cell-counted keep tail.cells.now i no_cell c.requires.none_below c.cells-test.true
+    (omega (arith, ints, c.requires.holds, c.requires.fits, c.requires.best)) c.counted-value.result c.has-is_kept.result c.counted-value.ensures
+    c.has-is_kept.ensures in
+    let left = t.left in
     omega (
       arith,
       ints,
-      sum,
-      value,
-      stored,
+      t.sum,
+      t.is,
+      t.stored,
       left.low,
       left.later,
       left.front,
@@ -43,46 +39,35 @@ overflow_sub-rest c =
 
 pub overflow_add-mark-in-cells : goal.overflow_add-mark-in-cells
 overflow_add-mark-in-cells c =
-    let none : Cell = record { item = record { 0 = 0 }; value = pos 0 } in
     let keep = keeps c.args.kept.now in
     let tail = c.args.tail in
     let i = c.cells.number in
-    let cell = get_or tail.cells.now i none in
-    let left = cell-left keep tail.cells.now i none c.requires.none_below c.cells-test.true in
-    let sum = ap total left.next in
-    let same : c.counted-value.result ≡ counted (keep cell.item.0) (to_z w128 (of_z w128 cell.value)) =
-    c.counted-value.ensures ∙ ap (λ b. counted b (to_z w128 (of_z w128 cell.value))) c.has-is_kept.ensures in
-    let value = same ∙ counted-z (keep cell.item.0) cell.value left.low
-    (omega (arith, ints, sum, left.later, left.front, c.requires.holds, c.requires.fits, c.requires.best)) in
-    let stored = kept-z c.counted-value.result (omega (arith, ints, value, left.low))
-    (omega (arith, ints, value, sum, left.later, left.front, c.requires.holds, c.requires.fits, c.requires.best)) in
-    let best = kept-z tail.best c.requires.best (omega (arith, ints, sum, left.low, left.later, left.front, c.requires.holds, c.requires.fits)) in
-    omega (arith, ints, sum, value, stored, best, left.low, left.later, left.front, c.requires.holds, c.requires.fits, c.requires.best)
+    let t = cell-counted keep tail.cells.now i no_cell c.requires.none_below c.cells-test.true
+    (omega (arith, ints, c.requires.holds, c.requires.fits, c.requires.best)) c.counted-value.result c.has-is_kept.result c.counted-value.ensures
+    c.has-is_kept.ensures in
+    let left = t.left in
+    let best = kept-z tail.best c.requires.best (omega (arith, ints, t.sum, left.low, left.later, left.front, c.requires.holds, c.requires.fits)) in
+    omega (arith, ints, t.sum, t.is, t.stored, best, left.low, left.later, left.front, c.requires.holds, c.requires.fits, c.requires.best)
 
 pub cells-preserved : goal.cells-preserved
 cells-preserved c =
-    let none : Cell = record { item = record { 0 = 0 }; value = pos 0 } in
     let keep = keeps c.args.kept.now in
     let tail = c.args.tail in
     let i = c.cells.number in
-    let cell = get_or tail.cells.now i none in
-    let left = cell-left keep tail.cells.now i none c.requires.none_below c.cells-test.true in
-    let sum = ap total left.next in
-    let same : c.counted-value.result ≡ counted (keep cell.item.0) (to_z w128 (of_z w128 cell.value)) =
-    c.counted-value.ensures ∙ ap (λ b. counted b (to_z w128 (of_z w128 cell.value))) c.has-is_kept.ensures in
-    let value = same ∙ counted-z (keep cell.item.0) cell.value left.low
-    (omega (arith, ints, sum, left.later, left.front, c.requires.holds, c.requires.fits, c.requires.best)) in
-    let stored = kept-z c.counted-value.result (omega (arith, ints, value, left.low))
-    (omega (arith, ints, value, sum, left.later, left.front, c.requires.holds, c.requires.fits, c.requires.best)) in
-    let best = kept-z tail.best c.requires.best (omega (arith, ints, sum, left.low, left.later, left.front, c.requires.holds, c.requires.fits)) in
+    let t = cell-counted keep tail.cells.now i no_cell c.requires.none_below c.cells-test.true
+    (omega (arith, ints, c.requires.holds, c.requires.fits, c.requires.best)) c.counted-value.result c.has-is_kept.result c.counted-value.ensures
+    c.has-is_kept.ensures in
+    let left = t.left in
+    let best = kept-z tail.best c.requires.best (omega (arith, ints, t.sum, left.low, left.later, left.front, c.requires.holds, c.requires.fits)) in
+    let cell = get_or tail.cells.now i no_cell in
     let rest = to_z w128 c.cells.rest-bits in
     let v = to_z w128 (of_z w128 c.counted-value.result) in
     let gone = c.cells.invariant.left in
-    let b = kept-z (to_z w128 (of_z w128 tail.best) +ℤ v) (omega (arith, ints, value, stored, best, left.low, c.requires.best))
-    (omega (arith, ints, sum, value, stored, best, left.later, left.front, c.requires.holds, c.requires.fits)) in
-    let r = kept-z (rest -ℤ v) (omega (arith, ints, sum, value, stored, left.later, left.front, gone, c.cells.rest-is, c.requires.holds))
-    (omega (arith, ints, sum, value, stored, left.low, left.front, gone, c.cells.rest-is, c.requires.fits, c.requires.best)) in
-    let counts = stored ∙ value in
+    let b = kept-z (to_z w128 (of_z w128 tail.best) +ℤ v) (omega (arith, ints, t.is, t.stored, best, left.low, c.requires.best))
+    (omega (arith, ints, t.sum, t.is, t.stored, best, left.later, left.front, c.requires.holds, c.requires.fits)) in
+    let r = kept-z (rest -ℤ v) (omega (arith, ints, t.sum, t.is, t.stored, left.later, left.front, gone, c.cells.rest-is, c.requires.holds))
+    (omega (arith, ints, t.sum, t.is, t.stored, left.low, left.front, gone, c.cells.rest-is, c.requires.fits, c.requires.best)) in
+    let counts = t.stored ∙ t.is in
     let b' = b ∙ (λ j. best j +ℤ counts j) in
     let r' = r ∙ (λ j. rest -ℤ counts j) in
     let next : tail.first + (i + 1) ≡ suc (tail.first + i) = omega arith in
@@ -94,7 +79,7 @@ cells-preserved c =
             row = tail.row;
             place = record { element = tail.element; cell = tail.first + i; best = b' j; rest = r' j };
           }) next r' c.cells.invariant.so_far;
-      left = omega (arith, ints, r', sum, gone, c.cells.rest-is);
+      left = omega (arith, ints, r', t.sum, gone, c.cells.rest-is);
     }
 
 pub returns-clause-fit : goal.returns-clause-fit

@@ -128,26 +128,12 @@ deepen-enter-requires g t c κs within =
 
 pub enter-narrowed-requires-clause-pattern : goal.enter-narrowed-requires-clause-pattern
 enter-narrowed-requires-clause-pattern g t c =
-    let records = c.args.records.now in
-    let kept = c.args.kept.now in
-    let keep = keeps kept in
-    let branch = c.args.branch.now in
-    let steps = c.args.steps.now.items in
-    let pushed = c.push.new.self.items in
-    let old = g.C.Collect.state c.args.collect.now in
-    let n = node keep records steps pushed branch c.requires.records c.requires.begun c.requires.pattern c.requires.branch c.in_ok-push.ensures.items in
+    let n = node c.requires.records c.requires.begun c.requires.pattern c.requires.branch c.in_ok-push.ensures.items in
     n.own
 
 pub enter-narrowed-requires-clause-reached : goal.enter-narrowed-requires-clause-reached
 enter-narrowed-requires-clause-reached g t c =
-    let records = c.args.records.now in
-    let kept = c.args.kept.now in
-    let keep = keeps kept in
-    let branch = c.args.branch.now in
-    let steps = c.args.steps.now.items in
-    let pushed = c.push.new.self.items in
-    let old = g.C.Collect.state c.args.collect.now in
-    let n = node keep records steps pushed branch c.requires.records c.requires.begun c.requires.pattern c.requires.branch c.in_ok-push.ensures.items in
+    let n = node c.requires.records c.requires.begun c.requires.pattern c.requires.branch c.in_ok-push.ensures.items in
     n.reached
 
 pub enter-narrowed-requires-clause-places : goal.enter-narrowed-requires-clause-places
@@ -155,11 +141,8 @@ enter-narrowed-requires-clause-places g t c =
     let records = c.args.records.now in
     let kept = c.args.kept.now in
     let keep = keeps kept in
-    let branch = c.args.branch.now in
-    let steps = c.args.steps.now.items in
     let pushed = c.push.new.self.items in
-    let old = g.C.Collect.state c.args.collect.now in
-    let n = node keep records steps pushed branch c.requires.records c.requires.begun c.requires.pattern c.requires.branch c.in_ok-push.ensures.items in
+    let n = node c.requires.records c.requires.begun c.requires.pattern c.requires.branch c.in_ok-push.ensures.items in
     let q = pattern_of pushed in
     subst (ArePlaces (weighed_of keep records) q (last_item q)) (sym c.deref.ensures.value) n.places
 
@@ -170,9 +153,8 @@ enter-returns-in_err-first-clause-made g t c =
     let keep = keeps kept in
     let branch = c.args.branch.now in
     let steps = c.args.steps.now.items in
-    let pushed = c.push.new.self.items in
     let old = g.C.Collect.state c.args.collect.now in
-    let n = node keep records steps pushed branch c.requires.records c.requires.begun c.requires.pattern c.requires.branch c.in_ok-push.ensures.items in
+    let n = node c.requires.records c.requires.begun c.requires.pattern c.requires.branch c.in_ok-push.ensures.items in
     let rs = weighed_of keep records in
     stopped {P = GrowsOn rs keep (stepped (pattern_of steps) branch.step)} c.from_residual-in_err-first.result c.from_residual-in_err-first.ensures.0
     (subst (λ q. ReachedSome old (GrowsOn rs keep q) (g.C.Collect.state c.narrowed.new.collect)) n.same c.in_err-first.ensures.made)
@@ -181,12 +163,10 @@ pub enter-regathered-requires-clause-places : goal.enter-regathered-requires-cla
 enter-regathered-requires-clause-places g t c =
     let records = c.args.records.now in
     let kept = c.args.kept.now in
-    let keep = keeps kept in
     let branch = c.args.branch.now in
     let steps = c.args.steps.now.items in
     let pushed = c.push.new.self.items in
-    let old = g.C.Collect.state c.args.collect.now in
-    let n = node keep records steps pushed branch c.requires.records c.requires.begun c.requires.pattern c.requires.branch c.in_ok-push.ensures.items in
+    let n = node c.requires.records c.requires.begun c.requires.pattern c.requires.branch c.in_ok-push.ensures.items in
     (pattern_of pushed, regathers records kept steps pushed branch c.in_ok-first.first _ n c.in_ok-first.ensures.made c.deref-2.ensures.value)
 
 pub enter-returns-in_err-fewer-clause-made : goal.enter-returns-in_err-fewer-clause-made
@@ -197,8 +177,7 @@ enter-returns-in_err-fewer-clause-made g t c =
     let branch = c.args.branch.now in
     let steps = c.args.steps.now.items in
     let pushed = c.push.new.self.items in
-    let old = g.C.Collect.state c.args.collect.now in
-    let n = node keep records steps pushed branch c.requires.records c.requires.begun c.requires.pattern c.requires.branch c.in_ok-push.ensures.items in
+    let n = node c.requires.records c.requires.begun c.requires.pattern c.requires.branch c.in_ok-push.ensures.items in
     let first = c.in_ok-first.first in
     let fewer = counting first.fewer kept in
     let is = c.in_ok-first.ensures.made in
@@ -209,12 +188,10 @@ pub enter-deepen-requires : goal.enter-deepen-requires
 enter-deepen-requires g t c κs within =
     let records = c.args.records.now in
     let kept = c.args.kept.now in
-    let keep = keeps kept in
     let branch = c.args.branch.now in
     let steps = c.args.steps.now.items in
     let pushed = c.push.new.self.items in
-    let old = g.C.Collect.state c.args.collect.now in
-    let n = node keep records steps pushed branch c.requires.records c.requires.begun c.requires.pattern c.requires.branch c.in_ok-push.ensures.items in
+    let n = node c.requires.records c.requires.begun c.requires.pattern c.requires.branch c.in_ok-push.ensures.items in
     let first = c.in_ok-first.first in
     let fewer = counting first.fewer kept in
     let is = c.in_ok-first.ensures.made in
@@ -245,8 +222,7 @@ enter-returns-in_err-deepen-clause-made g t c =
     let branch = c.args.branch.now in
     let steps = c.args.steps.now.items in
     let pushed = c.push.new.self.items in
-    let old = g.C.Collect.state c.args.collect.now in
-    let n = node keep records steps pushed branch c.requires.records c.requires.begun c.requires.pattern c.requires.branch c.in_ok-push.ensures.items in
+    let n = node c.requires.records c.requires.begun c.requires.pattern c.requires.branch c.in_ok-push.ensures.items in
     let first = c.in_ok-first.first in
     let fewer = counting first.fewer kept in
     let is = c.in_ok-first.ensures.made in
@@ -264,12 +240,10 @@ pub enter-returns-clause-made : goal.enter-returns-clause-made
 enter-returns-clause-made g t c =
     let records = c.args.records.now in
     let kept = c.args.kept.now in
-    let keep = keeps kept in
     let branch = c.args.branch.now in
     let steps = c.args.steps.now.items in
     let pushed = c.push.new.self.items in
-    let old = g.C.Collect.state c.args.collect.now in
-    let n = node keep records steps pushed branch c.requires.records c.requires.begun c.requires.pattern c.requires.branch c.in_ok-push.ensures.items in
+    let n = node c.requires.records c.requires.begun c.requires.pattern c.requires.branch c.in_ok-push.ensures.items in
     let first = c.in_ok-first.first in
     let fewer = counting first.fewer kept in
     let is = c.in_ok-first.ensures.made in

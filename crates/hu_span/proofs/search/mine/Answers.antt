@@ -15,14 +15,10 @@ use Rattle.hu_span.proofs.search.mine.Goals as goal
 
 pub offer_grown-requires-clause-grown : goal.offer_grown-requires-clause-grown
 offer_grown-requires-clause-grown g c =
-    let records : Records = records_of c.args.base.now in
     let seen = c.records-records.result.now in
-    let same = c.records-records.ensures in
     let keep = keeps c.every-kept.result in
-    let every = c.every-kept.ensures in
     let rs = weighed_of keep seen in
-    let steps = c.new-steps.result.items in
-    let r = root records seen keep steps c.in_ok-grown.grown same every (omega (arith, c.sum-sum.ensures.fits))
+    let r = root keep c.in_ok-grown.grown c.records-records.ensures c.every-kept.ensures (omega (arith, c.sum-sum.ensures.fits))
     c.in_ok-grown.ensures.rules c.new-steps.ensures.items c.in_ok-grown.ensures.into c.in_ok-grown.ensures.after in
     (rs, keep, r.gathered)
 
@@ -35,7 +31,7 @@ returns-in_err-offer_grown g c =
     let every = c.every-kept.ensures in
     let rs = weighed_of keep seen in
     let steps = c.new-steps.result.items in
-    let r = root records seen keep steps c.in_ok-grown.grown same every (omega (arith, c.sum-sum.ensures.fits))
+    let r = root keep c.in_ok-grown.grown c.records-records.ensures c.every-kept.ensures (omega (arith, c.sum-sum.ensures.fits))
     c.in_ok-grown.ensures.rules c.new-steps.ensures.items c.in_ok-grown.ensures.into c.in_ok-grown.ensures.after in
     let old = g.C.Collect.state c.args.collect.now in
     let new = g.C.Collect.state c.offer_grown.new.collect in
@@ -48,28 +44,20 @@ returns-in_err-offer_grown g c =
 
 pub deepen-requires-clause-ordered : goal.deepen-requires-clause-ordered
 deepen-requires-clause-ordered g c =
-    let records : Records = records_of c.args.base.now in
     let seen = c.records-records.result.now in
-    let same = c.records-records.ensures in
     let keep = keeps c.every-kept.result in
-    let every = c.every-kept.ensures in
     let rs = weighed_of keep seen in
-    let steps = c.new-steps.result.items in
-    let r = root records seen keep steps c.in_ok-grown.grown same every (omega (arith, c.sum-sum.ensures.fits))
+    let r = root keep c.in_ok-grown.grown c.records-records.ensures c.every-kept.ensures (omega (arith, c.sum-sum.ensures.fits))
     c.in_ok-grown.ensures.rules c.new-steps.ensures.items c.in_ok-grown.ensures.into c.in_ok-grown.ensures.after in
     let made = c.in_ok-offer_grown.ensures.made rs keep r.own r.gathered in
     reached-in_order made.2
 
 pub deepen-requires-clause-grown : goal.deepen-requires-clause-grown
 deepen-requires-clause-grown g c =
-    let records : Records = records_of c.args.base.now in
     let seen = c.records-records.result.now in
-    let same = c.records-records.ensures in
     let keep = keeps c.every-kept.result in
-    let every = c.every-kept.ensures in
     let rs = weighed_of keep seen in
-    let steps = c.new-steps.result.items in
-    let r = root records seen keep steps c.in_ok-grown.grown same every (omega (arith, c.sum-sum.ensures.fits))
+    let r = root keep c.in_ok-grown.grown c.records-records.ensures c.every-kept.ensures (omega (arith, c.sum-sum.ensures.fits))
     c.in_ok-grown.ensures.rules c.new-steps.ensures.items c.in_ok-grown.ensures.into c.in_ok-grown.ensures.after in
     let again = ap pattern_of c.in_ok-offer_grown.ensures.steps ∙ r.none in
     subst (λ p. AreGathered rs keep p c.in_ok-grown.grown) (sym again) r.empty
@@ -83,7 +71,7 @@ returns g c =
     let every = c.every-kept.ensures in
     let rs = weighed_of keep seen in
     let steps = c.new-steps.result.items in
-    let r = root records seen keep steps c.in_ok-grown.grown same every (omega (arith, c.sum-sum.ensures.fits))
+    let r = root keep c.in_ok-grown.grown c.records-records.ensures c.every-kept.ensures (omega (arith, c.sum-sum.ensures.fits))
     c.in_ok-grown.ensures.rules c.new-steps.ensures.items c.in_ok-grown.ensures.into c.in_ok-grown.ensures.after in
     let old = g.C.Collect.state c.args.collect.now in
     let new = g.C.Collect.state c.deepen.new.collect in

@@ -1,0 +1,47 @@
+use Rattle.std.proofs.Common.{◌++◌, ◌∷◌, [], ◌<◌, ◌≤◌, length, sym, ap, subst, arith}
+use Rattle.std.proofs.lemmas.Int.{ints}
+use Rattle.hu_span.specs.declared.tally.Tally.{Tally}
+use Rattle.hu_span.specs.Child.{AreTold}
+use Rattle.hu_span.specs.Mark.{marks_with}
+use Rattle.hu_span.specs.Tally.{reaches_of, IsTally, IsTold}
+use Rattle.hu_span.proofs.TallyLemmas.{IsTally-none}
+use Rattle.hu_span.proofs.ToldLemmas.{tell-again, tell-known, tell-new}
+use Rattle.hu_span.proofs.child.tell.Goals as goal
+
+pub with-requires-else-number-len-clause-tally : goal.with-requires-else-number-len-clause-tally
+with-requires-else-number-len-clause-tally c = let none = c.none.ensures [] in subst IsTally (sym none.tally) IsTally-none
+
+pub with-requires-else-number-len-clause-fits : goal.with-requires-else-number-len-clause-fits
+with-requires-else-number-len-clause-fits c =
+    let none = c.none.ensures [] in
+    let same = ap reaches_of none.tally in
+    omega (arith, ints, same)
+
+pub with-requires-else-number-len-clause-rows : goal.with-requires-else-number-len-clause-rows
+with-requires-else-number-len-clause-rows c =
+    let none = c.none.ensures [] in
+    let same = ap (λ (t : Tally). t.rows) none.tally in
+    omega (arith, same)
+
+pub returns-then-number-len : goal.returns-then-number-len
+returns-then-number-len c marks is =
+    let reaches = c.args.reaches.now in
+    let tells = c.args.tells.now.items in
+    let mark = c.args.mark.now in
+    let number = c.in_ok-number.number in
+    let rules = c.in_ok-number.ensures.rules in
+    let numbered = c.in_ok-number.ensures.number in
+    let within : number < length tells = omega (arith, c.if-number-len.true, c.len.ensures) in
+    let known = tell-known reaches c.args.links.now c.push.new.self tells marks mark is rules number numbered within c.index.result.now in
+    tell-again reaches c.args.links.now c.push.new.self tells marks mark is rules number numbered within c.with.result
+    (c.with.ensures (marks_with mark.item.0 marks) (subst (IsTold reaches (marks_with mark.item.0 marks)) (sym c.index.ensures) known))
+
+pub returns-in_ok-push : goal.returns-in_ok-push
+returns-in_ok-push c marks is =
+    let reaches = c.args.reaches.now in
+    let tells = c.args.tells.now.items in
+    let mark = c.args.mark.now in
+    let past : length tells ≤ c.in_ok-number.number = omega (arith, c.if-number-len.false, c.len.ensures) in
+    subst (λ ts. AreTold reaches c.push.new.self ts (marks ++ mark ∷ [])) (sym c.in_ok-push.ensures.items)
+    (tell-new reaches c.args.links.now c.push.new.self tells marks mark is c.in_ok-number.ensures.rules c.in_ok-number.number
+    c.in_ok-number.ensures.number past c.with-else-number-len.result (c.with-else-number-len.ensures [] (c.none.ensures reaches)))
