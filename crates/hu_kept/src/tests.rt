@@ -10,32 +10,13 @@ use crate::{
 };
 use hu_base::Base;
 use hu_collect::Gate;
-use hu_kind::{Cell, Entry, Item, NoMemory, Record};
+use hu_kind::{Cell, Item, NoMemory, Record};
+use hu_sample::{BASE_A, record_of, told};
 use hu_totals::Ranked;
 use std::alloc::Global;
 use std::cell::Cell as Counter;
 use std::process::Abort;
 use std::test::Fail;
-
-const BASE_A: [&[(u32, i128)]; 5] = [
-    &[(1, 5), (2, 10), (3, 1), (4, 6), (5, 3), (6, 5)],
-    &[(2, 8), (3, 3), (4, 6), (5, 3)],
-    &[(1, 5), (3, 1), (4, 2)],
-    &[(1, 10), (3, 6), (5, 6), (7, 5)],
-    &[(2, 4), (3, 2), (5, 3), (7, 2)],
-];
-
-/// The record of these items with their values.
-fn record_of(alloc: Global, pairs: &[(u32, i128)]) -> Result<Option<Record>, NoMemory> {
-    let mut cells = Vec::new(alloc);
-    for (item, value) in pairs {
-        cells.push(Cell {
-            item: Item(*item),
-            value: *value,
-        })?;
-    }
-    Ok(Record::new(cells))
-}
 
 /// The batch of these records, with a carried sum.
 fn batch_after(
@@ -52,18 +33,6 @@ fn batch_after(
         base.add(record)?;
     }
     Ok(base)
-}
-
-/// A line for each entry: its items, its utility and its support.
-fn told(alloc: Global, entries: &[Entry]) -> Result<String, Fail> {
-    let mut text = String::new(alloc);
-    for entry in entries {
-        for number in entry.key.numbers() {
-            text.push_str(&format!(in alloc; "{number} ")?)?;
-        }
-        text.push_str(&format!(in alloc; "#UTIL: {} #SUP: {}\n", entry.utility, entry.support)?)?;
-    }
-    Ok(text)
 }
 
 /// Changes of these counts.

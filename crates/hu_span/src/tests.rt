@@ -1,82 +1,14 @@
 //! The sequences of small bases, written out: the same lines as the plain engine's.
 
 use crate::mine;
-use hu_base::Base;
 use hu_collect::{All, Top};
-use hu_kind::{Cell, Element, Entry, Item, NoMemory, SeqRecord};
+use hu_sample::{FOUR_PLACES, FOUR_RECORDS, LATER_IS_GREATEST, sequences_of, told};
 use std::alloc::Global;
 use std::process::Abort;
 use std::test::Fail;
 
-const LATER_IS_GREATEST: [&[&[(u32, i128)]]; 1] = [&[&[(1, 2)], &[(1, 5)], &[(2, 3)]]];
-
-const FOUR_PLACES: [&[&[(u32, i128)]]; 1] = [&[&[(1, 9)], &[(2, 1)], &[(1, 2)], &[(3, 8)]]];
-
-const FOUR_RECORDS: [&[&[(u32, i128)]]; 4] = [
-    &[
-        &[(1, 1), (2, 4)],
-        &[(3, 10)],
-        &[(6, 9)],
-        &[(7, 2)],
-        &[(5, 1)],
-    ],
-    &[&[(1, 1), (4, 12)], &[(3, 20)], &[(2, 4)], &[(5, 1), (7, 2)]],
-    &[&[(1, 1)], &[(2, 4)], &[(6, 9)], &[(5, 1)]],
-    &[&[(1, 3), (2, 4), (3, 5)], &[(6, 3), (7, 1)]],
-];
-
 /// All that holds an item above 0 earns the same, so that keys tell what is kept.
 const TIES: [&[&[(u32, i128)]]; 1] = [&[&[(1, 3), (2, 0)], &[(2, 0)]]];
-
-/// A line for each entry: its items, its utility and its support.
-fn told(alloc: Global, entries: &[Entry]) -> Result<String, Fail> {
-    let mut text = String::new(alloc);
-    for entry in entries {
-        for number in entry.key.numbers() {
-            text.push_str(&format!(in alloc; "{number} ")?)?;
-        }
-        text.push_str(&format!(in alloc; "#UTIL: {} #SUP: {}\n", entry.utility, entry.support)?)?;
-    }
-    Ok(text)
-}
-
-/// The itemset of these items with their values.
-fn element_of(alloc: Global, pairs: &[(u32, i128)]) -> Result<Option<Element>, NoMemory> {
-    let mut cells = Vec::new(alloc);
-    for (item, value) in pairs {
-        cells.push(Cell {
-            item: Item(*item),
-            value: *value,
-        })?;
-    }
-    Ok(Element::new(cells))
-}
-
-/// The record of these itemsets.
-fn record_of(
-    rt: &impl Abort,
-    alloc: Global,
-    itemsets: &[&[(u32, i128)]],
-) -> Result<SeqRecord, Fail> {
-    let mut elements = Vec::new(alloc);
-    for pairs in itemsets {
-        elements.push(element_of(alloc, pairs)?.expect(rt, "an itemset"))?;
-    }
-    Ok(SeqRecord::new(elements).expect(rt, "a record"))
-}
-
-/// The base of these records.
-fn base_of(
-    rt: &impl Abort,
-    alloc: Global,
-    records: &[&[&[(u32, i128)]]],
-) -> Result<Base<SeqRecord>, Fail> {
-    let mut base = Base::after(alloc, 0);
-    for itemsets in records {
-        base.add(record_of(rt, alloc, itemsets)?)?;
-    }
-    Ok(base)
-}
 
 /// The lines of all sequences of at least a utility.
 fn mined(
@@ -86,10 +18,10 @@ fn mined(
     start: i128,
 ) -> Result<String, Fail> {
     assert!(rt; start >= 1);
-    let base = base_of(rt, alloc, records)?;
+    let base = sequences_of(alloc, records)?.expect(rt, "a base");
     let mut collect = All::new(alloc, start);
     mine(alloc, &base, &mut collect)?;
-    told(alloc, &collect.into_entries()?)
+    Ok(told(alloc, &collect.into_entries()?)?)
 }
 
 /// The lines of the first k sequences.
@@ -100,10 +32,10 @@ fn mined_top(
     k: u32,
 ) -> Result<String, Fail> {
     assert!(rt; k >= 1);
-    let base = base_of(rt, alloc, records)?;
+    let base = sequences_of(alloc, records)?.expect(rt, "a base");
     let mut collect = Top::new(alloc, k, 1);
     mine(alloc, &base, &mut collect)?;
-    told(alloc, &collect.into_entries()?)
+    Ok(told(alloc, &collect.into_entries()?)?)
 }
 
 #[test]
