@@ -7,7 +7,7 @@ ghost use Rattle.hu_closed.specs.ClosedOnly.{IsRankingOf};
 use crate::{ClosedOnly, RecordSets};
 use hu_base::Base;
 use hu_collect::{All, Collect};
-use hu_kind::{Entry, Key, NoMemory};
+use hu_kind::{Entry, Key, NoMemory, Record};
 use hu_sample::{BASE_A, base_of};
 use hu_totals::{Ranked, Totals};
 use std::alloc::Global;
@@ -105,15 +105,22 @@ struct Small {
     ranked: Ranked,
 }
 
+/// Those of a base.
+fn small_of(alloc: Global, base: &Base<Record>) -> Result<Small, NoMemory>
+    ensures { IfOk result (λ small. IsRankingOf small.sets small.ranked) }
+{
+    let totals = Totals::of(alloc, base)?;
+    let sets = RecordSets::of(alloc, base)?;
+    let ranked = Ranked::of(alloc, base, &totals, 30)?;
+    Ok(Small { sets, ranked })
+}
+
 /// Those of base A.
 fn small_base(rt: &impl Abort, alloc: Global) -> Result<Small, Fail>
     ensures { IfOk result (λ small. IsRankingOf small.sets small.ranked) }
 {
     let base = base_of(alloc, &BASE_A)?.expect(rt, "a base");
-    let totals = Totals::of(alloc, &base)?;
-    let sets = RecordSets::of(alloc, &base)?;
-    let ranked = Ranked::of(alloc, &base, &totals, 30)?;
-    Ok(Small { sets, ranked })
+    Ok(small_of(alloc, &base)?)
 }
 
 /// Expects what sets say of a key.
