@@ -90,16 +90,14 @@ const FIVE: &str = "2 3 4 5 #UTIL: 40 #SUP: 2\n2 3 5 #UTIL: 37 #SUP: 3\n2 4 5 #U
 #[test]
 fn all_entries(rt: HostRuntime) -> Result<(), Fail> {
     let mut kept = Kept::new(rt.alloc(), 30, None, false);
-    let steps = [
-        adds(
-            &BASE_A[..1],
-            counts(1, 0, 0),
-            "1 2 3 4 5 6 #UTIL: 30 #SUP: 1\n",
-        ),
+    let one = "1 2 3 4 5 6 #UTIL: 30 #SUP: 1\n";
+    let first = [adds(&BASE_A[..1], counts(1, 0, 0), one)];
+    grows(&rt, rt.alloc(), &mut kept, &first)?;
+    let others = [
         adds(&BASE_A[1..3], counts(4, 0, 0), THREE),
         adds(&BASE_A[3..], counts(3, 0, 0), FIVE),
     ];
-    grows(&rt, rt.alloc(), &mut kept, &steps)
+    grows(&rt, rt.alloc(), &mut kept, &others)
 }
 
 #[test]
