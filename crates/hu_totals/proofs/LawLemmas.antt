@@ -1,15 +1,15 @@
 -- What the records over ranks keep of a database.
-use Rattle.std.proofs.Common.{◌≡◌, ℕ, suc, ◌<◌, ◌+◌, Bool, true, false, not, cond, eqb, nat_lt, ◌&&◌, ℤ, pos, negsuc}
+use Rattle.std.proofs.Common.{◌≡◌, ℕ, suc, ◌<◌, ◌+◌, Bool, true, false, cond, eqb, nat_lt, ◌&&◌, ℤ, pos}
 use Rattle.std.proofs.Common.{◌+ℤ◌, ◌≤ℤ◌, int_le, List, [], ◌∷◌, ◌++◌, map, filter, length, refl, sym, ap, ◌∙◌, subst}
 use Rattle.std.proofs.Common.{inl, inr, ◌⊎◌, arith, flat_map, All, Contains, append_assoc}
 use Rattle.std.specs.List.{AllByRecursion}
-use Rattle.std.proofs.lemmas.Bool.{eq-eqb, ne_eqb, cases_eq, cases_lt, and_parts, and_from, lt-ltb}
+use Rattle.std.proofs.lemmas.Bool.{eq-eqb, ne_eqb, cases_eq, cases_lt, and_from, lt-ltb}
 use Rattle.std.proofs.lemmas.Int.{ints}
 use Rattle.std.proofs.lemmas.List.{length-append}
 use Rattle.std.proofs.lemmas.List.Sums.{sum_by-cons}
 use Rattle.hu_kind.specs.declared.entry.Entry.{Entry}
 use Rattle.hu_kind.specs.Order.{Ascend}
-use Rattle.hu_kind.specs.Record.{has, holds, value_of, values_of, utility_in, positive_part, gain, items_in}
+use Rattle.hu_kind.specs.Record.{has, holds, value_of, values_of, utility_in, gain, items_in}
 use Rattle.hu_kind.specs.Database.{utility, support, twu, items_of}
 use Rattle.hu_kind.specs.Itemsets.{sublists, occurring_sets, item_entry, item_patterns}
 use Rattle.hu_kind.specs.Answer.{found}

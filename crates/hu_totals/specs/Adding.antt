@@ -13,6 +13,7 @@ use Rattle.std.specs.Prelude.{
   [],
   map,
   fold,
+  slice_get,
   nat_eq,
   refl,
 }
@@ -32,6 +33,10 @@ no_total = record { utility = pos 0; positive = pos 0; support = 0; twu = pos 0 
 -- the total of an item, nothing where it doesn't occur
 abbrev pub total_in : List (ℕ × ItemTotal) → ℕ → ItemTotal
 total_in totals item = unwrap_or (lookup (nat_eq item) totals) no_total
+
+-- the total at a place, nothing past the end
+abbrev pub total_at : List (Item × ItemTotal) → ℕ → ItemTotal
+total_at entries place = unwrap_or (slice_get (map (λ e. e.1) entries) place) no_total
 
 -- a total with a record more, in which the item has a value and which gains a sum
 abbrev pub grown : ItemTotal → ℤ → ℤ → ItemTotal

@@ -12,6 +12,6 @@ mod tests;
 mod totals;
 mod weights;
 
-pub use ranked::{Dense, Ranked};
+pub use ranked::{Dense, Ranked, ranked_cells};
 pub use totals::{ItemTotal, Totals};
-pub use weights::RankOrder;
+pub use weights::{RankOrder, items_by_weight};

@@ -158,8 +158,9 @@ fn ranked_records(
     Ok(ranked)
 }
 
-/// A record's cells over the ranks of these items, by rank ascending.
-fn ranked_cells(
+/// A record's cells over the ranks of these items, by rank ascending; those of other items are left out. It takes a
+/// look-up in a hash table for each cell, and one sort.
+pub fn ranked_cells(
     alloc: Global,
     items: &IndexSet<Item>,
     cells: &[Cell],
@@ -167,8 +168,8 @@ fn ranked_cells(
     requires apart { IsDistinct nat_eq (numbers_of items.now.keys) }
     requires few { length items.now.keys ≤ 2 ^ 32 }
     requires ascending { Ascend (items_in (pairs_of cells.now)) }
-    ensures { IfOk result (λ ranked. pairs_in ranked ≡ cells_from 0 (numbers_of items.now.keys)
-        (pairs_of cells.now)) }
+    ensures value { IfOk result (λ ranked. pairs_in ranked
+        ≡ cells_from 0 (numbers_of items.now.keys) (pairs_of cells.now)) }
 {
     let mut ranked = dense_cells(alloc, items, cells)?;
     ranked.sort_unstable_by_key(|cell| cell.rank);
@@ -185,7 +186,7 @@ fn dense_cells(
     ensures { IfOk result (λ dense. pairs_in dense ≡ dense_cells (numbers_of items.now.keys)
         (pairs_of cells.now)) }
 {
-    let mut dense = Vec::new(alloc);
+    let mut dense = Vec::with_capacity(alloc, cells.len())?;
     for cell in cells {
         if let Some(one) = dense_of(items, cell) {
             dense.push(one)?;

@@ -8,7 +8,8 @@ ghost use Rattle.hu_kind.specs.Record.{absolute_of, gain, items_in, positive_par
 ghost use Rattle.hu_kind.specs.Order.{Ascend};
 ghost use Rattle.hu_base.specs.Base.{records_of};
 ghost use Rattle.hu_totals.specs.Totals.{item_totals, numbered};
-ghost use Rattle.hu_totals.specs.Adding.{grown, no_total, pairs_with, total_in, with_cell, with_record, HasRoom};
+ghost use Rattle.indexmap.specs.IndexMap.{set_value_at};
+ghost use Rattle.hu_totals.specs.Adding.{grown, no_total, pairs_with, total_at, total_in, with_cell, with_record, HasRoom};
 
 use hu_base::Base;
 use hu_kind::{Cell, Item, NoMemory, Record};
@@ -122,23 +123,32 @@ fn add_record(totals: &mut IndexMap<Item, ItemTotal>, cells: &[Cell]) -> Result<
     Ok(())
 }
 
-/// Adds a cell of a record with a gain to the totals.
+/// Adds a cell of a record with a gain to the totals, by one look-up where its item has occurred.
 fn add_cell(totals: &mut IndexMap<Item, ItemTotal>, cell: &Cell, gain: i128) -> Result<(), NoMemory>
     requires room { HasRoom (total_in (pairs_with totals.old.entries) cell.now.item.0)
         (max (unsigned_abs cell.now.value) (unsigned_abs gain)) }
     ensures { OnOk result (pairs_with totals.new.entries
         ≡ with_cell gain (pairs_with totals.old.entries) (pair_of cell.now)) }
 {
-    let total = total_of(totals, cell.item);
-    totals.insert(cell.item, total.with(cell.value, gain))?;
+    match totals.get_index_of(&cell.item) {
+        Some(place) => grow_at(totals, place, cell.value, gain),
+        None => {
+            totals.insert(cell.item, ItemTotal::NONE.with(cell.value, gain))?;
+        }
+    }
     Ok(())
 }
 
-/// The total of an item, nothing where it doesn't occur.
-fn total_of(totals: &IndexMap<Item, ItemTotal>, item: Item) -> ItemTotal
-    ensures { result ≡ total_in (pairs_with totals.now.entries) item.0 }
+/// Adds a value in a record with a gain to the total at a place.
+fn grow_at(totals: &mut IndexMap<Item, ItemTotal>, place: usize, value: i128, gain: i128)
+    requires within { place < length totals.old.entries }
+    requires room { HasRoom (total_at totals.old.entries place) (max (unsigned_abs value) (unsigned_abs gain)) }
+    ensures { totals.new.entries ≡ set_value_at totals.old.entries place
+        (grown (total_at totals.old.entries place) value gain) }
 {
-    totals.get(&item).copied().unwrap_or(ItemTotal::NONE)
+    if let Some(total) = totals.get_index_mut(place) {
+        *total = total.with(value, gain);
+    }
 }
 
 /// The sum of the values above 0.

@@ -50,8 +50,8 @@ struct Weighed {
     item: Item,
 }
 
-/// The items whose transaction-weighted utility reaches a floor, in an order. One sort.
-pub(crate) fn items_by_weight(
+/// The items whose transaction-weighted utility reaches a floor, in an order; at the floor 0 these are all. One sort.
+pub fn items_by_weight(
     alloc: Global,
     totals: &Totals,
     floor: i128,

@@ -1,6 +1,6 @@
 -- The cells of a record.
-use Rattle.std.proofs.Common.{◌≡◌, ℕ, suc, ◌+◌, ◌<◌, Bool, true, false, cond, eqb, ◌||◌, ℤ, pos, List, [], ◌∷◌, length, get_or, refl, subst, arith}
-use Rattle.std.specs.List.{AllByRecursion, AllAdjacentBelow}
+use Rattle.std.proofs.Common.{◌≡◌, ℕ, ◌<◌, Bool, true, false, cond, eqb, ◌||◌, ℤ, pos, List, [], ◌∷◌, refl, arith}
+use Rattle.std.specs.List.{AllByRecursion}
 use Rattle.std.proofs.lemmas.Bool.{ne_eqb}
 use Rattle.hu_kind.specs.Order.{Ascend}
 use Rattle.hu_kind.specs.Record.{has, value_of, items_in, IsRecord}

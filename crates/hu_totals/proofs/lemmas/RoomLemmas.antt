@@ -1,6 +1,6 @@
 -- Totals stay within the sum of absolute values.
 use Rattle.std.proofs.Common.{◌≡◌, ◌≢◌, ℕ, zero, suc, ◌<◌, ◌≤◌, ◌+◌, ◌^◌, Bool, true, false, cond, eqb, nat_eq, ℤ, pos}
-use Rattle.std.proofs.Common.{negsuc, ◌+ℤ◌, unsigned_abs, List, [], ◌∷◌, fold, length, get_or, take, Some, refl, sym}
+use Rattle.std.proofs.Common.{◌+ℤ◌, unsigned_abs, List, [], ◌∷◌, fold, length, get_or, take, Some, refl, sym}
 use Rattle.std.proofs.Common.{ap, ◌∙◌, inl, inr, arith, sum_by}
 use Rattle.std.specs.List.{AllByRecursion}
 use Rattle.std.specs.Map.{lookup}
