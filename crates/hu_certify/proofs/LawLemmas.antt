@@ -34,7 +34,7 @@ use Rattle.hu_certify.specs.Text.{certificate_order, certificate_text, children_
 use Rattle.hu_certify.proofs.SpotLemmas.{HasRoom-narrowed}
 use Rattle.hu_certify.proofs.NodeLemmas.{spots_with, narrowed-first, earned-with, most-with}
 use Rattle.hu_certify.proofs.RootLemmas.{first_spots-at, sizes, ascending}
-use Rattle.hu_certify.proofs.WeighedLemmas.{Once-certificate_order}
+use Rattle.hu_certify.proofs.RankLemmas.{Once-certificate_order}
 use Rattle.hu_certify.proofs.AcceptLemmas.{Reads, walk-all}
 use Rattle.hu_certify.proofs.ReadLemmas.{IsItem, IsChild, line-read, line-no_feed, minimum-read, minimum-no_feed, order-read, order-no_feed, pieces-lines}
 

@@ -1,6 +1,6 @@
 mod SpotLemmas
 mod OrderLemmas
-mod WeighedLemmas
+mod RankLemmas
 mod TextLemmas
 mod NodeLemmas
 mod TreeLemmas

@@ -13,7 +13,8 @@ use Rattle.hu_kind.proofs.lemmas.Each.{each-weaker}
 use Rattle.hu_totals.specs.declared.ranked.Dense.{Dense}
 use Rattle.hu_totals.specs.declared.totals.ItemTotal.{ItemTotal}
 use Rattle.hu_totals.specs.Totals.{item_totals}
-use Rattle.hu_totals.specs.Weights.{numbers_of}
+use Rattle.hu_totals.specs.declared.weights.RankOrder.TheVariants.{Gain}
+use Rattle.hu_totals.specs.Weights.{by_weight, numbers_of}
 use Rattle.hu_totals.specs.Ranked.{cells_from}
 use Rattle.hu_totals.specs.View.{pairs_in}
 use Rattle.hu_totals.proofs.lemmas.DenseLemmas.{ranks_from, cells_from-within}
@@ -22,10 +23,9 @@ use Rattle.hu_totals.proofs.lemmas.SortedLists.{Once, IsDistinct-from_once}
 use Rattle.hu_certify.specs.declared.fault.CertFault.{CertFault}
 use Rattle.hu_certify.specs.declared.fault.CertFault.TheVariants.{TooLong}
 use Rattle.hu_certify.specs.declared.place.Place.{Place}
-use Rattle.hu_certify.specs.Ordered.{all_by_weight}
 use Rattle.hu_certify.specs.Spots.{SpotOf, spots_of, spots_at, size_of, HasRoom, AreRanks, IsNode, lines_from}
 use Rattle.hu_certify.specs.Text.{certificate_order, certificate_text, lines_text, minimum_line, order_line, prefix_lines}
-use Rattle.hu_certify.proofs.WeighedLemmas.{Once-certificate_order, all_by_weight-item_totals}
+use Rattle.hu_certify.proofs.RankLemmas.{Once-certificate_order, by_weight-certificate_order}
 
 -- the spots of the empty prefix
 abbrev pub first_spots : List ℕ → List (List (ℕ × ℤ)) → List SpotOf
@@ -109,12 +109,12 @@ whole-text records least order before same is =
 -- the steps before the first prefix
 pub made : (records stated : List (List (ℕ × ℤ))) (totals : List (ℕ × ItemTotal)) (keys slice : List Item) (dense seen : List (Vec Dense Global))
     (places shown : List Place)
-    → totals ≡ item_totals records → numbers_of keys ≡ all_by_weight totals → slice ≡ keys → stated ≡ records
+    → totals ≡ item_totals records → numbers_of keys ≡ by_weight Gain (pos 0) totals → slice ≡ keys → stated ≡ records
     → map pairs_in dense ≡ map (cells_from 0 (numbers_of keys)) stated → AllByRecursion IsRecord stated
     → seen ≡ dense → spots_of places ≡ map {B = SpotOf} (λ cells. (pairs_in cells, pos 0)) seen → shown ≡ places → sum_by absolute_of records < 2 ^ 127
     → Begins records (numbers_of slice) dense (spots_of shown)
 made records stated totals keys slice dense seen places shown counted weighed same is over rules read first second fits = record {
-  ordered = ap numbers_of same ∙ weighed ∙ ap all_by_weight counted ∙ all_by_weight-item_totals records;
+  ordered = ap numbers_of same ∙ weighed ∙ ap (by_weight Gain (pos 0)) counted ∙ by_weight-certificate_order records;
   over = over ∙ (λ j. map (cells_from 0 (numbers_of (back j))) (is j));
   places = ap spots_of second ∙ first ∙ ap (λ (ds : List (Vec Dense Global)). map {B = SpotOf} (λ cells. (pairs_in cells, pos 0)) ds) read;
   rules = subst (AllByRecursion IsRecord) is rules;

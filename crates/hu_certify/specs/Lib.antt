@@ -1,5 +1,4 @@
 pub mod Text
-pub mod Ordered
 pub mod Spots
 pub mod Written
 pub mod Worked

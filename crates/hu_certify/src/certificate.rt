@@ -8,12 +8,12 @@ ghost use Rattle.hu_certify.specs.Text.{certificate_text, lines_text};
 ghost use Rattle.hu_certify.specs.Written.{Writes};
 
 use crate::fault::CertFault;
-use crate::order::{ordered_items, ranked_records};
 use crate::place::{Place, children, earned, first_places, narrowed};
+use crate::records::ranked_records;
 use crate::text::{push_minimum, push_order, push_spaced, put_line};
 use hu_base::Base;
 use hu_kind::{Item, Record};
-use hu_totals::Totals;
+use hu_totals::{RankOrder, Totals, items_by_weight};
 use std::alloc::Global;
 
 /// The certificate of a base at a minimum: a text from which hu_proof's check finds that the answer of the task `items` over
@@ -33,7 +33,7 @@ pub fn certify(alloc: Global, base: &Base<Record>, least: i128) -> Result<Vec<u8
     // This tells the proof that no sum overflows.
     let _sum = base.sum();
     let totals = Totals::of(alloc, base)?;
-    let items = ordered_items(alloc, &totals)?;
+    let items = items_by_weight(alloc, &totals, 0, RankOrder::Gain)?;
     let records = ranked_records(alloc, &items, base.records())?;
     let places = first_places(alloc, &records)?;
     let mut text = Vec::new(alloc);

@@ -7,8 +7,8 @@
 mod certificate;
 mod fault;
 pub mod laws;
-mod order;
 mod place;
+mod records;
 mod text;
 
 pub use certificate::certify;

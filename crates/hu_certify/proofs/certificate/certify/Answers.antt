@@ -1,4 +1,4 @@
-use Rattle.std.proofs.Common.{◌≡◌, ◌<◌, ◌++◌, [], drop, length, ◌∙◌, ap, sym, subst, nat_eq, arith, to_z, of_z}
+use Rattle.std.proofs.Common.{◌≡◌, pos, ◌<◌, ◌++◌, [], drop, length, ◌∙◌, ap, sym, subst, nat_eq, arith, to_z, of_z}
 use Rattle.std.specs.Int.{w128}
 use Rattle.std.specs.List.{IsDistinct}
 use Rattle.std.specs.Map.{keys_of}
@@ -6,24 +6,27 @@ use Rattle.std.proofs.lemmas.Int.{to_z-of_z}
 use Rattle.std.proofs.lemmas.List.{length-map}
 use Rattle.hu_base.specs.Base.{records_of}
 use Rattle.hu_kind.specs.declared.item.Item.{Item}
-use Rattle.hu_totals.specs.Weights.{numbers_of}
+use Rattle.hu_totals.specs.declared.weights.RankOrder.TheVariants.{Gain}
+use Rattle.hu_totals.specs.Weights.{by_weight, numbers_of}
 use Rattle.hu_totals.proofs.lemmas.SortedLists.{IsDistinct-from_once}
 use Rattle.hu_totals.proofs.lemmas.WeightLemmas.{apart-item_totals}
 use Rattle.hu_certify.specs.declared.fault.CertFault.TheVariants.{TooLong}
-use Rattle.hu_certify.specs.Ordered.{all_by_weight}
 use Rattle.hu_certify.specs.Spots.{AreRanks, spots_of, lines_from}
 use Rattle.hu_certify.specs.Text.{lines_text}
-use Rattle.hu_certify.proofs.WeighedLemmas.{all_by_weight-item_totals, Once-certificate_order}
+use Rattle.hu_certify.proofs.RankLemmas.{by_weight-certificate_order, Once-certificate_order}
 use Rattle.hu_certify.proofs.RootLemmas.{Begins, made, root-room, root-ranks, root-node, certificate-is, fault-is}
 use Rattle.hu_certify.proofs.certificate.certify.Goals as goal
 
-pub ordered_items-requires : goal.ordered_items-requires
-ordered_items-requires c = subst (λ t. IsDistinct nat_eq (keys_of t)) (sym c.in_ok-totals.ensures.value) (apart-item_totals (records_of c.args.base.now))
+pub items_by_weight-requires : goal.items_by_weight-requires
+items_by_weight-requires c = record {
+  apart = subst (λ t. IsDistinct nat_eq (keys_of t)) (sym c.in_ok-totals.ensures.value)
+      (apart-item_totals (records_of c.args.base.now));
+}
 
 pub ranked_records-requires-clause-apart : goal.ranked_records-requires-clause-apart
 ranked_records-requires-clause-apart c =
     let records = records_of c.args.base.now in
-    subst (IsDistinct nat_eq) (sym (c.in_ok-items.ensures.value ∙ ap all_by_weight c.in_ok-totals.ensures.value ∙ all_by_weight-item_totals records))
+    subst (IsDistinct nat_eq) (sym (c.in_ok-items.ensures.value ∙ ap (by_weight Gain (pos 0)) c.in_ok-totals.ensures.value ∙ by_weight-certificate_order records))
     (IsDistinct-from_once _ (Once-certificate_order records))
 
 pub put_prefix-requires-clause-room : goal.put_prefix-requires-clause-room

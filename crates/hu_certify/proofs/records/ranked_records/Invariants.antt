@@ -4,7 +4,7 @@ use Rattle.hu_kind.specs.Record.{IsRecord}
 use Rattle.hu_totals.specs.Ranked.{cells_from}
 use Rattle.hu_totals.specs.View.{pairs_in}
 use Rattle.hu_totals.specs.Weights.{numbers_of}
-use Rattle.hu_certify.proofs.order.ranked_records.Given as goal
+use Rattle.hu_certify.proofs.records.ranked_records.Given as goal
 
 abbrev pub invariant-loop-record : goal.invariant-loop-record
 invariant-loop-record l = record {
