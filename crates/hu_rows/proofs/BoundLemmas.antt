@@ -1,14 +1,13 @@
 -- No set of kept ranks earns more over rows than the bounds, and bounds grow row by row.
-use Rattle.std.proofs.Common.{◌≡◌, ℕ, ◌<◌, ◌≤◌, Bool, true, false, cond, eqb, ◌&&◌, IsTrue, ℤ, pos, negsuc, unsigned_abs, ◌+ℤ◌, ◌≤ℤ◌, List, [], ◌∷◌}
+use Rattle.std.proofs.Common.{◌≡◌, ℕ, ◌≤◌, Bool, true, false, cond, eqb, ◌&&◌, IsTrue, ℤ, pos, unsigned_abs, ◌+ℤ◌, ◌≤ℤ◌, List, [], ◌∷◌}
 use Rattle.std.proofs.Common.{◌++◌, inl, inr, refl, sym, ap, ◌∙◌, subst, arith, sum_by}
 use Rattle.std.specs.List.{AllByRecursion}
-use Rattle.std.proofs.lemmas.Bool.{ne_eqb, eq-eqb, eqb-true, and_parts, or_cases, cases_eq}
+use Rattle.std.proofs.lemmas.Bool.{eqb-true, and_parts, or_cases}
 use Rattle.std.proofs.lemmas.Int.{ints}
 use Rattle.std.proofs.lemmas.List.Sums.{sum_by-cons}
 use Rattle.hu_kind.specs.Order.{Ascend}
-use Rattle.hu_kind.specs.Record.{has, holds, value_of, values_of, items_in, absolute_of, positive_part}
+use Rattle.hu_kind.specs.Record.{has, holds, value_of, values_of}
 use Rattle.hu_kind.proofs.lemmas.Earned.{positive_part-within}
-use Rattle.hu_kind.proofs.lemmas.Occurring.{above_all}
 use Rattle.hu_rows.specs.Rows.{RowOf, AreRows, over, over_row, ranks_of, size_of}
 use Rattle.hu_totals.proofs.lemmas.KeptLemmas.{positive-least, positive-above, kept_gain-within, values_of-kept}
 use Rattle.hu_kind.proofs.lemmas.Each.{each-weaker}

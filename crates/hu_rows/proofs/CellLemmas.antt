@@ -1,12 +1,11 @@
 -- The cells of some ranks, and those after a rank.
-use Rattle.std.proofs.Common.{◌≡◌, ℕ, zero, suc, ◌+◌, ◌<◌, ◌≤◌, Bool, true, false, cond, eqb, nat_lt, ◌&&◌, ◌||◌, ℤ, unsigned_abs, ◌+ℤ◌, List, []}
-use Rattle.std.proofs.Common.{◌∷◌, length, get_or, drop, inl, inr, refl, ap, ◌∙◌, arith}
+use Rattle.std.proofs.Common.{◌≡◌, ℕ, ◌<◌, ◌≤◌, Bool, true, false, cond, eqb, nat_lt, ◌&&◌, ◌||◌, ℤ, unsigned_abs, ◌+ℤ◌, List, []}
+use Rattle.std.proofs.Common.{◌∷◌, refl, ap, ◌∙◌, arith}
 use Rattle.std.specs.List.{AllByRecursion}
-use Rattle.std.proofs.lemmas.Bool.{ne_eqb, eq-eqb, eqb-true, ltb-true, lt-ltb, le-ltb}
+use Rattle.std.proofs.lemmas.Bool.{ne_eqb, ltb-true}
 use Rattle.std.proofs.lemmas.List.Sums.{sum_by-cons}
 use Rattle.hu_kind.specs.Order.{Ascend}
 use Rattle.hu_kind.specs.Record.{has, holds, value_of, values_of, items_in, absolute_of}
-use Rattle.hu_kind.proofs.lemmas.Members.{Member}
 use Rattle.hu_totals.specs.Cells.{after}
 use Rattle.hu_rows.specs.Handed.{only}
 use Rattle.hu_kind.proofs.lemmas.Each.{each-weaker}

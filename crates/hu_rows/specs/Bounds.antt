@@ -1,22 +1,7 @@
 -- Two bounds on what a set of kept ranks earns over rows. After EFIM (Zida and others, 2015), with the positive part
 -- taken for each row, so that values below 0 are allowed.
-use Rattle.std.specs.Prelude.{
-  ℕ,
-  ◌<◌,
-  ◌==◌,
-  Bool,
-  IsTrue,
-  ℤ,
-  pos,
-  ◌+ℤ◌,
-  ◌≤ℤ◌,
-  List,
-  [],
-  ◌∷◌,
-  slice_index_or,
-  if◌then◌else◌,
-}
-use Rattle.std.specs.List.{AllByRecursion, list_any}
+use Rattle.std.specs.Prelude.{ℕ, ◌<◌, IsTrue, ℤ, pos, ◌+ℤ◌, ◌≤ℤ◌, List, [], ◌∷◌, slice_index_or, if◌then◌else◌}
+use Rattle.std.specs.List.{AllByRecursion}
 use Rattle.hu_kind.specs.Order.{Ascend}
 use Rattle.hu_kind.specs.Record.{has, value_of, positive_part}
 use Rattle.hu_rows.specs.Rows.{RowOf, over}

@@ -1,7 +1,7 @@
 -- Rows projected by a rank: those that hold it, each with its cells after the rank and its `before` grown by the rank's
 -- value. After EFIM (Zida and others, 2015).
-use Rattle.std.specs.Prelude.{ℕ, nat_lt, ℤ, ◌+ℤ◌, List, [], ◌∷◌, if◌then◌else◌}
-use Rattle.std.specs.List.{filter, flat_map}
+use Rattle.std.specs.Prelude.{ℕ, ◌+ℤ◌, List, [], ◌∷◌, if◌then◌else◌}
+use Rattle.std.specs.List.{flat_map}
 use Rattle.hu_kind.specs.Record.{has, value_of}
 use Rattle.hu_totals.specs.Cells.{after}
 use Rattle.hu_rows.specs.Rows.{RowOf}

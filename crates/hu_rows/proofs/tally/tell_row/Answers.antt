@@ -6,6 +6,7 @@ use Rattle.hu_rows.specs.View.{row_of}
 use Rattle.hu_rows.proofs.SettingLemmas.{same-fit}
 use Rattle.hu_rows.proofs.TallyLemmas.{Turn-at, adds-none, turn-rank, turn-value, turn-fits, turn-adds, turn-share, most-within, value-size, noted-add}
 use Rattle.hu_rows.proofs.PastEnd.{past_cell}
+use Rattle.hu_rows.proofs.tally.tell_row.Goals.{After-share_of}
 use Rattle.hu_rows.proofs.tally.tell_row.Goals as goal
 
 pub most-bound-requires : goal.most-bound-requires
@@ -39,8 +40,10 @@ share_of-requires c =
     let size = room.utility in
     omega (arith, ints, turn-value turn past_cell, size)
 
-pub add-requires-clause-fits : goal.add-requires-clause-fits
-add-requires-clause-fits c =
+-- what the row says of the cell's rank
+given_at : (c : After-share_of)
+    → c.share_of.result ≡ row_share (row_of c.args.row.now) (get_or c.args.row.now.cells.now (c.loop-place.place - 1) past_cell).rank
+given_at c =
     let row = row_of c.args.row.now in
     let turn = Turn-at c.args.row.now (length c.args.tallies.now.items) c.loop-place.place c.requires.ascending c.requires.below
     c.loop-place-test.true c.loop-place.invariant.within in
@@ -50,8 +53,16 @@ add-requires-clause-fits c =
     let value : to_z w128 (of_z w128 cell.value) ≡ cell.value = same-fit cell.value (omega (arith, turn-value turn past_cell, size)) in
     let bound : to_z w128 (of_z w128 c.most-bound.result) ≡ most row = ap (λ z. to_z w128 (of_z w128 z)) c.most-bound.ensures
     ∙ same-fit (most row) (omega (arith, most-within row, size)) in
-    let given : c.share_of.result ≡ row_share row cell.rank = c.share_of.ensures ∙ (λ j. tally_with (row.before +ℤ value j) row.count (bound j))
-    ∙ turn-share turn past_cell (most row) refl in
+    c.share_of.ensures ∙ (λ j. tally_with (row.before +ℤ value j) row.count (bound j)) ∙ turn-share turn past_cell (most row) refl
+
+pub add-requires-clause-fits : goal.add-requires-clause-fits
+add-requires-clause-fits c =
+    let row = row_of c.args.row.now in
+    let turn = Turn-at c.args.row.now (length c.args.tallies.now.items) c.loop-place.place c.requires.ascending c.requires.below
+    c.loop-place-test.true c.loop-place.invariant.within in
+    let cell = get_or c.args.row.now.cells.now (c.loop-place.place - 1) past_cell in
+    let room = c.requires.room cell.rank in
+    let given = given_at c in
     turn-fits turn past_cell (row_share row) c.args.tallies.now.items c.loop-place.tallies.items c.loop-place.invariant.value c.share_of.result room
     (omega (arith, ap (λ t. unsigned_abs t.utility) given, value-size row cell.rank))
     (omega (arith, ap (λ t. t.count) given))
@@ -63,13 +74,7 @@ loop-place-preserved c =
     let turn = Turn-at c.args.row.now (length c.args.tallies.now.items) c.loop-place.place c.requires.ascending c.requires.below
     c.loop-place-test.true c.loop-place.invariant.within in
     let cell = get_or c.args.row.now.cells.now (c.loop-place.place - 1) past_cell in
-    let room = c.requires.room cell.rank in
-    let size = room.utility in
-    let value : to_z w128 (of_z w128 cell.value) ≡ cell.value = same-fit cell.value (omega (arith, turn-value turn past_cell, size)) in
-    let bound : to_z w128 (of_z w128 c.most-bound.result) ≡ most row = ap (λ z. to_z w128 (of_z w128 z)) c.most-bound.ensures
-    ∙ same-fit (most row) (omega (arith, most-within row, size)) in
-    let given : c.share_of.result ≡ row_share row cell.rank = c.share_of.ensures ∙ (λ j. tally_with (row.before +ℤ value j) row.count (bound j))
-    ∙ turn-share turn past_cell (most row) refl in
+    let given = given_at (goal.at.loop-place-preserved c).After-share_of in
     record {
       within = omega (arith, c.loop-place.invariant.within);
       len = c.add.ensures.len ∙ c.loop-place.invariant.len;

@@ -9,6 +9,7 @@ use Rattle.hu_chain.specs.Search.{occurs}
 use Rattle.hu_chain.proofs.lemmas.Patterns.{Ends-can_grow}
 use Rattle.hu_chain.proofs.lemmas.Bounds.{reduced-holds, reduced-seen}
 use Rattle.hu_chain.proofs.lemmas.Growing.{may_follow, rules-seen}
+use Rattle.hu_chain.proofs.chain.Chain.reduced_bound.Goals.{After-occurs}
 use Rattle.hu_chain.proofs.chain.Chain.reduced_bound.Goals as goal
 
 pub occurs-requires-clause-places : goal.occurs-requires-clause-places
@@ -20,15 +21,20 @@ occurs-requires-clause-places c =
       rules-seen pattern _ _ _ ends (c.deref.ensures.value ∙ c.self.view_is ∙ c.requires.2) c.elements.ensures.value,
     )
 
+-- whether the growth occurs at the places
+seen_at : (c : After-occurs)
+    → occurs c.args.growth c.args.item.0 c.args.seq.now c.args.self.now ≡ c.occurs.result
+seen_at c = ap (λ es. occurs c.args.growth c.args.item.0 es c.args.self.now) (sym c.elements.ensures.value)
+    ∙ ap (occurs c.args.growth c.args.item.0 c.elements.result.now) (sym (c.deref.ensures.value ∙ c.self.view_is))
+    ∙ sym c.occurs.ensures
+
 pub returns-then-occurs-clause-value : goal.returns-then-occurs-clause-value
 returns-then-occurs-clause-value c pattern can is =
     let places = c.args.self.now in
     let elements = c.args.seq.now in
     let growth = c.args.growth in
     let item = c.args.item.0 in
-    let tested = ap (λ es. occurs growth item es places) (sym c.elements.ensures.value)
-    ∙ ap (occurs growth item c.elements.result.now) (sym (c.deref.ensures.value ∙ c.self.view_is))
-    ∙ sym c.occurs.ensures ∙ c.if-occurs.true in
+    let tested = seen_at (goal.at.returns-then-occurs-clause-value c).After-occurs ∙ c.if-occurs.true in
     let value = reduced-seen growth pattern item elements places true can is tested in
     let fits = c.extension_bound.type_inv in
     let stored : to_z w128 (of_z w128 c.extension_bound.result) ≡ c.extension_bound.result = omega (arith, ints) in
@@ -40,9 +46,7 @@ returns-then-occurs-clause-bound c pattern other can is from =
     let elements = c.args.seq.now in
     let growth = c.args.growth in
     let item = c.args.item.0 in
-    let tested = ap (λ es. occurs growth item es places) (sym c.elements.ensures.value)
-    ∙ ap (occurs growth item c.elements.result.now) (sym (c.deref.ensures.value ∙ c.self.view_is))
-    ∙ sym c.occurs.ensures ∙ c.if-occurs.true in
+    let tested = seen_at (goal.at.returns-then-occurs-clause-bound c).After-occurs ∙ c.if-occurs.true in
     let value = reduced-seen growth pattern item elements places true can is tested in
     let fits = c.extension_bound.type_inv in
     let stored : to_z w128 (of_z w128 c.extension_bound.result) ≡ c.extension_bound.result = omega (arith, ints) in
@@ -57,9 +61,7 @@ returns-else-occurs-clause-value c pattern can is =
     let elements = c.args.seq.now in
     let growth = c.args.growth in
     let item = c.args.item.0 in
-    let tested = ap (λ es. occurs growth item es places) (sym c.elements.ensures.value)
-    ∙ ap (occurs growth item c.elements.result.now) (sym (c.deref.ensures.value ∙ c.self.view_is))
-    ∙ sym c.occurs.ensures ∙ c.if-occurs.false in
+    let tested = seen_at (goal.at.returns-else-occurs-clause-value c).After-occurs ∙ c.if-occurs.false in
     let value = reduced-seen growth pattern item elements places false can is tested in
     sym value
 
@@ -69,9 +71,7 @@ returns-else-occurs-clause-bound c pattern other can is from =
     let elements = c.args.seq.now in
     let growth = c.args.growth in
     let item = c.args.item.0 in
-    let tested = ap (λ es. occurs growth item es places) (sym c.elements.ensures.value)
-    ∙ ap (occurs growth item c.elements.result.now) (sym (c.deref.ensures.value ∙ c.self.view_is))
-    ∙ sym c.occurs.ensures ∙ c.if-occurs.false in
+    let tested = seen_at (goal.at.returns-else-occurs-clause-bound c).After-occurs ∙ c.if-occurs.false in
     let value = reduced-seen growth pattern item elements places false can is tested in
     let holds = reduced-holds growth pattern other item elements c.elements.ensures.rules can from in
     subst (λ bound. IsAtMost (best_utility other elements) bound) (sym (ap (λ ps. reduced_bound ps (grown growth pattern item) elements) is) ∙ value) holds

@@ -22,52 +22,33 @@ returns-in_err-cell-clause-value c = c.from_residual.ensures ∙ sym (missing c.
 pub overflow_add-next : goal.overflow_add-next
 overflow_add-next c =
     let is = IsFound-from c.args.self.now c.args.item.0 c.in_ok-cell.cell no_cell c.requires c.in_ok-cell.ensures in
-    let few = c.requires.few in
-    let within = is.within in
-    omega arith
+    omega (arith, c.requires.few, is.within)
 
 pub overflow_cast-result : goal.overflow_cast-result
 overflow_cast-result c =
     let is = IsFound-from c.args.self.now c.args.item.0 c.in_ok-cell.cell no_cell c.requires c.in_ok-cell.ensures in
-    let few = c.requires.few in
-    let within = is.within in
-    omega arith
+    omega (arith, c.requires.few, is.within)
 
 pub overflow_add-result : goal.overflow_add-result
 overflow_add-result c =
     let is = IsFound-from c.args.self.now c.args.item.0 c.in_ok-cell.cell no_cell c.requires c.in_ok-cell.ensures in
-    let few = c.requires.few in
-    let within = is.within in
-    omega arith
+    omega (arith, c.requires.few, is.within)
 
 pub offset_bounds-self-cell : goal.offset_bounds-self-cell
 offset_bounds-self-cell c =
     let is = IsFound-from c.args.self.now c.args.item.0 c.in_ok-cell.cell no_cell c.requires c.in_ok-cell.ensures in
-    let few = c.requires.few in
-    let within = is.within in
-    omega arith
+    omega (arith, c.requires.few, is.within)
 
 pub bounds-self-cell : goal.bounds-self-cell
 bounds-self-cell c =
     let is = IsFound-from c.args.self.now c.args.item.0 c.in_ok-cell.cell no_cell c.requires c.in_ok-cell.ensures in
-    let few = c.requires.few in
-    let within = is.within in
-    omega arith
+    omega (arith, c.requires.few, is.within)
 
 pub overflow_add-result-2 : goal.overflow_add-result-2
 unfolding no_cell
 overflow_add-result-2 c =
     let is = IsFound-from c.args.self.now c.args.item.0 c.in_ok-cell.cell no_cell c.requires c.in_ok-cell.ensures in
-    let few = c.requires.few in
-    let within = is.within in
-    let low = is.low in
-    let front = is.front in
-    let parts = is.parts in
-    let rest = is.rest in
-    let best = c.requires.best in
-    let holds = c.requires.holds in
-    let fits = c.requires.fits in
-    omega (arith, ints)
+    omega (arith, ints, c.requires.few, is.within, is.low, is.front, is.parts, is.rest, c.requires.best, c.requires.holds, c.requires.fits)
 
 pub slice_bounds-total-end : goal.slice_bounds-total-end
 slice_bounds-total-end c =
@@ -79,31 +60,13 @@ pub total-requires-clause-fits : goal.total-requires-clause-fits
 unfolding no_cell
 total-requires-clause-fits c =
     let is = IsFound-from c.args.self.now c.args.item.0 c.in_ok-cell.cell no_cell c.requires c.in_ok-cell.ensures in
-    let few = c.requires.few in
-    let within = is.within in
-    let low = is.low in
-    let front = is.front in
-    let parts = is.parts in
-    let rest = is.rest in
-    let best = c.requires.best in
-    let holds = c.requires.holds in
-    let fits = c.requires.fits in
-    omega (arith, ints)
+    omega (arith, ints, c.requires.few, is.within, is.low, is.front, is.parts, is.rest, c.requires.best, c.requires.holds, c.requires.fits)
 
 pub overflow_sub-result : goal.overflow_sub-result
 unfolding no_cell
 overflow_sub-result c =
     let is = IsFound-from c.args.self.now c.args.item.0 c.in_ok-cell.cell no_cell c.requires c.in_ok-cell.ensures in
-    let few = c.requires.few in
-    let within = is.within in
-    let low = is.low in
-    let front = is.front in
-    let parts = is.parts in
-    let rest = is.rest in
-    let best = c.requires.best in
-    let holds = c.requires.holds in
-    let fits = c.requires.fits in
-    omega (arith, ints)
+    omega (arith, ints, c.requires.few, is.within, is.low, is.front, is.parts, is.rest, c.requires.best, c.requires.holds, c.requires.fits)
 
 pub total-requires-clause-none_below : goal.total-requires-clause-none_below
 total-requires-clause-none_below c =
@@ -114,17 +77,11 @@ pub returns-clause-value : goal.returns-clause-value
 unfolding no_cell
 returns-clause-value c =
     let is = IsFound-from c.args.self.now c.args.item.0 c.in_ok-cell.cell no_cell c.requires c.in_ok-cell.ensures in
-    let few = c.requires.few in
-    let within = is.within in
-    let low = is.low in
-    let front = is.front in
-    let parts = is.parts in
-    let rest = is.rest in
-    let best = c.requires.best in
-    let holds = c.requires.holds in
-    let fits = c.requires.fits in
-    let sum = c.total.ensures in
-    found-some c.args.self.now c.args.item.0 c.in_ok-cell.cell no_cell _ is refl refl (omega (arith, ints)) (omega (arith, ints))
+    found-some c.args.self.now c.args.item.0 c.in_ok-cell.cell no_cell _ is refl refl
+    (omega (arith, ints, c.requires.few, is.within, is.low, is.front, is.parts, is.rest, c.requires.best, c.requires.holds, c.requires.fits,
+      c.total.ensures))
+    (omega (arith, ints, c.requires.few, is.within, is.low, is.front, is.parts, is.rest, c.requires.best, c.requires.holds, c.requires.fits,
+      c.total.ensures))
 
 pub returns-clause-fit : goal.returns-clause-fit
 unfolding no_cell
