@@ -14,6 +14,7 @@ use Rattle.hu_project.specs.Level.{AreTold, IsChoice, IsPrepared}
 use Rattle.hu_project.proofs.LevelLemmas.{AreChildren-told}
 use Rattle.hu_project.proofs.PreparedLemmas.{AreOffered, some-offers, IsNarrow-kept, noted-kept, below-kept, prepared-none, prepared-some}
 use Rattle.hu_project.proofs.level.open_children.Given.{Over}
+use Rattle.hu_project.proofs.level.open_children.Goals.{In_ok-kept}
 use Rattle.hu_project.proofs.level.open_children.Goals as goal
 
 on_err : {T E : Type 0} (result : Result T E) (P : Type 0) → P → OnErr result P
@@ -43,27 +44,8 @@ pub returns-clause-err : goal.returns-clause-err
 returns-clause-err g c =
     on_err c.choose.result _ (some-offers c.args.ranked.now c.args.ranks.now (ranks_of c.deref-2.result.now) c.in_ok-offer_children.ensures)
 
-pub returns-then-len-lt2-clause-ok : goal.returns-then-len-lt2-clause-ok
-returns-then-len-lt2-clause-ok g c =
-    let offered : AreOffered (g.C.Collect.state c.args.collect.now) (g.C.Collect.state c.offer_children.new.collect)
-    c.args.ranked.now c.args.ranks.now c.args.rows.now c.tell.new.self c.in_ok-met.met.items c.deref-2.result.now c.in_ok-kept.kept.items
-    (to_z w128 (of_z w128 c.floor-floor.result)) = record {
-      level = c.requires.level;
-      told = record { told = c.in_ok-met.ensures.value; noted = c.in_ok-met.ensures.met };
-      kids = c.deref-2.ensures.value ∙ c.in_ok-children.ensures ∙ ap (flat_map (child_if c.tell.new.self)) c.deref.ensures.value;
-      kept_is = c.in_ok-kept.ensures
-          ∙ ap (filter (λ (child : Child). int_le (to_z w128 (of_z w128 c.floor-floor.result)) child.bound)) (c.deref-3.ensures.value
-          ∙ sym c.deref-2.ensures.value);
-      ordered = c.requires.ordered;
-      offers = c.in_ok-offer_children.ensures;
-      floor_is = to_z-of_z w128 c.floor-floor.result (search rules) ∙ c.floor-floor.ensures.value;
-    } in
-    let few : length (ranks_of c.in_ok-kept.kept.items) < 2 =
-    omega (arith, length-map c.in_ok-kept.kept.items (λ (child : Child). child.rank), c.len.ensures, c.if-len-lt2.true, c.in_ok-kept.kept.ok) in
-    prepared-none offered few c.none.result c.none.ensures.rows c.none.ensures.children c.none.ensures.places
-
--- what is known where the children to be entered are chosen
-offered_at : (g : Over) (c : goal.After-choose-arg-1 g)
+-- what is known where the children to be entered are known
+offered_at : (g : Over) (c : In_ok-kept g)
     → AreOffered (g.C.Collect.state c.args.collect.now) (g.C.Collect.state c.offer_children.new.collect)
     c.args.ranked.now c.args.ranks.now c.args.rows.now c.tell.new.self c.in_ok-met.met.items c.deref-2.result.now c.in_ok-kept.kept.items
     (to_z w128 (of_z w128 c.floor-floor.result))
@@ -79,16 +61,23 @@ offered_at g c = record {
   floor_is = to_z-of_z w128 c.floor-floor.result (search rules) ∙ c.floor-floor.ensures.value;
 }
 
+pub returns-then-len-lt2-clause-ok : goal.returns-then-len-lt2-clause-ok
+returns-then-len-lt2-clause-ok g c =
+    let offered = offered_at g (goal.at.returns-then-len-lt2-clause-ok g c).In_ok-kept in
+    let few : length (ranks_of c.in_ok-kept.kept.items) < 2 =
+    omega (arith, length-map c.in_ok-kept.kept.items (λ (child : Child). child.rank), c.len.ensures, c.if-len-lt2.true, c.in_ok-kept.kept.ok) in
+    prepared-none offered few c.none.result c.none.ensures.rows c.none.ensures.children c.none.ensures.places
+
 pub choose-requires-clause-below : goal.choose-requires-clause-below
 choose-requires-clause-below g c =
-    let offered = offered_at g c in
+    let offered = offered_at g (goal.at.choose-requires-clause-below g c).In_ok-kept in
     let n : length c.forget-2.new.tallies ≡ length c.args.ranked.now.items = c.forget-2.ensures.len ∙ c.in_ok-met.ensures.len ∙ c.requires.board.tallies in
     subst (λ m. AreBelow m c.in_ok-rows.rows) (sym n)
     (subst (AreBelow (length c.args.ranked.now.items)) (sym c.in_ok-rows.ensures) (IsNarrow-kept offered).below)
 
 pub choose-requires-clause-counted : goal.choose-requires-clause-counted
 choose-requires-clause-counted g c =
-    let offered = offered_at g c in
+    let offered = offered_at g (goal.at.choose-requires-clause-counted g c).In_ok-kept in
     subst AreCounted (sym c.in_ok-rows.ensures) (IsNarrow-kept offered).counted
 
 pub choose-requires-clause-met : goal.choose-requires-clause-met
@@ -98,14 +87,14 @@ choose-requires-clause-met g c =
 
 pub choose-requires-clause-noted : goal.choose-requires-clause-noted
 choose-requires-clause-noted g c rank held =
-    let offered = offered_at g c in
+    let offered = offered_at g (goal.at.choose-requires-clause-noted g c).In_ok-kept in
     subst (λ xs. Contains xs rank) (sym c.deref-5.ensures.value)
     (noted-kept offered rank
     (subst (λ rs. 0 < count_over rs (rank ∷ [])) c.in_ok-rows.ensures held))
 
 pub choose-requires-clause-kept : goal.choose-requires-clause-kept
 choose-requires-clause-kept g c =
-    let offered = offered_at g c in
+    let offered = offered_at g (goal.at.choose-requires-clause-kept g c).In_ok-kept in
     let n : length c.forget-2.new.tallies ≡ length c.args.ranked.now.items = c.forget-2.ensures.len ∙ c.in_ok-met.ensures.len ∙ c.requires.board.tallies in
     subst (λ xs. AllByRecursion (λ (child : Child). child.rank < length c.forget-2.new.tallies) xs) (sym c.deref-6.ensures.value)
     (subst (λ m. AllByRecursion (λ (child : Child). child.rank < m) c.in_ok-kept.kept.items) (sym n)
@@ -113,25 +102,13 @@ choose-requires-clause-kept g c =
 
 pub choose-requires-clause-held : goal.choose-requires-clause-held
 choose-requires-clause-held g c rank held =
-    let offered = offered_at g c in
+    let offered = offered_at g (goal.at.choose-requires-clause-held g c).In_ok-kept in
     subst (λ xs. Contains (ranks_of xs) rank) (sym c.deref-6.ensures.value)
     ((IsNarrow-kept offered).met rank (subst (λ rs. 0 < count_over rs (rank ∷ [])) c.in_ok-rows.ensures held))
 
 pub returns-clause-ok : goal.returns-clause-ok
 returns-clause-ok g c =
-    let offered : AreOffered (g.C.Collect.state c.args.collect.now) (g.C.Collect.state c.offer_children.new.collect)
-    c.args.ranked.now c.args.ranks.now c.args.rows.now c.tell.new.self c.in_ok-met.met.items c.deref-2.result.now c.in_ok-kept.kept.items
-    (to_z w128 (of_z w128 c.floor-floor.result)) = record {
-      level = c.requires.level;
-      told = record { told = c.in_ok-met.ensures.value; noted = c.in_ok-met.ensures.met };
-      kids = c.deref-2.ensures.value ∙ c.in_ok-children.ensures ∙ ap (flat_map (child_if c.tell.new.self)) c.deref.ensures.value;
-      kept_is = c.in_ok-kept.ensures
-          ∙ ap (filter (λ (child : Child). int_le (to_z w128 (of_z w128 c.floor-floor.result)) child.bound)) (c.deref-3.ensures.value
-          ∙ sym c.deref-2.ensures.value);
-      ordered = c.requires.ordered;
-      offers = c.in_ok-offer_children.ensures;
-      floor_is = to_z-of_z w128 c.floor-floor.result (search rules) ∙ c.floor-floor.ensures.value;
-    } in
+    let offered = offered_at g (goal.at.returns-clause-ok g c).In_ok-kept in
     let old = g.C.Collect.state c.args.collect.now in
     let mid = g.C.Collect.state c.offer_children.new.collect in
     IfOk-weaker c.choose.result (IsChoice c.in_ok-rows.rows c.deref-6.result.now (to_z w128 (of_z w128 c.floor-floor.result)))
