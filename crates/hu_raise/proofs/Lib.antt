@@ -10,3 +10,5 @@ pub mod CellLemmas
 pub mod PairLemmas
 pub mod VectorLemmas
 pub mod TableLemmas
+pub mod RankLists
+pub mod RestLemmas

@@ -5,7 +5,7 @@ use Rattle.std.proofs.lemmas.List.{get_or-map, length-map}
 use Rattle.hu_totals.specs.declared.ranked.Dense.{Dense}
 use Rattle.hu_totals.specs.View.{dense_pair}
 use Rattle.hu_raise.proofs.CellLemmas.{gain-more, gain-take}
-use Rattle.hu_raise.proofs.holders.gain_of.Goals as goal
+use Rattle.hu_raise.proofs.gains.gain_of.Goals as goal
 
 -- a cell past the end
 no_cell : Dense
