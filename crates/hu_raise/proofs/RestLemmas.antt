@@ -8,7 +8,7 @@ use Rattle.std.proofs.lemmas.Int.{ints}
 use Rattle.std.proofs.lemmas.List.{get_or-set_same, get_or-set_other, length-set, length-replicate, map-append, take_more}
 use Rattle.std.proofs.lemmas.List.Sums.{fold-append}
 use Rattle.hu_kind.specs.Order.{Ascend}
-use Rattle.hu_kind.specs.Record.{has, holds, gain, items_in, absolute_of}
+use Rattle.hu_kind.specs.Record.{has, gain, items_in, absolute_of}
 use Rattle.hu_kind.proofs.lemmas.Earned.{gain-least}
 use Rattle.hu_collect.specs.Pairs.{pair_twu}
 use Rattle.hu_totals.specs.Cells.{among}

@@ -1,5 +1,5 @@
-use Rattle.std.proofs.Common.{◌≡◌, ◌∙◌, ℕ, ◌+◌, ◌<◌, ◌^◌, ◌++◌, ◌∷◌, [], cond, nat_lt, pos, ◌≤ℤ◌, ◌<ℤ◌, map, fold, replicate, length, set, ap, sym, subst}
-use Rattle.std.proofs.Common.{arith, refl, to_z, of_z}
+use Rattle.std.proofs.Common.{◌≡◌, ◌∙◌, ℕ, ◌+◌, ◌^◌, ◌++◌, ◌∷◌, [], cond, nat_lt, pos, ◌≤ℤ◌, ◌<ℤ◌, map, fold, length, set, ap, sym, subst}
+use Rattle.std.proofs.Common.{arith, to_z, of_z}
 use Rattle.std.specs.Int.{w128}
 use Rattle.std.specs.List.{AllByRecursion}
 use Rattle.std.proofs.lemmas.Int.{to_z-of_z}

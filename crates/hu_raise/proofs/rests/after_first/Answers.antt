@@ -1,8 +1,7 @@
-use Rattle.std.proofs.Common.{◌≡◌, ◌-◌, length, take, drop, to_z, of_z, FitsSigned, arith, rules}
+use Rattle.std.proofs.Common.{◌-◌, length, drop, FitsSigned, arith, rules}
 use Rattle.std.specs.Int.{w128}
 use Rattle.std.proofs.lemmas.Int.{to_z-of_z}
 use Rattle.std.proofs.lemmas.List.{take_all, length-drop}
-use Rattle.hu_raise.specs.Rests.{RestOf}
 use Rattle.hu_raise.proofs.rests.after_first.Goals as goal
 
 pub returns : goal.returns

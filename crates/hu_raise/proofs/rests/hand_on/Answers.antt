@@ -1,5 +1,5 @@
 use Rattle.std.proofs.Common.{◌≡◌, ◌∙◌, ℕ, ◌<◌, ◌^◌, pos, ◌+ℤ◌, ◌≤ℤ◌, ◌<ℤ◌, [], map, length, take, drop, get_or, ap, sym, subst, arith, rules, ◌+◌}
-use Rattle.std.proofs.Common.{FitsSigned, List, to_z, of_z}
+use Rattle.std.proofs.Common.{FitsSigned, List}
 use Rattle.std.specs.Int.{w128}
 use Rattle.std.specs.List.{AllByRecursion}
 use Rattle.std.proofs.lemmas.Int.{ints, to_z-of_z}
@@ -7,7 +7,7 @@ use Rattle.std.proofs.lemmas.List.{get_or-map, length-map}
 use Rattle.hu_kind.specs.Order.{Ascend}
 use Rattle.hu_raise.specs.declared.rests.Rest.{Rest}
 use Rattle.hu_raise.specs.Rests.{RestOf, after_first, handed, later_gain, IsRest}
-use Rattle.hu_raise.specs.Sums.{gain_at, sum_at}
+use Rattle.hu_raise.specs.Sums.{gain_at}
 use Rattle.hu_raise.specs.View.{rest_of, rests_of, waiting_in}
 use Rattle.hu_raise.proofs.RankLists.{each-drop, Ascend-drop}
 use Rattle.hu_raise.proofs.RestLemmas.{fold-more, later_gain-more, later_gain-take, length-fold}

@@ -1,4 +1,4 @@
-use Rattle.std.proofs.Common.{◌≡◌, ◌∙◌, ◌+◌, ◌<◌, ◌≤◌, ◌++◌, ◌∷◌, [], ℕ, ℤ, List, map, length, get_or, take, drop, replicate, ap, sym, subst, arith, rules}
+use Rattle.std.proofs.Common.{◌≡◌, ◌∙◌, ◌+◌, ◌<◌, ◌++◌, [], ℕ, ℤ, List, map, length, get_or, take, drop, replicate, ap, sym, subst, arith, rules}
 use Rattle.std.proofs.Common.{fold, FitsSigned, to_z, of_z, Vec, Global}
 use Rattle.std.specs.Int.{w128}
 use Rattle.std.specs.List.{AllByRecursion, flat_map}
@@ -11,7 +11,7 @@ use Rattle.hu_totals.specs.declared.ranked.Dense.{Dense}
 use Rattle.hu_totals.specs.View.{dense_pair, pairs_in}
 use Rattle.hu_raise.specs.Places.{IsOverRanks}
 use Rattle.hu_raise.specs.Rests.{RestOf, handed, rest_from}
-use Rattle.hu_raise.specs.View.{rest_of, rests_of, waiting_in}
+use Rattle.hu_raise.specs.View.{rest_of, rests_of}
 use Rattle.hu_raise.proofs.RestLemmas.{fold-more, length-fold}
 use Rattle.hu_raise.proofs.VectorLemmas.{each_at, pairs-at}
 use Rattle.hu_raise.proofs.rests.waiting_of.Goals as goal
