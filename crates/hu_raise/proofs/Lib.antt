@@ -12,3 +12,5 @@ pub mod VectorLemmas
 pub mod TableLemmas
 pub mod RankLists
 pub mod RestLemmas
+pub mod PairGains
+pub mod TurnLemmas

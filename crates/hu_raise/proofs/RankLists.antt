@@ -7,20 +7,11 @@ use Rattle.std.proofs.lemmas.Int.{ints}
 use Rattle.std.proofs.lemmas.List.{get_or-set_same, get_or-set_other}
 use Rattle.std.proofs.lemmas.List.Folds.{list_any_more}
 use Rattle.hu_kind.specs.Order.{Ascend}
+use Rattle.hu_kind.proofs.lemmas.Each.{each-get}
 use Rattle.hu_totals.specs.Cells.{among}
 use Rattle.hu_raise.specs.Sums.{sum_at, gain_at}
 
--- what holds of each number holds of the one at a place
-pub each-at : (P : ℕ → Type 0) (xs : List ℕ) (i d : ℕ) → AllByRecursion P xs → i < length xs → P (get_or xs i d)
-each-at P [] i d all within = absurd (omega arith)
-each-at P (x ∷ xs) zero d all within = all.0
-each-at P (x ∷ xs) (suc i) d all within = each-at P xs i d all.1 (omega arith)
-
 -- without the first
-pub each-drop : (P : ℕ → Type 0) (xs : List ℕ) → AllByRecursion P xs → AllByRecursion P (drop 1 xs)
-each-drop P [] all = tt
-each-drop P (x ∷ xs) all = all.1
-
 pub Ascend-drop : (xs : List ℕ) → Ascend xs → Ascend (drop 1 xs)
 Ascend-drop [] up = tt
 Ascend-drop (x ∷ xs) up = up.1
@@ -53,7 +44,7 @@ among-take_before : (ranks : List ℕ) (i d : ℕ) → Ascend ranks → i < leng
 among-take_before [] i d up within = absurd (omega arith)
 among-take_before (x ∷ xs) zero d up within = refl
 among-take_before (x ∷ xs) (suc i) d up within =
-    let above = each-at (λ y. x < y) xs i d up.0 (omega arith) in
+    let above = each-get (λ y. x < y) xs i d up.0 (omega arith) in
     let other : eqb (get_or xs i d) x ≡ false = ne_eqb (get_or xs i d) x (λ e. absurd (omega arith)) in
     rw other (among-take_before xs i d up.1 (omega arith))
 

@@ -14,7 +14,7 @@ use Rattle.hu_kind.proofs.lemmas.Ascending.{Ascend-adjacent}
 use Rattle.hu_collect.specs.Pairs.{pair_twu}
 use Rattle.hu_totals.specs.Ranked.{Ranking, IsRanking}
 use Rattle.hu_raise.specs.Partners.{partners, pair_table, RefusesJustLow}
-use Rattle.hu_raise.specs.Places.{IsOverRanks, AreOverRanks}
+use Rattle.hu_raise.specs.OverRanks.{IsOverRanks, AreOverRanks}
 use Rattle.hu_raise.proofs.NumberLists.{filter-range_ascends, Member-filter_range}
 
 -- ---- ranked records are over ranks

@@ -1,18 +1,11 @@
 -- Vectors of cells and of rests are seen as lists.
-use Rattle.std.proofs.Common.{◌≡◌, ℕ, zero, suc, ◌<◌, List, [], ◌∷◌, map, length, get_or, set, sym, ap, ◌∙◌, arith, Vec, Global}
-use Rattle.std.specs.List.{AllByRecursion}
+use Rattle.std.proofs.Common.{◌≡◌, ℕ, ◌<◌, List, [], map, length, get_or, set, sym, ap, ◌∙◌, Vec, Global}
 use Rattle.std.proofs.lemmas.List.{get_or-map, map-set}
 use Rattle.hu_totals.specs.declared.ranked.Dense.{Dense}
 use Rattle.hu_totals.specs.View.{pairs_in}
 use Rattle.hu_raise.specs.declared.rests.Rest.{Rest}
 use Rattle.hu_raise.specs.Rests.{list_at}
 use Rattle.hu_raise.specs.View.{rests_of, waiting_in}
-
--- what holds of each element holds of the one at a place
-pub each_at : {X : Type 0} (P : X → Type 0) (xs : List X) (i : ℕ) (d : X) → AllByRecursion P xs → i < length xs → P (get_or xs i d)
-each_at P [] i d all within = absurd (omega arith)
-each_at P (x ∷ xs) zero d all within = all.0
-each_at P (x ∷ xs) (suc i) d all within = each_at P xs i d all.1 (omega arith)
 
 -- the record at a place, as pairs
 pub pairs-at : (records : List (Vec Dense Global)) (i : ℕ) (record' : Vec Dense Global) → i < length records → record'

@@ -6,7 +6,7 @@ ghost use Rattle.hu_kind.specs.Order.{Ascend};
 ghost use Rattle.hu_kind.specs.Record.{absolute_of, items_in};
 ghost use Rattle.hu_totals.specs.View.{dense_pair, pairs_in};
 ghost use Rattle.hu_raise.specs.Rests.{after_first, handed, later_gain, list_at, rest_from, IsRest};
-ghost use Rattle.hu_raise.specs.Places.{AreOverRanks};
+ghost use Rattle.hu_raise.specs.OverRanks.{AreOverRanks};
 ghost use Rattle.hu_raise.specs.Sums.{gain_at, sum_at};
 ghost use Rattle.hu_raise.specs.View.{rest_of, rests_of, waiting_in};
 

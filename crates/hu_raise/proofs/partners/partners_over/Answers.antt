@@ -12,7 +12,7 @@ use Rattle.hu_raise.specs.Rests.{after_first, handed, later_gain, list_at, IsRes
 use Rattle.hu_raise.specs.Sums.{sum_at}
 use Rattle.hu_raise.specs.View.{lists_in, rests_of, waiting_in}
 use Rattle.hu_raise.proofs.PairLemmas.{reaching-partners}
-use Rattle.hu_raise.proofs.RestLemmas.{AreWaiting, AreWaiting-first, AreWaiting-next, IsRest-turn, later_gain-turn, later_gain-fits}
+use Rattle.hu_raise.proofs.TurnLemmas.{AreWaiting, AreWaiting-first, AreWaiting-next, IsRest-turn, later_gain-turn, later_gain-fits}
 use Rattle.hu_raise.proofs.partners.partners_over.Goals as goal
 
 pub loop-rank-init : goal.loop-rank-init

@@ -3,7 +3,8 @@ use Rattle.std.specs.Int.{w128}
 use Rattle.std.proofs.lemmas.Int.{to_z-of_z}
 use Rattle.std.proofs.lemmas.List.{length-set}
 use Rattle.hu_raise.specs.Sums.{sum_at, gain_at}
-use Rattle.hu_raise.proofs.RankLists.{add-step, add-upper, each-at}
+use Rattle.hu_raise.proofs.RankLists.{add-step, add-upper}
+use Rattle.hu_kind.proofs.lemmas.Each.{each-get}
 use Rattle.hu_raise.proofs.rests.add_to_each.Goals as goal
 
 pub add-requires-clause-fits : goal.add-requires-clause-fits
@@ -28,7 +29,7 @@ loop-rank-preserved c =
     let gain = to_z w128 (of_z w128 c.args.gain) in
     let within = c.loop-rank-test.true in
     let below : here < length sums =
-    omega (arith, c.loop-rank.invariant.long, each-at (λ rank. rank < length first) ranks i 0 c.requires.in_range within) in
+    omega (arith, c.loop-rank.invariant.long, each-get (λ rank. rank < length first) ranks i 0 c.requires.in_range within) in
     record {
       long = ap length c.in_ok-add.ensures ∙ length-set sums here (sum_at sums here +ℤ gain) ∙ c.loop-rank.invariant.long;
       added = add-step first sums ranks i 0 gain c.requires.ascending within c.loop-rank.invariant.added c.add.new.self below c.in_ok-add.ensures;

@@ -2,7 +2,7 @@ use Rattle.std.proofs.Common.{◌≡◌, ◌∙◌, ◌<◌, ◌++◌, ◌∷◌
 use Rattle.std.proofs.lemmas.List.{map-append}
 use Rattle.hu_raise.specs.Rests.{list_at}
 use Rattle.hu_raise.specs.View.{rest_of, rests_of, waiting_in}
-use Rattle.hu_raise.proofs.RankLists.{each-at}
+use Rattle.hu_kind.proofs.lemmas.Each.{each-get}
 use Rattle.hu_raise.proofs.RestLemmas.{handed_to-first}
 use Rattle.hu_raise.proofs.VectorLemmas.{rests-at, waiting-set}
 use Rattle.hu_raise.proofs.rests.hand.Goals as goal
@@ -16,7 +16,7 @@ returns-in_ok-push c =
     let new = c.push.new.self in
     let some : 0 < length ranks = search rules in
     let rank = get_or ranks 0 0 in
-    let within : rank < length lists = each-at (λ r. r < length lists) ranks 0 0 c.requires some in
+    let within : rank < length lists = each-get (λ r. r < length lists) ranks 0 0 c.requires some in
     let pushed : rests_of new.items ≡ list_at (waiting_in lists) rank ++ rest_of rest ∷ [] =
     ap rests_of c.in_ok-push.ensures.items ∙ map-append rest_of old.items (rest ∷ [])
     ∙ ap (λ rs. rs ++ rest_of rest ∷ []) (rests-at lists rank old within c.index_mut.ensures.value) in

@@ -9,9 +9,9 @@ use Rattle.hu_raise.specs.declared.rests.Rest.{Rest}
 use Rattle.hu_raise.specs.Rests.{RestOf, after_first, handed, later_gain, IsRest}
 use Rattle.hu_raise.specs.Sums.{gain_at}
 use Rattle.hu_raise.specs.View.{rest_of, rests_of, waiting_in}
-use Rattle.hu_raise.proofs.RankLists.{each-drop, Ascend-drop}
+use Rattle.hu_raise.proofs.RankLists.{Ascend-drop}
 use Rattle.hu_raise.proofs.RestLemmas.{fold-more, later_gain-more, later_gain-take, length-fold}
-use Rattle.hu_raise.proofs.VectorLemmas.{each_at}
+use Rattle.hu_kind.proofs.lemmas.Each.{each-drop, each-get}
 use Rattle.hu_raise.proofs.rests.hand_on.Goals as goal
 
 -- a rest past the end
@@ -27,7 +27,7 @@ here-of rests i within = get_or-map rest_of rests i no_rest no_rest_of within
 is-of : (n : ℕ) (rests : List Rest) (i : ℕ) → AllByRecursion (IsRest n) (rests_of rests) → i < length rests → IsRest n (rest_of (get_or rests i no_rest))
 is-of n rests i each within =
     subst (IsRest n) (here-of rests i within)
-    (each_at (IsRest n) (rests_of rests) i no_rest_of each (omega (arith, length-map rests rest_of)))
+    (each-get (IsRest n) (rests_of rests) i no_rest_of each (omega (arith, length-map rests rest_of)))
 
 pub after_first-later-requires : goal.after_first-later-requires
 after_first-later-requires c = (is-of (length c.args.sums.now) c.args.rests.now c.loop-rest.rest-index c.requires.each c.loop-rest-test.true).some
@@ -44,7 +44,7 @@ in_range-of : (n m : ℕ) (rest : Rest) (later : List ℕ) → IsRest n (rest_of
     → AllByRecursion (λ rank. rank < m) later
 in_range-of n m rest later is ranks long =
     subst (λ k. AllByRecursion (λ rank. rank < k) later) (sym long)
-    (subst (AllByRecursion (λ rank. rank < n)) (sym ranks) (each-drop (λ rank. rank < n) rest.ranks.now is.in_range))
+    (subst (AllByRecursion (λ rank. rank < n)) (sym ranks) (each-drop (λ rank. rank < n) 1 rest.ranks.now is.in_range))
 
 pub add_to_each-requires-clause-in_range : goal.add_to_each-requires-clause-in_range
 add_to_each-requires-clause-in_range c =

@@ -9,11 +9,12 @@ use Rattle.std.proofs.Math.Seq.{take-append_seam, drop-append_seam}
 use Rattle.hu_kind.specs.Record.{absolute_of, gain, items_in}
 use Rattle.hu_totals.specs.declared.ranked.Dense.{Dense}
 use Rattle.hu_totals.specs.View.{dense_pair, pairs_in}
-use Rattle.hu_raise.specs.Places.{IsOverRanks}
+use Rattle.hu_raise.specs.OverRanks.{IsOverRanks}
 use Rattle.hu_raise.specs.Rests.{RestOf, handed, rest_from}
 use Rattle.hu_raise.specs.View.{rest_of, rests_of}
 use Rattle.hu_raise.proofs.RestLemmas.{fold-more, length-fold}
-use Rattle.hu_raise.proofs.VectorLemmas.{each_at, pairs-at}
+use Rattle.hu_raise.proofs.VectorLemmas.{pairs-at}
+use Rattle.hu_kind.proofs.lemmas.Each.{each-get}
 use Rattle.hu_raise.proofs.rests.waiting_of.Goals as goal
 
 -- the ranks that are left begin with those of the next record
@@ -73,7 +74,7 @@ hand-requires c =
     let next = next-of pairs i c.loop-record.left.now cells within here c.loop-record.invariant.left in
     let own = c.split_at.ensures.front ∙ own-of c.len.result c.loop-record.left.now (items_in cells) (flat_map items_in (drop (i + 1) pairs)) next
     (len-of c.record-item.result c.len.result c.len.ensures) in
-    let over = subst (IsOverRanks ranks) (sym here) (each_at (IsOverRanks ranks) pairs i [] c.requires.rules.each within) in
+    let over = subst (IsOverRanks ranks) (sym here) (each-get (IsOverRanks ranks) pairs i [] c.requires.rules.each within) in
     let long : length waiting ≡ ranks =
     omega (
       arith,
