@@ -59,7 +59,8 @@ abbrev pub InRange : ℕ → RestOf → Type 0
 InRange n rest = AllByRecursion (λ rank. rank < n) rest.ranks
 
 gain_over-handed_to : (ranks : List ℕ) (gained : ℤ) (lists : List (List RestOf)) (a b : ℕ) → AllByRecursion (λ rank. rank < length lists) ranks
-    → gain_over (handed_to ranks lists (record { ranks = ranks; gain = gained })) a b ≡ gain_over lists a b +ℤ both a b (record { ranks = ranks; gain = gained })
+    → gain_over (handed_to ranks lists (record { ranks = ranks; gain = gained })) a b
+    ≡ gain_over lists a b +ℤ both a b (record { ranks = ranks; gain = gained })
 gain_over-handed_to [] gained lists a b within = omega (arith, ints)
 gain_over-handed_to (x ∷ xs) gained lists a b within =
     let rest : RestOf = record { ranks = x ∷ xs; gain = gained } in

@@ -26,7 +26,8 @@ handed_to-first [] lists rest some = absurd (omega arith)
 handed_to-first (x ∷ xs) lists rest some = refl
 
 -- a loop that hands rests
-pub fold-more : {X : Type 0} (f : X → RestOf) (xs : List X) (i : ℕ) (d : X) (rest : RestOf) (lists : List (List RestOf)) → i < length xs → f (get_or xs i d) ≡ rest
+pub fold-more : {X : Type 0} (f : X → RestOf) (xs : List X) (i : ℕ) (d : X) (rest : RestOf) (lists : List (List RestOf))
+    → i < length xs → f (get_or xs i d) ≡ rest
     → fold handed lists (map f (take (i + 1) xs)) ≡ handed (fold handed lists (map f (take i xs))) rest
 fold-more f xs i d rest lists within is =
     ap (λ ys. fold handed lists (map f ys)) (take_more xs i d within)
@@ -61,7 +62,8 @@ later_gain-least n (r ∷ rs) rank all =
     omega (arith, ints)
 
 -- what the first of them gain is no more than what all do
-pub later_gain-take : (n : ℕ) (rests : List RestOf) (i : ℕ) (rank : ℕ) → AllByRecursion (IsRest n) rests → later_gain (take i rests) rank ≤ℤ later_gain rests rank
+pub later_gain-take : (n : ℕ) (rests : List RestOf) (i rank : ℕ) → AllByRecursion (IsRest n) rests
+    → later_gain (take i rests) rank ≤ℤ later_gain rests rank
 later_gain-take n [] zero rank all = omega (arith, ints)
 later_gain-take n [] (suc i) rank all = omega (arith, ints)
 later_gain-take n (r ∷ rs) zero rank all = later_gain-least n (r ∷ rs) rank all

@@ -69,6 +69,9 @@ Waits-fold : (n turn : ℕ) (rests : List RestOf) (lists : List (List RestOf)) �
 Waits-fold n turn [] lists waits all = waits
 Waits-fold n turn (r ∷ rs) lists waits all = Waits-fold n turn rs (handed lists r) (Waits-handed_to n turn r.ranks r.gain lists waits all.0) all.1
 
+in_range-each : (n turn : ℕ) (rests : List RestOf) → AllByRecursion (GoesOn n turn) rests → AllByRecursion (InRange n) rests
+in_range-each n turn rests all = each-weaker (GoesOn n turn) (InRange n) rests (λ rest goes. goes.in_range) all
+
 -- ---- the rests of the rank whose turn it is
 
 among-cons : (a x : ℕ) (xs : List ℕ) → a ≢ x → among a (x ∷ xs) ≡ among a xs
@@ -113,7 +116,8 @@ module _ (n turn : ℕ) (rest : RestOf) (at : WaitsAt n turn rest) where
   GoesOn-after : GoesOn n (turn + 1) (after_first rest)
   GoesOn-after =
       let within : AllByRecursion (λ rank. rank < n) (turn ∷ later) = subst (AllByRecursion (λ rank. rank < n)) at.head at.is.in_range in
-      record { ascending = ascends.1; in_range = within.1; later = each-weaker (λ r. turn < r) (λ r. turn + 1 ≤ r) later (λ r above. omega arith) ascends.0; least = at.is.least }
+      let above = each-weaker (λ r. turn < r) (λ r. turn + 1 ≤ r) later (λ r low. omega arith) ascends.0 in
+      record { ascending = ascends.1; in_range = within.1; later = above; least = at.is.least }
 
 pair_gain-earlier : (n rank a b : ℕ) (rests : List RestOf) → AllByRecursion (WaitsAt n rank) rests → a < rank → pair_gain rests a b ≡ pos 0
 pair_gain-earlier n rank a b [] all before = refl
@@ -150,10 +154,11 @@ GoesOn-each n turn (r ∷ rs) all = (GoesOn-after n turn r all.0, GoesOn-each n 
 
 GoesOn-records : (n : ℕ) (records : List (List (ℕ × ℤ))) → AllByRecursion (IsOverRanks n) records → AllByRecursion (GoesOn n 0) (map rest_from records)
 GoesOn-records n [] all = tt
-GoesOn-records n (r ∷ rs) all = (
-  record { ascending = all.0.ascending; in_range = all.0.in_range; later = each-weaker (λ x. x < n) (λ x. 0 ≤ x) (items_in r) (λ x below. omega arith) all.0.in_range; least = gain-least r },
-  GoesOn-records n rs all.1,
-)
+GoesOn-records n (r ∷ rs) all =
+    let later = each-weaker (λ x. x < n) (λ x. 0 ≤ x) (items_in r) (λ x below. omega arith) all.0.in_range in (
+      record { ascending = all.0.ascending; in_range = all.0.in_range; later = later; least = gain-least r },
+      GoesOn-records n rs all.1,
+    )
 
 list_at-empty : (n rank : ℕ) → list_at (replicate n []) rank ≡ []
 list_at-empty zero rank = refl
@@ -181,7 +186,7 @@ AreWaiting-first n records over =
     record {
       waits = Waits-fold n 0 (map rest_from records) (replicate n []) (Waits-empty n) all;
       gains = λ a b low before.
-          let put = gain_over-fold (map rest_from records) (replicate n []) n a b (length-replicate n []) (each-weaker (GoesOn n 0) (InRange n) (map rest_from records) (λ r goes. goes.in_range) all) in
+          let put = gain_over-fold (map rest_from records) (replicate n []) n a b (length-replicate n []) (in_range-each n 0 (map rest_from records) all) in
           let none = gain_over-none (replicate n []) a b (λ rank. ap (λ rests. pair_gain rests a b) (list_at-empty n rank)) in
           let same = pair_gain-records a b records in
           omega (arith, ints);
@@ -227,7 +232,7 @@ module _ (n turn : ℕ) (records : List (List (ℕ × ℤ))) (lists : List (List
       record {
         waits = Waits-fold n (turn + 1) (map after_first rests) (set lists turn []) (record { long = long; each = each; passed = passed }) all;
         gains = λ a b low before.
-            let put = gain_over-fold (map after_first rests) (set lists turn []) n a b long (each-weaker (GoesOn n (turn + 1)) (InRange n) (map after_first rests) (λ r goes. goes.in_range) all) in
+            let put = gain_over-fold (map after_first rests) (set lists turn []) n a b long (in_range-each n (turn + 1) (map after_first rests) all) in
             let taken = gain_over-set lists turn [] a b (omega (arith, are.waits.long)) in
             let same = pair_gain-after n turn a b rests (are.waits.each turn) (omega arith) (omega arith) in
             let old = are.gains a b (omega arith) before in

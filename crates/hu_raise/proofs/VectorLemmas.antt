@@ -19,5 +19,6 @@ rests-at lists i list within is =
     ap (λ (v : Vec Rest Global). rests_of v.items) is ∙ sym (get_or-map (λ (v : Vec Rest Global). rests_of v.items) lists i list [] within)
 
 -- a list with other rests
-pub waiting-set : (lists : List (Vec Rest Global)) (i : ℕ) (new : Vec Rest Global) → waiting_in (set lists i new) ≡ set (waiting_in lists) i (rests_of new.items)
+pub waiting-set : (lists : List (Vec Rest Global)) (i : ℕ) (new : Vec Rest Global)
+    → waiting_in (set lists i new) ≡ set (waiting_in lists) i (rests_of new.items)
 waiting-set lists i new = map-set (λ (v : Vec Rest Global). rests_of v.items) lists i new

@@ -14,7 +14,8 @@ use hu_kind::NoMemory;
 use hu_totals::Dense;
 use std::alloc::Global;
 
-/// For each rank the later ranks that it may join by a floor.
+/// For each rank the later ranks that it may join by a floor. Meanwhile it holds the ranks of all cells and a rest for
+/// each record.
 pub(crate) fn partners_of_each(
     alloc: Global,
     records: &[Vec<Dense>],

@@ -1,9 +1,9 @@
 //! What is left of records from a rank on. A record is handed from rank to rank: it waits in the list of its next one.
 
 ghost use Rattle.std.specs.Prelude.{◌≡◌, ℕ, ◌<◌, ◌^◌, pos, ◌+ℤ◌, ◌≤ℤ◌, ◌<ℤ◌, [], ◌++◌, map, fold, length, replicate, slice_set, IfOk, OnOk};
-ghost use Rattle.std.specs.List.{AllByRecursion, flat_map, sum_by};
+ghost use Rattle.std.specs.List.{AllByRecursion, flat_map};
 ghost use Rattle.hu_kind.specs.Order.{Ascend};
-ghost use Rattle.hu_kind.specs.Record.{absolute_of, items_in};
+ghost use Rattle.hu_kind.specs.Record.{items_in};
 ghost use Rattle.hu_totals.specs.View.{dense_pair, pairs_in};
 ghost use Rattle.hu_raise.specs.Rests.{after_first, handed, later_gain, list_at, rest_from, IsRest};
 ghost use Rattle.hu_raise.specs.OverRanks.{AreOverRanks};
@@ -36,7 +36,8 @@ pub(crate) fn ranks_of(alloc: Global, records: &[Vec<Dense>]) -> Result<Vec<u32>
 
 /// Appends the ranks of these cells.
 fn push_ranks(ranks: &mut Vec<u32>, cells: &[Dense]) -> Result<(), NoMemory>
-    ensures { OnOk result (ranks.new.items ≡ ranks.old.items ++ items_in (map dense_pair cells.now)) }
+    ensures { OnOk result (ranks.new.items
+        ≡ ranks.old.items ++ items_in (map dense_pair cells.now)) }
 {
     for cell in cells {
         ranks.push(cell.rank)?;
@@ -44,7 +45,8 @@ fn push_ranks(ranks: &mut Vec<u32>, cells: &[Dense]) -> Result<(), NoMemory>
     Ok(())
 }
 
-/// The records as rests, each in the list of its first rank. `all` are the ranks of all cells, record by record.
+/// The records as rests, each in the list of its first rank, in a pass over all cells. `all` are the ranks of these,
+/// record by record.
 pub(crate) fn waiting_of<'a>(
     alloc: Global,
     records: &[Vec<Dense>],
@@ -142,7 +144,8 @@ fn add_to_each(sums: &mut Sums, ranks: &[u32], gain: i128) -> Result<(), NoMemor
     requires ascending { Ascend ranks.now }
     requires in_range { AllByRecursion (λ rank. rank < length sums.old) ranks.now }
     requires least { pos 0 ≤ℤ gain }
-    requires fits { (rank : ℕ) → (sum_at sums.old rank +ℤ gain_at ranks.now gain rank) <ℤ pos (2 ^ 127) }
+    requires fits { (rank : ℕ) → (sum_at sums.old rank +ℤ gain_at ranks.now gain rank)
+        <ℤ pos (2 ^ 127) }
     ensures len { OnOk result (length sums.new ≡ length sums.old) }
     ensures sums { OnOk result ((rank : ℕ) → sum_at sums.new rank
         ≡ sum_at sums.old rank +ℤ gain_at ranks.now gain rank) }

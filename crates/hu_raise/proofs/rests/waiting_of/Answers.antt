@@ -38,7 +38,8 @@ split_at-requires c =
     let i = c.loop-record.record-index in
     let cells = pairs_in c.record-item.result in
     let here = pairs-at c.args.records.now i c.record-item.result c.loop-record-test.true c.record-item.is in
-    let next = next-of pairs i c.loop-record.left.now cells (omega (arith, length-map c.args.records.now pairs_in, c.loop-record-test.true)) here c.loop-record.invariant.left in
+    let within : i < length pairs = omega (arith, length-map c.args.records.now pairs_in, c.loop-record-test.true) in
+    let next = next-of pairs i c.loop-record.left.now cells within here c.loop-record.invariant.left in
     omega (
       arith,
       ap length next,
