@@ -1,11 +1,9 @@
 -- What a set that holds a pair earns in the records that hold the pair.
-use Rattle.std.proofs.Common.{◌≡◌, ℕ, ◌<◌, Bool, true, false, not, cond, eqb, ℤ, pos, negsuc, ◌+ℤ◌, ◌≤ℤ◌, List, [], ◌∷◌}
-use Rattle.std.proofs.Common.{filter, refl, sym, ap, ◌∙◌, subst, inl, inr, arith}
-use Rattle.std.specs.List.{AllByRecursion}
-use Rattle.std.proofs.lemmas.Bool.{eq-eqb, ne_eqb, cases_eq, and_parts}
+use Rattle.std.proofs.Common.{◌≡◌, ℕ, Bool, true, false, cond, ℤ, pos, ◌≤ℤ◌, List, [], ◌∷◌}
+use Rattle.std.proofs.Common.{refl, arith}
 use Rattle.std.proofs.lemmas.Int.{ints}
 use Rattle.hu_kind.specs.Order.{Ascend}
-use Rattle.hu_kind.specs.Record.{has, holds, value_of, values_of, utility_in, positive_part, gain}
+use Rattle.hu_kind.specs.Record.{has, holds, values_of, utility_in, gain}
 use Rattle.hu_kind.specs.Database.{utility}
 use Rattle.hu_kind.proofs.lemmas.Earned.{gain-least, values_of-gain, has-held}
 use Rattle.hu_kind.proofs.lemmas.Members.{Member, Member-from_contains}

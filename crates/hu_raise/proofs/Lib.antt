@@ -10,3 +10,7 @@ pub mod CellLemmas
 pub mod PairLemmas
 pub mod VectorLemmas
 pub mod TableLemmas
+pub mod RankLists
+pub mod RestLemmas
+pub mod PairGains
+pub mod TurnLemmas

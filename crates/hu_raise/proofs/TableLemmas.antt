@@ -8,14 +8,13 @@ use Rattle.std.proofs.lemmas.Bool.{cases_lt, eq-eqb, eqb-true, ne_eqb, or_cases}
 use Rattle.std.proofs.lemmas.Int.{ints, by_lt_z}
 use Rattle.std.proofs.lemmas.List.{get_or_past}
 use Rattle.std.proofs.lemmas.List.FromFn.{length-map-range_with_len, get_or-map-range_with_len}
-use Rattle.hu_kind.specs.Order.{Ascend}
 use Rattle.hu_kind.specs.Record.{has, holds, gain, items_in}
 use Rattle.hu_kind.proofs.lemmas.Members.{Member, Member-from_filter}
 use Rattle.hu_kind.proofs.lemmas.Ascending.{Ascend-adjacent}
 use Rattle.hu_collect.specs.Pairs.{pair_twu}
 use Rattle.hu_totals.specs.Ranked.{Ranking, IsRanking}
 use Rattle.hu_raise.specs.Partners.{partners, pair_table, RefusesJustLow}
-use Rattle.hu_raise.specs.Places.{IsOverRanks, AreOverRanks}
+use Rattle.hu_raise.specs.OverRanks.{IsOverRanks, AreOverRanks}
 use Rattle.hu_raise.proofs.NumberLists.{filter-range_ascends, Member-filter_range}
 
 -- ---- ranked records are over ranks

@@ -2,6 +2,7 @@ pub mod Partners
 pub mod StartFloor
 pub mod View
 pub mod Sums
-pub mod Places
+pub mod OverRanks
+pub mod Rests
 pub mod Laws
 pub mod Worked

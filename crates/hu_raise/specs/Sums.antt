@@ -18,7 +18,7 @@ use Rattle.std.specs.Prelude.{
 }
 use Rattle.std.specs.List.{filter, list_any, range_with_len, IsDistinct}
 use Rattle.std.specs.Ordering.{int_eq}
-use Rattle.hu_kind.specs.Record.{has}
+use Rattle.hu_totals.specs.Cells.{among}
 
 -- the sum of a rank
 abbrev pub sum_at : List ℤ → ℕ → ℤ
@@ -28,9 +28,9 @@ sum_at sums rank = slice_index_or sums rank (pos 0)
 abbrev pub ranks_reaching : ℤ → List ℤ → List ℕ
 ranks_reaching floor sums = filter (λ rank. int_le floor (sum_at sums rank)) (range_with_len 0 (length sums))
 
--- a gain where a record holds a rank, else 0
-abbrev pub gain_at : List (ℕ × ℤ) → ℤ → ℕ → ℤ
-gain_at cells gained rank = if has rank cells then gained else pos 0
+-- a gain where a rank is one of these, else 0
+abbrev pub gain_at : List ℕ → ℤ → ℕ → ℤ
+gain_at ranks gained rank = if among rank ranks then gained else pos 0
 
 -- a rank where a gain is the first above 0 to its sum, else none
 abbrev pub first_rank : ℕ → ℤ → ℤ → List ℕ

@@ -6,10 +6,11 @@
 //! it is in `specs/StartFloor.antt`. The crate stands on hu_totals and hu_collect.
 #![tactic(auto)]
 
-mod holders;
+mod gains;
 mod laws;
 mod pairs;
 mod partners;
+mod rests;
 mod start;
 mod sums;
 #[cfg(test)]

@@ -28,14 +28,13 @@ impl Model for Sums {
 }
 
 impl Sums {
-    /// A sum of 0 for each rank below a number.
+    /// A sum of 0 for each rank below a number, with room to list them all.
     pub(crate) fn new(alloc: Global, ranks: u32) -> Result<Sums, NoMemory>
         ensures { IfOk result (λ sums. sums ≡ replicate ranks (pos 0)) }
     {
-        Ok(Sums {
-            sums: vec![in alloc; 0i128; ranks as usize]?,
-            touched: Vec::new(alloc),
-        })
+        let sums = vec![in alloc; 0i128; ranks as usize]?;
+        let touched = Vec::with_capacity(alloc, ranks as usize)?;
+        Ok(Sums { sums, touched })
     }
 
     /// Adds a gain to the sum of a rank.

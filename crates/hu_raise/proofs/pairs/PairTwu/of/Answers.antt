@@ -3,7 +3,7 @@ use Rattle.std.specs.Int.{w128}
 use Rattle.std.proofs.lemmas.Int.{to_z-of_z}
 use Rattle.hu_totals.specs.View.{pairs_in}
 use Rattle.hu_raise.specs.Partners.{pair_table, RefusesJustLow}
-use Rattle.hu_raise.specs.Places.{AreOverRanks}
+use Rattle.hu_raise.specs.OverRanks.{AreOverRanks}
 use Rattle.hu_raise.specs.View.{IsTable}
 use Rattle.hu_raise.proofs.TableLemmas.{AreOverRanks-ranking, RefusesJustLow-table, ascending-table}
 use Rattle.hu_raise.proofs.pairs.PairTwu.of.Goals as goal
