@@ -1,10 +1,10 @@
 -- The children of a kind of growth, by what is told of marks item by item.
-use Rattle.std.proofs.Common.{◌≡◌, ℕ, zero, suc, ◌-◌, ◌<◌, ◌≤◌, ◌^◌, Bool, true, false, cond, ℤ, List, [], ◌∷◌, ◌++◌, length, get_or, take, drop}
-use Rattle.std.proofs.Common.{refl, sym, ap, ◌∙◌, subst, ◌⊎◌, inl, inr, arith}
+use Rattle.std.proofs.Common.{◌≡◌, ℕ, zero, suc, ◌+◌, ◌-◌, ◌<◌, ◌≤◌, Bool, true, ℤ, List, [], ◌∷◌, ◌++◌, length, get_or, take, drop}
+use Rattle.std.proofs.Common.{append_assoc, length-append, refl, sym, ap, ◌∙◌, subst, ◌⊎◌, inl, inr, arith}
 use Rattle.std.specs.List.{AllByRecursion}
 use Rattle.std.proofs.lemmas.Bool.{cases_eq}
 use Rattle.std.proofs.lemmas.Int.{ints}
-use Rattle.std.proofs.lemmas.List.{length-map, map-append, get_or-map}
+use Rattle.std.proofs.lemmas.List.{length-map, map-append, get_or-map, get_or_append_left, take-append-le}
 use Rattle.std.proofs.lemmas.List.Elements.{Contains-append_left, Contains-push}
 use Rattle.hu_kind.specs.declared.item.Item.{Item}
 use Rattle.hu_kind.specs.Sequence.{sequence_support}
@@ -18,7 +18,7 @@ use Rattle.hu_span.specs.declared.links.Links.{Links}
 use Rattle.hu_span.specs.declared.mark.Mark.{Mark}
 use Rattle.hu_span.specs.declared.step.Step.{Step}
 use Rattle.hu_span.specs.declared.tally.Told.{Told}
-use Rattle.hu_span.specs.Child.{AreLasting, ArePlaces, AreTold, HasStep, IsChild, IsGathered, IsLast, IsStep, MayTell}
+use Rattle.hu_span.specs.Child.{AreLasting, ArePlaces, AreTold, HasStep, IsChild, IsGathered, IsLast, IsStep, MayTell, MayTellEach}
 use Rattle.hu_span.specs.Branch.{HasPlaces}
 use Rattle.hu_span.specs.Gather.{MayTake}
 use Rattle.hu_span.specs.Growing.{Records}
@@ -29,26 +29,25 @@ use Rattle.hu_span.proofs.ChildLemmas.{marks-gathered, places-gathered, step-fit
 use Rattle.hu_span.specs.Gather.{IsGrowth}
 use Rattle.hu_span.proofs.MarkLemmas.{filter-append}
 use Rattle.hu_span.proofs.TallyLemmas.{fit-at}
-use Rattle.hu_span.proofs.ToldLemmas.{front-most, told-rows, told-rules, with-absent}
+use Rattle.hu_span.proofs.ToldLemmas.{front-most, told-rules, with-absent}
 
 pub member-at : {A : Type 0} (xs : List A) (i : ℕ) (d : A) → i < length xs → Member (get_or xs i d) xs
 member-at [] i d within = absurd (omega (arith, within))
 member-at (x ∷ xs) zero d within = inl refl
 member-at (x ∷ xs) (suc i) d within = inr (member-at xs i d (omega arith))
 
-with-few : (item : ℕ) (marks : List Mark) → length (marks_with item marks) ≤ length marks
-with-few item [] = omega arith
-with-few item (mark ∷ marks) = by (is_of item mark) (with-few item marks)
-  where
-    by : (b : Bool) → length (marks_with item marks) ≤ length marks
-        → length (cond b (mark ∷ marks_with item marks) (marks_with item marks)) ≤ suc (length marks)
-    by true rest = omega arith
-    by false rest = omega arith
+-- what stands past a front, and the front with some of it
+get-past : {A : Type 0} (front more rest : List A) (n i : ℕ) (d : A) → n ≡ length front + i → i < length more
+    → get_or (front ++ (more ++ rest)) n d ≡ get_or more i d
+get-past [] more rest n i d is low = ap (λ k. get_or (more ++ rest) k d) (omega (arith, is)) ∙ get_or_append_left more rest d i low
+get-past (x ∷ front) more rest zero i d is low = absurd (omega (arith, is))
+get-past (x ∷ front) more rest (suc n) i d is low = get-past front more rest n i d (omega (arith, is)) low
 
-take-few : {A : Type 0} (i : ℕ) (xs : List A) → length (take i xs) ≤ i
-take-few zero xs = omega arith
-take-few (suc i) [] = omega arith
-take-few (suc i) (x ∷ xs) = let rest = take-few i xs in omega (arith, rest)
+take-past : {A : Type 0} (front more rest : List A) (n i : ℕ) → n ≡ length front + i → i ≤ length more
+    → take n (front ++ (more ++ rest)) ≡ front ++ take i more
+take-past [] more rest n i is low = ap (λ k. take k (more ++ rest)) (omega (arith, is)) ∙ take-append-le i more rest low
+take-past (x ∷ front) more rest zero i is low = absurd (omega (arith, is))
+take-past (x ∷ front) more rest (suc n) i is low = ap (λ ys. x ∷ ys) (take-past front more rest n i (omega (arith, is)) low)
 
 split-at : {A : Type 0} (i : ℕ) (xs : List A) → take i xs ++ drop i xs ≡ xs
 split-at zero xs = refl
@@ -81,8 +80,8 @@ told-first reaches links tells is none no_tells = record {
 module _ (records : Records) (keep : ℕ → Bool) (pattern : List (List ℕ)) (growth : Growth) (marks : List Mark)
     (from : IsGathered records keep pattern growth marks) where
   -- what may be told of a mark after those in front of it
-  pub may-tell : (i : ℕ) (d : Mark) → i < length marks → length marks < 2 ^ 64 → MayTell (get_or marks i d) (take i marks)
-  may-tell i d within short =
+  pub may-tell : (i : ℕ) (d : Mark) → i < length marks → MayTell (get_or marks i d) (take i marks)
+  may-tell i d within =
       let mark = get_or marks i d in
       let item = mark.item.0 in
       let step : Step = record { growth = growth; item = mark.item } in
@@ -101,21 +100,28 @@ module _ (records : Records) (keep : ℕ → Bool) (pattern : List (List ℕ)) (
       let most = front-most front rest fit_front fit_rest in
       let same = ap (λ ms. reaches_of (told ms)) split in
       let high = step-reaches records keep pattern step all is in
-      let rows = told-rows front in
-      let few = with-few item (take i marks) in
-      let few' = take-few i marks in
       let grows = from.grown in
       let one = fit-at marks i d (each-fit marks grows.each) within in
       record {
         fit = one;
         tally = told-rules front fit_front;
         fits = omega (arith, ints, most, same, high);
-        rows = omega (arith, rows, few, few', within, short);
       }
     where
       each-fit : (ms : List Mark) → AllByRecursion (IsGrowth keep growth pattern) ms → AllByRecursion IsFit (places_of ms)
       each-fit [] all = tt
       each-fit (m ∷ ms) all = let first = all.0 in (first.fit, each-fit ms all.1)
+
+  -- and of some of them that stand side by side
+  pub may-tell-each : (front more rest : List Mark) → marks ≡ (front ++ more) ++ rest → MayTellEach front more
+  may-tell-each front more rest split i d within =
+      let n = length front + i in
+      let whole = split ∙ append_assoc front more rest in
+      let size = ap length split in
+      let place : n < length marks = omega (arith, size, length-append (front ++ more) rest, length-append front more, within) in
+      let one : get_or marks n d ≡ get_or more i d = ap (λ ms. get_or ms n d) whole ∙ get-past front more rest n i d refl within in
+      let before : take n marks ≡ front ++ take i more = ap (take n) whole ∙ take-past front more rest n i refl (omega (arith, within)) in
+      subst (λ ms. MayTell (get_or more i d) ms) before (subst (λ m. MayTell m (take n marks)) one (may-tell n d place))
 
   module _ (reaches : List ℤ) (links : Links) (tells : List Told) (told : AreTold reaches links tells marks) where
     -- the step of a number

@@ -22,3 +22,4 @@ mod ChildLemmas
 mod FamilyLemmas
 mod WalkLemmas
 mod RowsLemmas
+mod ScanLemmas

@@ -1,5 +1,5 @@
 -- What is known of a branch that is entered.
-use Rattle.std.proofs.Common.{◌≡◌, ℕ, ◌+◌, ◌-◌, ◌*◌, ◌<◌, Bool, true, List, [], ◌∷◌, ◌++◌, length, length-append, sym, ap, ◌∙◌, subst, inr, arith, Some}
+use Rattle.std.proofs.Common.{◌≡◌, ℕ, ◌+◌, ◌-◌, ◌*◌, ◌<◌, Bool, true, List, [], ◌∷◌, ◌++◌, length, length-append, sym, ap, ◌∙◌, subst, inr, arith, Option, Some}
 use Rattle.hu_kind.specs.Sequence.{sequence_support}
 use Rattle.hu_chain.specs.Pattern.{last_item}
 use Rattle.hu_chain.proofs.lemmas.Patterns.{last_item-grown}
@@ -10,15 +10,11 @@ use Rattle.hu_kind.specs.declared.item.Item.{Item}
 use Rattle.hu_chain.specs.declared.chain.Growth.TheVariants.{IntoLast, AfterLast}
 use Rattle.hu_span.specs.declared.gather.Grown.{Grown}
 use Rattle.hu_span.specs.declared.mark.Mark.{Mark}
-use Rattle.hu_span.specs.declared.search.Opened.{Opened}
-use Rattle.std.proofs.Common.{ℤ}
-use Rattle.std.specs.List.{AllByRecursion}
-use Rattle.hu_span.specs.declared.child.Child.{Child}
-use Rattle.hu_span.specs.Child.{stepped, AreChildren, AreGathered, ArePlaces, IsGathered, IsSpread}
+use Rattle.hu_span.specs.Child.{stepped, AreGathered, ArePlaces}
 use Rattle.hu_span.specs.Gather.{AreGrown}
 use Rattle.hu_collect.specs.State.{State, IsInOrder, Reached, ReachedSome}
 use Rattle.hu_collect.proofs.lemmas.Searching.{reached-in_order, some-none}
-use Rattle.hu_span.specs.Search.{counting, IsNarrowed, IsOpened, IsRegathered}
+use Rattle.hu_span.specs.Search.{counting, CanGather, IsNarrowed}
 use Rattle.hu_span.proofs.SearchLemmas.{opened-all, opened-some, wider-all, wider-some}
 use Rattle.hu_span.specs.Growing.{AreRecords, GrowsOn, GrowsOver, IsBegun, IsReached, Records}
 use Rattle.hu_span.specs.Kept.{keeps, weighed_of, AreKept}
@@ -68,31 +64,9 @@ gathered-of are reached into after = record {
   after = record { are = are; begun = inr reached; grown = after };
 }
 
--- what a pattern grows by is seen, and its children with their sums over rows
-pub record AreSeen (records : Records) (keep : ℕ → Bool) (pattern : List (List ℕ)) (reaches : List ℤ) (grown : Grown) (children : List Child) : Type 0 where
-  pub gathered : AreGathered records keep pattern grown
-  pub are : AreChildren records keep pattern children
-  pub spreads : AllByRecursion (IsSpread reaches records pattern) children
-
-pub seen-of : {records : Records} {keep : ℕ → Bool} {pattern : List (List ℕ)} {reaches : List ℤ} {grown : Grown} {into after : List Mark}
-    {children seen : List Child}
-    → AreGathered records keep pattern grown → into ≡ grown.into.items → after ≡ grown.after.items → seen ≡ children
-    → (IsGathered records keep pattern IntoLast into → IsGathered records keep pattern AfterLast after → AreChildren records keep pattern children)
-    → (IsGathered records keep pattern IntoLast into → IsGathered records keep pattern AfterLast after
-    → AllByRecursion (IsSpread reaches records pattern) children)
-    → AreSeen records keep pattern reaches grown seen
-seen-of {records} {keep} {pattern} {reaches} {grown} gathered into after same are spreads =
-    let first = subst (IsGathered records keep pattern IntoLast) (sym into) gathered.into in
-    let second = subst (IsGathered records keep pattern AfterLast) (sym after) gathered.after in
-    record {
-      gathered = gathered;
-      are = subst (AreChildren records keep pattern) (sym same) (are first second);
-      spreads = subst (AllByRecursion (IsSpread reaches records pattern)) (sym same) (spreads first second);
-    }
-
 -- where fewer items count
-module _ (records : Records) (kept fewer : Bool × List Item) (opened : Opened) (marks : List Mark) (pattern : List (List ℕ))
-    (is : IsRegathered records kept opened marks pattern) (some : opened.fewer ≡ Some fewer) where
+module _ (records : Records) (kept fewer : Bool × List Item) (found : Option (Bool × List Item)) (marks : List Mark) (pattern : List (List ℕ))
+    (is : CanGather records kept found marks pattern) (some : found ≡ Some fewer) where
   pub fewer-still : AreKept (keeps fewer) pattern
   fewer-still = subst (λ f. AreKept (keeps (counting f kept)) pattern) some is.still
 
@@ -134,18 +108,16 @@ module _ {old mid : State} (records : Records) (kept fewer : Bool × List Item) 
       (wider-all records (keeps kept) (keeps fewer) (pattern_of pushed) (inr n.reached) narrowed.fewer (reached-in_order narrowed.offers)
       narrowed.enough n.reached made))
 
-pub regathers : {old mid : State} (records : Records) (kept : Bool × List Item) (steps pushed : List Step) (branch : Branch) (opened : Opened)
-    (seen : List Mark) → IsNode (weighed_of (keeps kept) records) (keeps kept) steps pushed branch
-    → IsOpened old mid (weighed_of (keeps kept) records) (keeps kept) (pattern_of pushed) (counting opened.fewer kept) opened.grown
-    → seen ≡ branch.marks.items → IsRegathered records kept opened seen (pattern_of pushed)
-regathers records kept steps pushed branch opened seen n is same =
-    let narrowed = is.narrowed in
+pub can-gather : {old mid : State} (records : Records) (kept : Bool × List Item) (steps pushed : List Step) (branch : Branch)
+    (fewer : Option (Bool × List Item)) (seen : List Mark) → IsNode (weighed_of (keeps kept) records) (keeps kept) steps pushed branch
+    → IsNarrowed old mid (weighed_of (keeps kept) records) (keeps kept) (pattern_of pushed) (counting fewer kept)
+    → seen ≡ branch.marks.items → CanGather records kept fewer seen (pattern_of pushed)
+can-gather records kept steps pushed branch fewer seen n is same =
     let q = pattern_of pushed in
     record {
       reached = n.reached;
-      gathered = is.gathered;
       places = subst (ArePlaces (weighed_of (keeps kept) records) q (last_item q)) (sym same) n.places;
       own = n.own;
-      still = narrowed.own;
-      less = narrowed.fewer;
+      still = is.own;
+      less = is.fewer;
     }

@@ -299,7 +299,7 @@ rows-first records keep pattern marks grown is none = record {
   fit = subst (λ ms. AllByRecursion IsFit (places_of ms)) (sym none) tt;
 }
 
-fit-each : (records : Records) (item : ℕ) (ms : List Mark) → AllByRecursion (IsMark records item) ms → AllByRecursion IsFit (places_of ms)
+pub fit-each : (records : Records) (item : ℕ) (ms : List Mark) → AllByRecursion (IsMark records item) ms → AllByRecursion IsFit (places_of ms)
 fit-each records item [] all = tt
 fit-each records item (m ∷ ms) all = let first = all.0 in (first.fit, fit-each records item ms all.1)
 

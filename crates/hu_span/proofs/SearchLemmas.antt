@@ -4,7 +4,6 @@ use Rattle.std.proofs.Common.{◌∙◌, subst}
 use Rattle.std.proofs.Common.{inl, inr, ◌⊎◌, arith, Contains, Result, Ok, Err, IsErr, Option, None, Some, IfSome}
 use Rattle.std.specs.List.{AllByRecursion}
 use Rattle.std.proofs.lemmas.Bool.{false≢true}
-use Rattle.hu_span.specs.declared.search.Opened.{Opened}
 use Rattle.std.proofs.lemmas.Int.{ints}
 use Rattle.hu_kind.specs.declared.entry.Entry.{Entry}
 use Rattle.hu_kind.specs.Sequence.{sequence_entry, sequence_key, sequence_support, sequence_utility}
@@ -29,7 +28,7 @@ use Rattle.hu_span.proofs.Fronts.{contains-before, contains-cases, contains-fron
 use Rattle.hu_span.specs.Gather.{AreGrown}
 use Rattle.hu_span.specs.Growing.{AreRecords, GrowsOn, GrowsOver, IsBegun, IsReached, Records}
 use Rattle.hu_span.specs.Kept.{keeps, weighed_in, weighed_of, AreKept}
-use Rattle.hu_span.specs.Search.{counting, AreKeptBest, IsBelow, IsNarrowed, IsOneOf, IsSoFar, OffersAll, Opens}
+use Rattle.hu_span.specs.Search.{counting, AreKeptBest, IsBelow, IsNarrowed, IsOneOf, IsSoFar, Narrows, OffersAll}
 use Rattle.hu_span.specs.Cut.{AreBelow, AreOpen}
 use Rattle.hu_span.specs.Mark.{places_of, IsMark}
 use Rattle.hu_span.specs.declared.mark.Mark.{Mark}
@@ -447,10 +446,11 @@ narrowed-all {new = new} records kept steps marks children reaches floor (Some f
       (subst (λ f. f ≤ℤ sequence_utility records other) (sym same) high);
 }
 
-pub opens-stopped : {E : Type 0} {old new : State} (records : Records) (kept : Bool × List Item) (pattern : List (List ℕ)) (result : Result Opened E)
-    → IsErr result → ReachedSome old (GrowsOn records (keeps kept) pattern) new → Opens old new records kept pattern result
-opens-stopped records kept pattern (Ok x) none some = absurd (false≢true none)
-opens-stopped records kept pattern (Err e) none some = some
+pub narrows-stopped : {E : Type 0} {old new : State} (records : Records) (kept : Bool × List Item) (pattern : List (List ℕ))
+    (result : Result (Option (Bool × List Item)) E) → IsErr result → ReachedSome old (GrowsOn records (keeps kept) pattern) new
+    → Narrows old new records kept pattern result
+narrows-stopped records kept pattern (Ok x) none some = absurd (false≢true none)
+narrows-stopped records kept pattern (Err e) none some = some
 
 -- one more offer, the steps seen again
 pub offered-turn : {old s t : State} (records : Records) (steps seen : List Step) (children : List Child) (i : ℕ) (d : Child) → i < length children

@@ -1,10 +1,10 @@
 -- What is told of marks, item by item.
-use Rattle.std.proofs.Common.{◌≡◌, ◌≢◌, ℕ, zero, suc, ◌+◌, ◌<◌, ◌≤◌, ◌&&◌, Bool, true, false, cond, eqb, ltb, ℤ, pos, ◌+ℤ◌, ◌≤ℤ◌, Option, None, Some, IfSome, SomeIff}
+use Rattle.std.proofs.Common.{◌≡◌, ◌≢◌, ℕ, zero, suc, ◌+◌, ◌<◌, ◌≤◌, ◌^◌, ◌&&◌, Bool, true, false, cond, eqb, ltb, ℤ, pos, ◌+ℤ◌, ◌≤ℤ◌, Option, None, Some, IfSome, SomeIff}
 use Rattle.std.proofs.Common.{List, [], ◌∷◌, ◌++◌, length, get_or, set, refl, sym, ap, ◌∙◌, subst, ◌⊎◌, inl, inr, arith, length-append, append-nil}
 use Rattle.std.specs.List.{AllByRecursion}
 use Rattle.std.proofs.lemmas.Bool.{eq-eqb, eqb-true, ne_eqb, lt-ltb, ltb-true, cases_eq}
 use Rattle.std.proofs.lemmas.Int.{ints}
-use Rattle.std.proofs.lemmas.List.{length-set, map-append, get_or-set_same, get_or-set_other, get_or_append_left}
+use Rattle.std.proofs.lemmas.List.{length-map, length-set, map-append, get_or-set_same, get_or-set_other, get_or_append_left}
 use Rattle.hu_chain.specs.Bound.{IsFit}
 use Rattle.hu_span.specs.declared.links.Links.{Links}
 use Rattle.hu_span.specs.declared.mark.Mark.{Mark}
@@ -118,6 +118,15 @@ with-some item (mark ∷ marks) (suc place) within here = by (eqb item mark.item
     by : (b : Bool) → 0 < length (marks_with item marks) → 0 < length (cond b (mark ∷ marks_with item marks) (marks_with item marks))
     by true rest = omega arith
     by false rest = rest
+
+with-few : (item : ℕ) (marks : List Mark) → length (marks_with item marks) ≤ length marks
+with-few item [] = omega arith
+with-few item (mark ∷ marks) = by (is_of item mark) (with-few item marks)
+  where
+    by : (b : Bool) → length (marks_with item marks) ≤ length marks
+        → length (cond b (mark ∷ marks_with item marks) (marks_with item marks)) ≤ suc (length marks)
+    by true rest = omega arith
+    by false rest = omega arith
 
 -- ---- one mark more
 
@@ -240,6 +249,19 @@ module _ (reaches : List ℤ) (old new : Links) (tells : List Told) (marks : Lis
         told-known reaches old new tells marks mark is rules number d within (ap (λ its. at its number) (sym same.0) ∙ num.here)
     | inr grown ↦ absurd (let n = grown.1 in omega (arith, within, n, is.size))
   ]
+
+  -- their rows are fewer than the marks that are linked
+  pub tell-rows : number < length tells → (d : Told) → length new.olders.items < 2 ^ 64 → (get_or tells number d).tally.rows + 1 < 2 ^ 64
+  tell-rows within d few =
+      let known = tell-known within d in
+      let same = ap (λ (t : Tally). t.rows) known.tally in
+      let rows = told-rows (marks_with mark.item.0 marks) in
+      let own = with-few mark.item.0 marks in
+      let linked = rules.linked in
+      let size = linked.size in
+      let keys = length-append (keys_of marks) (mark.item.0 ∷ []) in
+      let all = length-map marks (λ (m : Mark). m.item.0) in
+      omega (arith, same, rows, own, size, keys, all, few)
 
   pub tell-again : number < length tells → (one : Told) → IsTold reaches (marks_with mark.item.0 marks ++ mark ∷ []) one
       → AreTold reaches new (set tells number one) (marks ++ mark ∷ [])

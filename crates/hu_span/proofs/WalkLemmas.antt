@@ -23,7 +23,7 @@ use Rattle.hu_chain.proofs.lemmas.Gathered.{place-at, totals-all}
 use Rattle.hu_span.specs.declared.gather.Tail.{Tail}
 use Rattle.hu_span.specs.declared.gather.Walk.{Walk}
 use Rattle.hu_span.specs.declared.mark.Mark.{Mark}
-use Rattle.hu_span.specs.Gather.{cells_after, marks_in, marks_past, tail_marks, walk_marks, IsInside, IsTail, IsWalk, StaysFit}
+use Rattle.hu_span.specs.Gather.{beside_marks, cells_after, later_marks, marks_in, marks_past, tail_marks, walk_marks, IsInside, IsTail, IsWalk, StaysFit}
 use Rattle.hu_span.specs.Kept.{counted, takes, weighed, weighed_in}
 use Rattle.hu_span.specs.Mark.{mark_at, places_of}
 use Rattle.hu_span.proofs.NumberLemmas.{kept-z}
@@ -261,6 +261,41 @@ module _ (elements : List (List (ℕ × ℤ))) (rules : IsSequence elements) whe
         left = subst (AllByRecursion (IsLeft elements)) (sym left) (left-past e (places_of walk.left.now) is.left);
       }
 
+  -- the marks of a walk fit
+  pub walk-fit : (row e : ℕ) (best ahead : ℤ) (places : List Place) (later : List (List (ℕ × ℤ))) → later ≡ drop e elements → ahead ≡ totals later
+      → pos 0 ≤ℤ best → (best +ℤ ahead) <ℤ pos (2 ^ 127) → AllByRecursion (IsLeft elements) places
+      → AllByRecursion IsFit (places_of (walk_marks row e best ahead places later))
+  walk-fit row e best ahead places [] at is low fits left = tt
+  walk-fit row e best ahead places (cells ∷ later) at is low fits left =
+      let size = ap length at in
+      let within : e < length elements = omega (arith, size, length-drop e elements) in
+      let next = at ∙ drop-at elements e within in
+      let cell : cells ≡ element_at elements e = ap (λ es. element_at es 0) next in
+      let rest : later ≡ drop (suc e) elements = ap (drop 1) next in
+      let above : AllByRecursion IsAbove cells = subst (AllByRecursion IsAbove) (sym cell) (element_above e) in
+      let here = total-above cells above in
+      let sum = ap totals rest in
+      let more = low-later (suc e) in
+      let started : IsBestPast e best = record { low = low; fits = omega (arith, ints, is, sum, here, fits) } in
+      let past = best-past e best places started left in
+      let low' = past.low in
+      let fits' = past.fits in
+      let first = tail_marks row e 0 best ahead cells in
+      let others = walk_marks row (suc e) (best_past e best places) (ahead -ℤ total cells) (left_past e places) later in
+      let fit = fit-tail row e 0 best ahead cells above low (omega (arith, ints, is, sum, more)) fits in
+      stays-fit first (first ++ others) others refl
+      (walk-fit row (suc e) (best_past e best places) (ahead -ℤ total cells) (left_past e places) later rest (omega (arith, ints, is)) low'
+      (omega (arith, ints, is, sum, fits')) (left-past e places left)) fit
+
+  -- and those beside a place
+  pub beside-fit : (last row : ℕ) (place : Place) → IsPlaceOf elements last place → IsFit place
+      → AllByRecursion IsFit (places_of (beside_marks elements row place))
+  beside-fit last row place is fit =
+      let rest = is.rest in
+      let later = low-later (suc place.element) in
+      fit-tail row place.element (suc place.cell) place.best place.rest (cells_after elements place) (after-above place) fit.best
+      (omega (arith, ints, rest, later)) fit.reach
+
   -- the marks of a walk are those of its next element and the ones past it
   pub marks-next : (e : ℕ) (walk next : Walk) → e < length elements → next.row ≡ walk.row → next.best ≡ best_past e walk.best (places_of walk.left.now)
       → places_of next.left.now ≡ left_past e (places_of walk.left.now) → next.ahead ≡ walk.ahead -ℤ total (element_at elements e)
@@ -400,6 +435,30 @@ tail-end keep row e c best rest cells i marks whole past so_far =
     sym (append-nil marks) ∙ ap (λ cs. marks ++ filter (takes keep) (tail_marks row e c best rest (weighed keep (pairs_of cs)))) (sym
     (drop-past cells i past)) ∙ so_far
 
+-- what is left after places
+left-of : (elements : List (List (ℕ × ℤ))) (last : ℕ) (places : List Place) → IsSequence elements → AllByRecursion (IsPlaceOf elements last) places
+    → AllByRecursion IsFit places → AllByRecursion (IsLeft elements) places
+left-of elements last [] rules are fits = tt
+left-of elements last (place ∷ places) rules are fits =
+    let first = are.0 in
+    let rest = first.rest in
+    let here = total-above (cells_after elements place) (after-above elements rules place) in
+    (record { fit = fits.0; rest = omega (arith, ints, rest, here) }, left-of elements last places rules are.1 fits.1)
+
+-- the marks in the elements after the first of places fit
+pub later-fit : (elements : List (List (ℕ × ℤ))) (last row : ℕ) (places : List Place) → IsSequence elements → AllByRecursion (IsPlaceOf elements last) places
+    → AllByRecursion IsFit places → AllByRecursion IsFit (places_of (later_marks elements row places))
+later-fit elements last row [] rules are fits = tt
+later-fit elements last row (place ∷ places) rules are fits =
+    let first = are.0 in
+    let rest = first.rest in
+    let fit = fits.0 in
+    let high = fit.reach in
+    let here = total-above (cells_after elements place) (after-above elements rules place) in
+    walk-fit elements rules row (suc place.element) place.best (place.rest -ℤ total (cells_after elements place)) places
+    (drop (suc place.element) elements) refl (omega (arith, ints, rest)) fit.best (omega (arith, ints, high, here))
+    (left-of elements last places rules are.1 fits.1)
+
 -- the walk after the first place of a row
 pub walk-later : (elements : List (List (ℕ × ℤ))) (last : ℕ) (place : Place) (places : List Place) (walk : Walk) → IsSequence elements
     → IsPlaceOf elements last place
@@ -415,16 +474,8 @@ walk-later elements last place places walk rules is are fit fits best ahead left
       ahead = omega (arith, ints, ahead, rest);
       best = omega (arith, ints, best, low);
       fits = omega (arith, ints, best, ahead, high, here);
-      left = subst (AllByRecursion (IsLeft elements)) (sym left) (each-left-of places are fits);
+      left = subst (AllByRecursion (IsLeft elements)) (sym left) (left-of elements last places rules are fits);
     }
-  where
-    each-left-of : (ps : List Place) → AllByRecursion (IsPlaceOf elements last) ps → AllByRecursion IsFit ps → AllByRecursion (IsLeft elements) ps
-    each-left-of [] a f = tt
-    each-left-of (p ∷ ps) a f =
-        let first = a.0 in
-        let rest = first.rest in
-        let here = total-above (cells_after elements p) (after-above elements rules p) in
-        (record { fit = f.0; rest = omega (arith, ints, rest, here) }, each-left-of ps a.1 f.1)
 
 -- ---- where fewer items count
 

@@ -1,5 +1,5 @@
 -- The patterns with one step more than a pattern.
-use Rattle.std.specs.Prelude.{◌≡◌, true, ◌<◌, ◌+◌, ◌^◌, ◌≤ℤ◌, ◌<ℤ◌, ℕ, ℤ, pos, Bool, List, length, slice_index_or, IfSome}
+use Rattle.std.specs.Prelude.{◌≡◌, true, ◌<◌, ◌^◌, ◌++◌, ◌≤ℤ◌, ◌<ℤ◌, ℕ, ℤ, pos, Bool, List, length, take, slice_index_or, IfSome}
 use Rattle.std.specs.List.{AllByRecursion, Contains}
 use Rattle.hu_kind.specs.declared.entry.Entry.{Entry}
 use Rattle.hu_kind.specs.Sequence.{sequence_entry, sequence_support, sequence_utility}
@@ -93,7 +93,11 @@ pub record MayTell (mark : Mark) (marks : List Mark) : Type 0 where
   pub fit : IsFit mark.place
   pub tally : IsTally (told (marks_with mark.item.0 marks))
   pub fits : reaches_of (told (marks_with mark.item.0 marks)) <ℤ pos (2 ^ 127)
-  pub rows : (told (marks_with mark.item.0 marks)).rows + 1 < 2 ^ 64
+
+-- of each of further marks so much may be told after those in front of it
+abbrev pub MayTellEach : List Mark → List Mark → Type 0
+MayTellEach marks more = (i : ℕ) (none : Mark) → i < length more
+    → MayTell (slice_index_or more i none) (marks ++ take i more)
 
 -- a child tells where the last mark of its item stands among marks
 abbrev pub IsLast : List Mark → Child → Type 0

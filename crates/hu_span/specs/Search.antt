@@ -8,12 +8,10 @@ use Rattle.hu_chain.specs.Grown.{IsGrownFrom}
 use Rattle.hu_kind.specs.Sequence.{sequence_support, sequence_utility}
 use Rattle.hu_kind.specs.declared.item.Item.{Item}
 use Rattle.hu_span.specs.declared.child.Branch.{Branch}
-use Rattle.hu_span.specs.declared.gather.Grown.{Grown}
-use Rattle.hu_span.specs.declared.search.Opened.{Opened}
 use Rattle.hu_span.specs.Branch.{AreCopies, Fall}
 use Rattle.hu_span.specs.declared.mark.Mark.{Mark}
 use Rattle.hu_chain.specs.Pattern.{last_item}
-use Rattle.hu_span.specs.Child.{child_entry, stepped, AreChildren, AreGathered, ArePlaces}
+use Rattle.hu_span.specs.Child.{child_entry, stepped, AreChildren, ArePlaces}
 use Rattle.hu_span.specs.Kept.{keeps, weighed_of, AreKept}
 use Rattle.hu_span.specs.Growing.{GrowsOn, IsReached, Records}
 
@@ -62,29 +60,22 @@ pub record IsNarrowed (old new : State) (records : Records) (keep : ℕ → Bool
       → 0 < sequence_support records other
       → floor_in new ≤ℤ sequence_utility records other → AreKept (keeps kept) other
 
--- what a pattern grows by was gathered, all its children were offered, and items are kept
-pub record IsOpened (old new : State) (records : Records) (keep : ℕ → Bool)
-    (pattern : List (List ℕ)) (kept : Bool × List Item) (grown : Grown) : Type 0 where
-  pub gathered : AreGathered records keep pattern grown
-  pub narrowed : IsNarrowed old new records keep pattern kept
-
--- by what a pattern grows is gathered again, where it has places and the items that count are fewer
-pub record IsRegathered (records : Records) (kept : Bool × List Item) (opened : Opened)
-    (marks : List Mark) (pattern : List (List ℕ)) : Type 0 where
+-- by what a pattern grows can be gathered, where it has places and the items that count are fewer or the same
+pub record CanGather (records : Records) (kept : Bool × List Item)
+    (fewer : Option (Bool × List Item)) (marks : List Mark) (pattern : List (List ℕ))
+    : Type 0 where
   pub reached : IsReached pattern
-  pub gathered : AreGathered (weighed_of (keeps kept) records) (keeps kept) pattern opened.grown
   pub places : ArePlaces (weighed_of (keeps kept) records) pattern (last_item pattern) marks
   pub own : AreKept (keeps kept) pattern
-  pub still : AreKept (keeps (counting opened.fewer kept)) pattern
-  pub less : (item : ℕ) → keeps (counting opened.fewer kept) item ≡ true → keeps kept item ≡ true
+  pub still : AreKept (keeps (counting fewer kept)) pattern
+  pub less : (item : ℕ) → keeps (counting fewer kept) item ≡ true → keeps kept item ≡ true
 
--- after Ok it is opened, after Err some children were offered
-abbrev pub Opens : {E : Type 0} → State → State → Records → Bool × List Item → List (List ℕ)
-    → Result Opened E → Type 0
-Opens old new records kept pattern result =
+-- after Ok it is narrowed, after Err some children were offered
+abbrev pub Narrows : {E : Type 0} → State → State → Records → Bool × List Item → List (List ℕ)
+    → Result (Option (Bool × List Item)) E → Type 0
+Narrows old new records kept pattern result =
     MatchResult result
-    (λ opened. IsOpened old new records (keeps kept) pattern (counting opened.fewer kept)
-    opened.grown)
+    (λ fewer. IsNarrowed old new records (keeps kept) pattern (counting fewer kept))
     (λ _. ReachedSome old (GrowsOn records (keeps kept) pattern) new)
 
 -- after Ok all children of a pattern were offered, after Err some were

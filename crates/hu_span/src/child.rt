@@ -4,7 +4,7 @@ ghost use Rattle.std.specs.Prelude.{◌≡◌, ◌++◌, ◌∷◌, [], ℕ, ℤ
 ghost use Rattle.std.specs.List.{AllByRecursion};
 ghost use Rattle.hu_span.specs.declared.mark.Mark.{Mark};
 ghost use Rattle.hu_span.specs.Branch.{AreBranchesBy, AreCopies, HasPlaces, IsPushed};
-ghost use Rattle.hu_span.specs.Child.{AreAllTold, AreChildren, AreLasting, AreTold, IsChild, IsFamily, IsGathered, IsLast, IsSpread, IsStep, MayTell};
+ghost use Rattle.hu_span.specs.Child.{AreAllTold, AreChildren, AreLasting, AreTold, IsChild, IsFamily, IsGathered, IsLast, IsSpread, IsStep, MayTell, MayTellEach};
 ghost use Rattle.hu_span.specs.Growing.{Pattern, Records};
 ghost use Rattle.hu_span.specs.Links.{keys_of, AreLinked};
 ghost use Rattle.hu_span.specs.Search.{AreKeptBest};
@@ -89,12 +89,29 @@ fn family_of(
 {
     let mut links = Links::new(alloc, marks.len())?;
     let mut tells = Vec::new(alloc);
-    'marks: for mark in marks {
-        tell(&mut links, &mut tells, mark, reaches)?;
-    }
+    tell_all(&mut links, &mut tells, marks, reaches)?;
     let children = children_told(alloc, &links, &tells, growth)?;
     let Links { olders, .. } = links;
     Ok(Family { children, olders })
+}
+
+/// Tells further marks.
+pub(crate) fn tell_all(
+    links: &mut Links,
+    tells: &mut Vec<Told>,
+    marks: &[Mark],
+    reaches: &[i128],
+) -> Result<(), NoMemory>
+    requires { (before : List Mark) × AreTold reaches.now links.old tells.old.items before
+        × MayTellEach before marks.now }
+    ensures { OnOk result ((before : List Mark)
+        → AreTold reaches.now links.old tells.old.items before
+        → AreTold reaches.now links.new tells.new.items (before ++ marks.now)) }
+{
+    'marks: for mark in marks {
+        tell(links, tells, mark, reaches)?;
+    }
+    Ok(())
 }
 
 /// Tells a mark more.
@@ -119,7 +136,7 @@ fn tell(
 }
 
 /// The children of items of which all was told.
-fn children_told(
+pub(crate) fn children_told(
     alloc: Global,
     links: &Links,
     tells: &[Told],

@@ -140,7 +140,7 @@ fn marks_after(
 }
 
 /// How many marks at the front are of a row.
-fn row_len(marks: &[Mark], row: usize) -> usize
+pub(crate) fn row_len(marks: &[Mark], row: usize) -> usize
     ensures { result ≡ front_of row marks.now }
 {
     for (number, mark) in marks.iter().enumerate() {
@@ -152,7 +152,7 @@ fn row_len(marks: &[Mark], row: usize) -> usize
 }
 
 /// Appends the marks of the cells after a mark in its element.
-fn push_beside(
+pub(crate) fn push_beside(
     marks: &mut Vec<Mark>,
     kept: &Kept,
     elements: &[Element],
@@ -182,7 +182,7 @@ fn push_beside(
 }
 
 /// Appends the marks of the cells after the element of the first mark of a row, of which others are left.
-fn push_later(
+pub(crate) fn push_later(
     marks: &mut Vec<Mark>,
     kept: &Kept,
     elements: &[Element],

@@ -18,6 +18,7 @@ mod kept;
 mod links;
 mod mark;
 mod rests;
+mod scan;
 mod search;
 mod step;
 mod tally;

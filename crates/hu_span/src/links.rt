@@ -1,6 +1,6 @@
 //! Items with a number each, and the places at which each is met, linked from the last one back.
 
-ghost use Rattle.std.specs.Prelude.{◌≡◌, ◌<◌, ◌≤◌, ◌%◌, ◌++◌, [], ◌∷◌, ℕ, List, length, IfOk, OnOk, MatchOption};
+ghost use Rattle.std.specs.Prelude.{◌≡◌, ◌<◌, ◌≤◌, ◌%◌, ◌^◌, ◌++◌, [], ◌∷◌, ℕ, List, length, IfOk, OnOk, MatchOption};
 ghost use Rattle.hu_span.specs.Links.{buckets, keys_of, AreLinked, AreLinks, AreNumbers, IsAbsent, IsBack, IsNumber, IsNumbered};
 ghost use Rattle.hu_span.specs.Mark.{marks_with};
 
@@ -112,6 +112,7 @@ impl Links {
             → AreLinks self.new (keys ++ item ∷ [])) }
         ensures number { IfOk result (IsNumbered self.old.numbers.items.items
             self.new.numbers.items.items item) }
+        ensures few { OnOk result (length self.new.olders.items < 2 ^ 64) }
     {
         match self.numbers.find(item) {
             Some(number) => {

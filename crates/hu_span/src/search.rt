@@ -10,7 +10,7 @@ ghost use Rattle.hu_span.specs.Branch.{IsBranch};
 ghost use Rattle.hu_span.specs.Child.{child_entry, stepped, AreGathered, ArePlaces, IsChild};
 ghost use Rattle.hu_span.specs.Growing.{AreRecords, GrowsOn, GrowsOver, IsBegun, IsReached, Pattern, Records};
 ghost use Rattle.hu_span.specs.Kept.{keeps, weighed_of, AreKept};
-ghost use Rattle.hu_span.specs.Search.{counting, AreKeptBest, IsOneOf, IsRegathered, OffersAll, Opens};
+ghost use Rattle.hu_span.specs.Search.{counting, AreKeptBest, CanGather, IsOneOf, Narrows, OffersAll};
 ghost use Rattle.hu_span.specs.Step.{pattern_of};
 
 use crate::child::{Branch, Child, best_of, children_of};
@@ -19,6 +19,7 @@ use crate::gather::{Grown, first_grown, gathered};
 use crate::kept::Kept;
 use crate::mark::Mark;
 use crate::rests::rested;
+use crate::scan::scanned;
 use crate::step::{Step, key_of};
 use hu_base::Base;
 use hu_collect::Collect;
@@ -27,15 +28,15 @@ use std::alloc::Global;
 
 /// Offers the sequences that can change what the collector holds, with their utility and their support, so that it holds
 /// what all sequences that occur would make. The places of all patterns with one item more than a pattern are gathered in
-/// one pass over its places. A second pass sums what they tell of each item and links those of an item, so that they are
-/// taken apart for the patterns that are entered alone. All these patterns are offered before any is entered. Then those
-/// items are dropped that reach the floor in no pattern below: the sum over the records in which an item
-/// makes a child, each with the greatest utility and all that is left after it. Where some are dropped, what is left of a
-/// record is summed anew without them, in one walk from its end, and the places are gathered again. The patterns are entered
-/// best bound first, up to the first whose bound is below the floor of the moment. The bound is the sum over the records of
-/// the greatest utility with all that is left after it. The memory of a level is the places of those patterns whose bound
-/// reaches the floor, and the items that still count, where they are fewer than above. After want of memory some of the
-/// sequences have been offered. After USpan (Yin, Zheng and Cao, 2012) and HUS-Span (Wang, Huang and Chen, 2016).
+/// one pass over its places, record by record: what those of a record tell of each item is summed at once, and they are let
+/// go. All these patterns are offered before any is entered. Then those items are dropped that reach the floor in no pattern
+/// below: the sum over the records in which an item makes a child, each with the greatest utility and all that is left after
+/// it. Where some are dropped, what is left of a record is summed anew without them, in one walk from its end. Then the places
+/// are gathered once more and held, summed again and linked item by item, so that they are taken apart for the patterns that
+/// are entered alone. The patterns are entered best bound first, up to the first whose bound is below the floor of the
+/// moment. The bound is the sum over the records of the greatest utility with all that is left after it. The memory of a
+/// level is the places of those patterns whose bound reaches the floor, and the items that still count, where they are fewer
+/// than above. After want of memory some of the sequences have been offered. After USpan (Yin, Zheng and Cao, 2012) and HUS-Span (Wang, Huang and Chen, 2016).
 pub fn mine<C: Collect>(
     alloc: Global,
     base: &Base<SeqRecord>,
@@ -134,7 +135,7 @@ fn enter<C: Collect>(
 {
     steps.push(branch.step)?;
     let first = narrowed(alloc, records, kept, &branch.marks, steps, reaches, collect)?;
-    let Opened { fewer, grown } = regathered(alloc, records, kept, first, &branch.marks)?;
+    let Opened { fewer, grown } = grown_below(alloc, records, kept, first, &branch.marks)?;
     let kept = counting(&fewer, kept);
     deepen(alloc, records, kept, grown, steps, reaches, collect)?;
     steps.pop();
@@ -159,8 +160,8 @@ fn counting<'a>(fewer: &'a Option<Kept>, kept: &'a Kept) -> &'a Kept
     }
 }
 
-/// Offers the children of a pattern, and answers by what it grows, and the items by which patterns may reach the floor
-/// that grow from it.
+/// Offers the children of a pattern, and answers by the items by which patterns may reach the floor that grow from it,
+/// where they are fewer than at it.
 fn narrowed<C: Collect>(
     alloc: Global,
     records: &[SeqRecord],
@@ -169,7 +170,7 @@ fn narrowed<C: Collect>(
     steps: &mut Vec<Step>,
     reaches: &mut [i128],
     collect: &mut C,
-) -> Result<Opened, NoMemory>
+) -> Result<Option<Kept>, NoMemory>
     requires ordered { IsInOrder (C.state collect.old) }
     requires records { AreRecords records.now }
     requires rows { length reaches.old ≡ length records.now }
@@ -178,37 +179,37 @@ fn narrowed<C: Collect>(
     requires places { ArePlaces (weighed_of (keeps kept.now) records.now)
         (pattern_of steps.old.items) (last_item (pattern_of steps.old.items)) marks.now }
     ensures steps { OnOk result (steps.new.items ≡ steps.old.items) }
-    ensures made { Opens (C.state collect.old) (C.state collect.new)
+    ensures made { Narrows (C.state collect.old) (C.state collect.new)
         (weighed_of (keeps kept.now) records.now) kept.now (pattern_of steps.old.items) result }
 {
-    let grown = gathered(alloc, records, kept, marks)?;
     set_reaches(marks, reaches);
-    let children = children_of(alloc, &grown.into, &grown.after, reaches)?;
+    let children = scanned(alloc, records, kept, marks, reaches)?;
     offer_children(alloc, steps, &children, collect)?;
     let fewer = open_items(alloc, steps, &children, collect.floor())?;
-    drop(children);
-    Ok(Opened { fewer, grown })
+    Ok(fewer)
 }
 
-/// What a pattern grows by, gathered again where fewer items count.
-fn regathered(
+/// What a pattern grows by, gathered from its marks, where fewer items may count.
+fn grown_below(
     alloc: Global,
     records: &[SeqRecord],
     kept: &Kept,
-    opened: Opened,
+    fewer: Option<Kept>,
     marks: &[Mark],
 ) -> Result<Opened, NoMemory>
     requires records { AreRecords records.now }
-    requires places { (p : Pattern) × IsRegathered records.now kept.now opened marks.now p }
-    ensures fewer { IfOk result (λ again. again.fewer ≡ opened.fewer) }
-    ensures grown { (p : Pattern) → IsRegathered records.now kept.now opened marks.now p
-        → IfOk result (λ again. AreGathered
-        (weighed_of (keeps (counting opened.fewer kept.now)) records.now)
-        (keeps (counting opened.fewer kept.now)) p again.grown) }
+    requires places { (p : Pattern) × CanGather records.now kept.now fewer marks.now p }
+    ensures fewer { IfOk result (λ opened. opened.fewer ≡ fewer) }
+    ensures grown { (p : Pattern) → CanGather records.now kept.now fewer marks.now p
+        → IfOk result (λ opened. AreGathered
+        (weighed_of (keeps (counting fewer kept.now)) records.now)
+        (keeps (counting fewer kept.now)) p opened.grown) }
 {
-    let Opened { fewer, grown } = opened;
     match fewer {
-        None => Ok(Opened { fewer: None, grown }),
+        None => {
+            let grown = gathered(alloc, records, kept, marks)?;
+            Ok(Opened { fewer: None, grown })
+        }
         Some(fewer) => {
             let marks = rested(alloc, records, &fewer, marks)?;
             let grown = gathered(alloc, records, &fewer, &marks)?;

@@ -1,11 +1,12 @@
 use Rattle.std.proofs.Common.{◌++◌, ◌∷◌, [], ◌<◌, ◌≤◌, length, sym, ap, subst, arith}
 use Rattle.std.proofs.lemmas.Int.{ints}
 use Rattle.hu_span.specs.declared.tally.Tally.{Tally}
+use Rattle.hu_span.specs.declared.tally.Told.{Told}
 use Rattle.hu_span.specs.Child.{AreTold}
 use Rattle.hu_span.specs.Mark.{marks_with}
 use Rattle.hu_span.specs.Tally.{reaches_of, IsTally, IsTold}
 use Rattle.hu_span.proofs.TallyLemmas.{IsTally-none}
-use Rattle.hu_span.proofs.ToldLemmas.{tell-again, tell-known, tell-new}
+use Rattle.hu_span.proofs.ToldLemmas.{tell-again, tell-known, tell-new, tell-rows}
 use Rattle.hu_span.proofs.child.tell.Goals as goal
 
 pub with-requires-else-number-len-clause-tally : goal.with-requires-else-number-len-clause-tally
@@ -45,3 +46,15 @@ returns-in_ok-push c marks is =
     subst (λ ts. AreTold reaches c.push.new.self ts (marks ++ mark ∷ [])) (sym c.in_ok-push.ensures.items)
     (tell-new reaches c.args.links.now c.push.new.self tells marks mark is c.in_ok-number.ensures.rules c.in_ok-number.number
     c.in_ok-number.ensures.number past c.with-else-number-len.result (c.with-else-number-len.ensures [] (c.none.ensures reaches)))
+
+pub with-requires-clause-rows : goal.with-requires-clause-rows
+with-requires-clause-rows c =
+    let tells = c.args.tells.now.items in
+    let marks = c.requires.0 in
+    let mark = c.args.mark.now in
+    let number = c.in_ok-number.number in
+    let within : number < length tells = omega (arith, c.if-number-len.true, c.len.ensures) in
+    let few = tell-rows c.args.reaches.now c.args.links.now c.push.new.self tells marks mark c.requires.1 c.in_ok-number.ensures.rules number
+    c.in_ok-number.ensures.number within c.index.result.now c.in_ok-number.ensures.few in
+    let same = ap (λ (t : Told). t.tally.rows) c.index.ensures in
+    omega (arith, few, same)

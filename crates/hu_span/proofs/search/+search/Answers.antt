@@ -16,7 +16,7 @@ use Rattle.hu_span.specs.Step.{pattern_of}
 use Rattle.hu_span.proofs.SearchLemmas.{so_far-none, so_far-ordered, so_far-all, so_far-next, so_far-some}
 use Rattle.hu_span.proofs.SearchLemmas.{turn-branch}
 use Rattle.hu_span.proofs.WeighedLemmas.{weighed-records}
-use Rattle.hu_span.proofs.NodeLemmas.{node, node-all, node-some, node-stopped, regathers}
+use Rattle.hu_span.proofs.NodeLemmas.{node, node-all, node-some, node-stopped, can-gather}
 use Rattle.hu_span.proofs.search.+search.Goals as goal
 
 pub deepen-best_branches-requires : goal.deepen-best_branches-requires
@@ -159,15 +159,15 @@ enter-returns-in_err-first-clause-made g t c =
     stopped {P = GrowsOn rs keep (stepped (pattern_of steps) branch.step)} c.from_residual-in_err-first.result c.from_residual-in_err-first.ensures.0
     (subst (λ q. ReachedSome old (GrowsOn rs keep q) (g.C.Collect.state c.narrowed.new.collect)) n.same c.in_err-first.ensures.made)
 
-pub enter-regathered-requires-clause-places : goal.enter-regathered-requires-clause-places
-enter-regathered-requires-clause-places g t c =
+pub enter-grown_below-requires-clause-places : goal.enter-grown_below-requires-clause-places
+enter-grown_below-requires-clause-places g t c =
     let records = c.args.records.now in
     let kept = c.args.kept.now in
     let branch = c.args.branch.now in
     let steps = c.args.steps.now.items in
     let pushed = c.push.new.self.items in
     let n = node c.requires.records c.requires.begun c.requires.pattern c.requires.branch c.in_ok-push.ensures.items in
-    (pattern_of pushed, regathers records kept steps pushed branch c.in_ok-first.first _ n c.in_ok-first.ensures.made c.deref-2.ensures.value)
+    (pattern_of pushed, can-gather records kept steps pushed branch c.in_ok-first.first _ n c.in_ok-first.ensures.made c.deref-2.ensures.value)
 
 pub enter-returns-in_err-fewer-clause-made : goal.enter-returns-in_err-fewer-clause-made
 enter-returns-in_err-fewer-clause-made g t c =
@@ -179,10 +179,10 @@ enter-returns-in_err-fewer-clause-made g t c =
     let pushed = c.push.new.self.items in
     let n = node c.requires.records c.requires.begun c.requires.pattern c.requires.branch c.in_ok-push.ensures.items in
     let first = c.in_ok-first.first in
-    let fewer = counting first.fewer kept in
+    let fewer = counting first kept in
     let is = c.in_ok-first.ensures.made in
     stopped {P = GrowsOn (weighed_of keep records) keep (stepped (pattern_of steps) branch.step)} c.from_residual-in_err-fewer.result
-    c.from_residual-in_err-fewer.ensures.0 (node-stopped records kept fewer steps pushed branch n is.narrowed)
+    c.from_residual-in_err-fewer.ensures.0 (node-stopped records kept fewer steps pushed branch n is)
 
 pub enter-deepen-requires : goal.enter-deepen-requires
 enter-deepen-requires g t c κs within =
@@ -193,21 +193,20 @@ enter-deepen-requires g t c κs within =
     let pushed = c.push.new.self.items in
     let n = node c.requires.records c.requires.begun c.requires.pattern c.requires.branch c.in_ok-push.ensures.items in
     let first = c.in_ok-first.first in
-    let fewer = counting first.fewer kept in
+    let fewer = counting first kept in
     let is = c.in_ok-first.ensures.made in
     let mid = g.C.Collect.state c.narrowed.new.collect in
     let same : c.counting-kept.result.now ≡ fewer = c.counting-kept.ensures ∙ ap (λ f. counting f kept) c.in_ok-fewer.ensures.fewer in
     let stay = c.in_ok-first.ensures.steps in
-    let narrowed = is.narrowed in
     let used = c.counting-kept.result.now in
     let now = pattern_of c.narrowed.new.steps.items in
-    let ordered : IsInOrder mid = reached-in_order narrowed.offers in
-    let gathered = c.in_ok-fewer.ensures.grown (pattern_of pushed) (regathers records kept steps pushed branch first _ n is c.deref-2.ensures.value) in
+    let ordered : IsInOrder mid = reached-in_order is.offers in
+    let gathered = c.in_ok-fewer.ensures.grown (pattern_of pushed) (can-gather records kept steps pushed branch first _ n is c.deref-2.ensures.value) in
     let grown : AreGathered (weighed_of (keeps used) records) (keeps used) now c.in_ok-fewer.field-0.grown =
     subst (λ q. AreGathered (weighed_of (keeps used) records) (keeps used) q c.in_ok-fewer.field-0.grown) (sym (ap pattern_of stay))
     (subst (λ f. AreGathered (weighed_of (keeps f) records) (keeps f) (pattern_of pushed) c.in_ok-fewer.field-0.grown) (sym same) gathered) in
     let own : AreKept (keeps used) now = subst (λ q. AreKept (keeps used) q) (sym (ap pattern_of stay))
-    (subst (λ f. AreKept (keeps f) (pattern_of pushed)) (sym same) narrowed.own) in
+    (subst (λ f. AreKept (keeps f) (pattern_of pushed)) (sym same) is.own) in
     let rows : length c.narrowed.new.reaches ≡ length records = c.narrowed.auto.reaches ∙ c.requires.rows in
     let all = c.requires.records in
     let nearer = n.nearer in
@@ -224,7 +223,7 @@ enter-returns-in_err-deepen-clause-made g t c =
     let pushed = c.push.new.self.items in
     let n = node c.requires.records c.requires.begun c.requires.pattern c.requires.branch c.in_ok-push.ensures.items in
     let first = c.in_ok-first.first in
-    let fewer = counting first.fewer kept in
+    let fewer = counting first kept in
     let is = c.in_ok-first.ensures.made in
     let mid = g.C.Collect.state c.narrowed.new.collect in
     let same : c.counting-kept.result.now ≡ fewer = c.counting-kept.ensures ∙ ap (λ f. counting f kept) c.in_ok-fewer.ensures.fewer in
@@ -234,7 +233,7 @@ enter-returns-in_err-deepen-clause-made g t c =
     (subst (λ f. ReachedSome mid (GrowsOver (weighed_of (keeps f) records) (keeps f) (pattern_of c.narrowed.new.steps.items)) new) same
     c.in_err-deepen.ensures.made) in
     stopped {P = GrowsOn (weighed_of keep records) keep (stepped (pattern_of steps) branch.step)} c.from_residual-in_err-deepen.result
-    c.from_residual-in_err-deepen.ensures.0 (node-some records kept fewer steps pushed branch n is.narrowed some)
+    c.from_residual-in_err-deepen.ensures.0 (node-some records kept fewer steps pushed branch n is some)
 
 pub enter-returns-clause-made : goal.enter-returns-clause-made
 enter-returns-clause-made g t c =
@@ -245,7 +244,7 @@ enter-returns-clause-made g t c =
     let pushed = c.push.new.self.items in
     let n = node c.requires.records c.requires.begun c.requires.pattern c.requires.branch c.in_ok-push.ensures.items in
     let first = c.in_ok-first.first in
-    let fewer = counting first.fewer kept in
+    let fewer = counting first kept in
     let is = c.in_ok-first.ensures.made in
     let mid = g.C.Collect.state c.narrowed.new.collect in
     let same : c.counting-kept.result.now ≡ fewer = c.counting-kept.ensures ∙ ap (λ f. counting f kept) c.in_ok-fewer.ensures.fewer in
@@ -254,4 +253,4 @@ enter-returns-clause-made g t c =
     let made = subst (λ ss. Reached mid (GrowsOver (weighed_of (keeps fewer) records) (keeps fewer) (pattern_of ss)) new) stay
     (subst (λ f. Reached mid (GrowsOver (weighed_of (keeps f) records) (keeps f) (pattern_of c.narrowed.new.steps.items)) new) same
     c.in_ok-deepen.ensures.made) in
-    node-all records kept fewer steps pushed branch n is.narrowed c.requires.ordered made
+    node-all records kept fewer steps pushed branch n is c.requires.ordered made
