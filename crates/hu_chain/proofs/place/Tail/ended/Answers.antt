@@ -77,11 +77,17 @@ pub returns-clause-value : goal.returns-clause-value
 unfolding no_cell
 returns-clause-value c =
     let is = IsFound-from c.args.self.now c.args.item.0 c.in_ok-cell.cell no_cell c.requires c.in_ok-cell.ensures in
-    found-some c.args.self.now c.args.item.0 c.in_ok-cell.cell no_cell _ is refl refl
-    (omega (arith, ints, c.requires.few, is.within, is.low, is.front, is.parts, is.rest, c.requires.best, c.requires.holds, c.requires.fits,
-      c.total.ensures))
-    (omega (arith, ints, c.requires.few, is.within, is.low, is.front, is.parts, is.rest, c.requires.best, c.requires.holds, c.requires.fits,
-      c.total.ensures))
+    let few = c.requires.few in
+    let within = is.within in
+    let low = is.low in
+    let front = is.front in
+    let parts = is.parts in
+    let rest = is.rest in
+    let best = c.requires.best in
+    let holds = c.requires.holds in
+    let fits = c.requires.fits in
+    let sum = c.total.ensures in
+    found-some c.args.self.now c.args.item.0 c.in_ok-cell.cell no_cell _ is refl refl (omega (arith, ints)) (omega (arith, ints))
 
 pub returns-clause-fit : goal.returns-clause-fit
 unfolding no_cell
