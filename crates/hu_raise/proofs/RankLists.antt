@@ -26,7 +26,7 @@ among-below rank (x ∷ xs) below =
     rw other (among-below rank xs below.1)
 
 -- the one at a place is
-pub among-at : (ranks : List ℕ) (i d : ℕ) → i < length ranks → among (get_or ranks i d) ranks ≡ true
+among-at : (ranks : List ℕ) (i d : ℕ) → i < length ranks → among (get_or ranks i d) ranks ≡ true
 among-at [] i d within = absurd (omega arith)
 among-at (x ∷ xs) zero d within = rw (eq-eqb x x refl) refl
 among-at (x ∷ xs) (suc i) d within = by (eqb (get_or xs i d) x) (among-at xs i d (omega arith))
@@ -73,7 +73,7 @@ module _ (first sums : List ℤ) (ranks : List ℕ) (i d : ℕ) (gained : ℤ) (
   here = get_or ranks i d
 
   -- the sum at the next is still the first one
-  pub add-before : sum_at sums here ≡ sum_at first here
+  add-before : sum_at sums here ≡ sum_at first here
   add-before =
       let none : gain_at (take i ranks) gained here ≡ pos 0 = ap {B = ℤ} (λ b. cond b gained (pos 0)) (among-take_before ranks i d up within) in
       let old = so_far here in
