@@ -11,29 +11,11 @@ use Rattle.hu_kind.specs.Record.{has, holds, items_in, values_of}
 use Rattle.hu_kind.specs.Itemsets.{sublists}
 use Rattle.hu_kind.specs.Sequence.{better, best_utility, led_by, subsequences, sequence_entry, sequence_patterns, sequence_support}
 use Rattle.hu_kind.specs.Order.{Ascend}
+use Rattle.hu_kind.proofs.lemmas.Better.{some_cases, some_left, some_map, some_right}
+use Rattle.hu_kind.proofs.lemmas.Each.{each-weaker}
 use Rattle.hu_kind.proofs.lemmas.Members.{Member, Member-append_cases, Member-flat_map, Member-from_flat_map, Member-map, Member-from_map, Member-filter}
 use Rattle.hu_kind.proofs.lemmas.Members.{Member-from_filter}
-use Rattle.hu_kind.proofs.lemmas.Occurring.{Member-sublists, at_member, counted, count-member, holds-members}
-
--- ---- where one of two utilities is some
-
-pub some_left : (a b : Option ℤ) → is_some a ≡ true → is_some (better a b) ≡ true
-some_left None b h = cc
-some_left (Some x) None h = refl
-some_left (Some x) (Some y) h = refl
-
-pub some_right : (a b : Option ℤ) → is_some b ≡ true → is_some (better a b) ≡ true
-some_right None b h = h
-some_right (Some x) None h = refl
-some_right (Some x) (Some y) h = refl
-
-pub some_cases : (a b : Option ℤ) → is_some (better a b) ≡ true → (is_some a ≡ true) ⊎ (is_some b ≡ true)
-some_cases None b h = inr h
-some_cases (Some x) b h = inl refl
-
-some_map : (f : ℤ → ℤ) (a : Option ℤ) → is_some (option_map f a) ≡ is_some a
-some_map f None = refl
-some_map f (Some x) = refl
+use Rattle.hu_kind.proofs.lemmas.Occurring.{Ascend-sublist, Member-sublists, at_member, counted, count-member, holds-members}
 
 -- ---- items that cells hold, and sublists of items
 
@@ -47,11 +29,6 @@ pub holds-all : (items : List ℕ) (cells : List (ℕ × ℤ)) → AllByRecursio
 holds-all [] cells all = refl
 holds-all (item ∷ items) cells all = and_from (has item cells) (holds items cells) (has-from_member item cells all.0) (holds-all items cells all.1)
 
--- what holds of each element, and what follows from it
-pub each-weaker : {A : Type 0} (P Q : A → Type 0) (xs : List A) → ((x : A) → P x → Q x) → AllByRecursion P xs → AllByRecursion Q xs
-each-weaker P Q [] w all = tt
-each-weaker P Q (x ∷ xs) w all = (w x all.0, each-weaker P Q xs w all.1)
-
 -- the sublists of a list have its members, ascend where it does, and are no longer
 pub members-sublist : (xs s : List ℕ) → Member s (sublists xs) → AllByRecursion (λ y. Member y xs) s
 members-sublist [] s (inl e) = subst (λ t. AllByRecursion (λ y. Member y []) t) e tt
@@ -64,17 +41,6 @@ members-sublist (x ∷ xs) s m = elim (Member-append_cases s (sublists xs) (map 
   where
     later : (t : List ℕ) → AllByRecursion (λ y. Member y xs) t → AllByRecursion (λ y. Member y (x ∷ xs)) t
     later t all = each-weaker (λ y. Member y xs) (λ y. Member y (x ∷ xs)) t (λ y n. inr n) all
-
-pub Ascend-sublist : (xs s : List ℕ) → Ascend xs → Member s (sublists xs) → Ascend s
-Ascend-sublist [] s up (inl e) = subst Ascend e tt
-Ascend-sublist [] s up (inr m) = absurd m
-Ascend-sublist (x ∷ xs) s up m = elim (Member-append_cases s (sublists xs) (map (λ r. x ∷ r) (sublists xs)) m) [
-  | inl a ↦ Ascend-sublist xs s up.1 a
-  | inr b ↦
-      let from = Member-from_map (λ (r : List ℕ). x ∷ r) s (sublists xs) b in
-      let above = each-weaker (λ y. Member y xs) (λ y. x < y) from.0 (λ y n. at_member (λ z. x < z) y xs up.0 n) (members-sublist xs from.0 from.1) in
-      subst Ascend from.2 (above, Ascend-sublist xs from.0 up.1 from.1)
-]
 
 pub length-sublist : (xs s : List ℕ) → Member s (sublists xs) → length s ≤ length xs
 length-sublist [] s (inl e) = subst (λ (t : List ℕ). length t ≤ 0) e (omega arith)

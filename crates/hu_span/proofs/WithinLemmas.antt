@@ -12,7 +12,8 @@ use Rattle.hu_chain.specs.Grown.{grown, CanGrow, IsGrownFrom, Leads}
 use Rattle.hu_chain.specs.Pattern.{after, into, Ends}
 use Rattle.hu_chain.proofs.lemmas.Bounds.{grown_from-none}
 use Rattle.hu_chain.proofs.lemmas.Patterns.{last_item-into, Ends-grown}
-use Rattle.hu_span.proofs.Subsequences.{held_and_later, some_cases, some_left, some_right, some-here}
+use Rattle.hu_kind.proofs.lemmas.Better.{some_cases, some_left, some_right}
+use Rattle.hu_span.proofs.Subsequences.{held_and_later, some-here}
 
 -- cells that hold some items hold others
 abbrev pub IsPart : List ℕ → List ℕ → Type 0
