@@ -136,14 +136,14 @@ fn enter<C: Collect>(
 {
     steps.push(branch.step)?;
     let below = narrowed(alloc, records, kept, &branch.marks, steps, reaches, collect)?;
-    let first = match below {
+    let items = match below {
         Below::Items(fewer) => fewer,
         Below::Nothing => {
             steps.pop();
             return Ok(());
         }
     };
-    let Opened { fewer, grown } = grown_below(alloc, records, kept, first, &branch.marks)?;
+    let Opened { fewer, grown } = grown_below(alloc, records, kept, items, &branch.marks)?;
     let kept = counting(&fewer, kept);
     deepen(alloc, records, kept, grown, steps, reaches, collect)?;
     steps.pop();
