@@ -20,6 +20,7 @@ use Rattle.hu_chain.proofs.lemmas.Reached.{grown_from-itself}
 use Rattle.hu_span.specs.declared.child.Child.{Child}
 use Rattle.hu_chain.specs.declared.chain.Growth.TheVariants.{IntoLast, AfterLast}
 use Rattle.hu_span.specs.declared.gather.Grown.{Grown}
+use Rattle.hu_span.specs.declared.search.Below.{Below}
 use Rattle.hu_span.specs.declared.child.Branch.{Branch}
 use Rattle.hu_span.specs.Branch.{IsBranch}
 use Rattle.hu_span.specs.Child.{child_entry, stepped, AreChildren, AreGathered, ArePlaces, IsChild, IsSpread}
@@ -446,8 +447,28 @@ narrowed-all {new = new} records kept steps marks children reaches floor (Some f
       (subst (λ f. f ≤ℤ sequence_utility records other) (sym same) high);
 }
 
+-- where no child's bound reaches the floor, all that counts was offered
+pub ended : {old new : State} (records : Records) (keep : ℕ → Bool) (pattern : List (List ℕ)) (children : List Child) → AreRecords records
+    → IsReached pattern → AreKept keep pattern → IsInOrder old → AreChildren records keep pattern children
+    → AllByRecursion (λ child. child.bound <ℤ floor_in new) children → Reached old (IsOneOf records pattern children) new
+    → Reached old (GrowsOn records keep pattern) new
+ended {old} {new} records keep pattern children are reached own ordered all low made =
+    let now = reached-in_order made in
+    let best : AreKeptBest records keep pattern (floor_in new) [] = record {
+      all = children;
+      are = all;
+      copies = record {
+        each = λ branch c. absurd (empty-contains branch c);
+        all = λ child c. inr (at_member (λ (x : Child). x.bound <ℤ floor_in new) child children low (Member-from_contains child children c));
+      };
+      fall = tt;
+    } in
+    let none = so_far-none records keep pattern are (inr reached) now best in
+    let over = so_far-all records keep pattern are (inr reached) now none (inl (omega arith)) in
+    opened-all records keep pattern are (inr reached) children own ordered all made over
+
 pub narrows-stopped : {E : Type 0} {old new : State} (records : Records) (kept : Bool × List Item) (pattern : List (List ℕ))
-    (result : Result (Option (Bool × List Item)) E) → IsErr result → ReachedSome old (GrowsOn records (keeps kept) pattern) new
+    (result : Result Below E) → IsErr result → ReachedSome old (GrowsOn records (keeps kept) pattern) new
     → Narrows old new records kept pattern result
 narrows-stopped records kept pattern (Ok x) none some = absurd (false≢true none)
 narrows-stopped records kept pattern (Err e) none some = some

@@ -10,6 +10,8 @@ use Rattle.hu_kind.specs.declared.item.Item.{Item}
 use Rattle.hu_span.specs.declared.child.Branch.{Branch}
 use Rattle.hu_span.specs.Branch.{AreCopies, Fall}
 use Rattle.hu_span.specs.declared.mark.Mark.{Mark}
+use Rattle.hu_span.specs.declared.search.Below.{Below}
+use Rattle.hu_span.specs.declared.search.Below.TheVariants.{Items, Nothing}
 use Rattle.hu_chain.specs.Pattern.{last_item}
 use Rattle.hu_span.specs.Child.{child_entry, stepped, AreChildren, ArePlaces}
 use Rattle.hu_span.specs.Kept.{keeps, weighed_of, AreKept}
@@ -70,12 +72,17 @@ pub record CanGather (records : Records) (kept : Bool × List Item)
   pub still : AreKept (keeps (counting fewer kept)) pattern
   pub less : (item : ℕ) → keeps (counting fewer kept) item ≡ true → keeps kept item ≡ true
 
--- after Ok it is narrowed, after Err some children were offered
+-- all that grows from a pattern was offered that counts, or all its children were, and items are kept
+abbrev pub GoesOn : State → State → Records → Bool × List Item → List (List ℕ) → Below → Type 0
+GoesOn old new records kept pattern Nothing = Reached old (GrowsOn records (keeps kept) pattern) new
+GoesOn old new records kept pattern (Items fewer) =
+    IsNarrowed old new records (keeps kept) pattern (counting fewer kept)
+
+-- after Ok the search goes on so, after Err some children were offered
 abbrev pub Narrows : {E : Type 0} → State → State → Records → Bool × List Item → List (List ℕ)
-    → Result (Option (Bool × List Item)) E → Type 0
+    → Result Below E → Type 0
 Narrows old new records kept pattern result =
-    MatchResult result
-    (λ fewer. IsNarrowed old new records (keeps kept) pattern (counting fewer kept))
+    MatchResult result (GoesOn old new records kept pattern)
     (λ _. ReachedSome old (GrowsOn records (keeps kept) pattern) new)
 
 -- after Ok all children of a pattern were offered, after Err some were

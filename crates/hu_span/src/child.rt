@@ -128,9 +128,11 @@ fn tell(
 {
     let number = links.push(mark.item.0)?;
     if number < tells.len() {
-        tells[number] = tells[number].with(mark, reaches);
+        tells[number].add(mark, reaches);
     } else {
-        tells.push(Told::none().with(mark, reaches))?;
+        let mut told = Told::none();
+        told.add(mark, reaches);
+        tells.push(told)?;
     }
     Ok(())
 }

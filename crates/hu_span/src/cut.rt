@@ -1,6 +1,6 @@
 //! Which items are still taken below a pattern: those whose records reach the floor.
 
-ghost use Rattle.std.specs.Prelude.{◌≡◌, ◌⊎◌, ◌<◌, true, false, length, IfOk, IfSome, OnOk};
+ghost use Rattle.std.specs.Prelude.{◌≡◌, ◌⊎◌, ◌<◌, ◌<ℤ◌, true, false, length, IfOk, IfSome, OnOk};
 ghost use Rattle.std.specs.List.{AllByRecursion, Contains};
 ghost use Rattle.hu_kind.specs.declared.item.Item.{Item};
 ghost use Rattle.hu_chain.specs.Bound.{IsFit};
@@ -49,6 +49,18 @@ pub(crate) fn open_items(
     }
     let kept = Kept::of(alloc, items)?;
     Ok(Some(kept))
+}
+
+/// Whether the bound of one of the children reaches a floor.
+pub(crate) fn any_reaches(children: &[Child], floor: i128) -> bool
+    ensures { result ≡ false → AllByRecursion (λ child. child.bound <ℤ floor) children.now }
+{
+    'children: for child in children {
+        if child.bound >= floor {
+            return true;
+        }
+    }
+    false
 }
 
 /// Whether the rows of a child reach a floor together. They do where no number tells their sum.

@@ -336,6 +336,7 @@ struct Tail<'a> {
 }
 
 /// Appends a mark for each cell of a tail whose item is kept. Answers the sum that is left after them.
+#[inline(always)]
 fn push_tail(marks: &mut Vec<Mark>, kept: &Kept, tail: Tail<'_>) -> Result<i128, NoMemory>
     requires { IsTail (keeps kept.now) tail }
     ensures marks { IfOk result (λ _. marks.new.items

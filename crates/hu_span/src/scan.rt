@@ -1,6 +1,6 @@
 //! The children of a pattern, told row by row while its marks are gathered.
 
-ghost use Rattle.std.specs.Prelude.{◌≡◌, ℕ, List, IfOk};
+ghost use Rattle.std.specs.Prelude.{IfOk};
 ghost use Rattle.std.specs.List.{AllByRecursion};
 ghost use Rattle.hu_chain.specs.Pattern.{last_item};
 ghost use Rattle.hu_span.specs.Child.{AreAllTold, AreChildren, ArePlaces, IsSpread};

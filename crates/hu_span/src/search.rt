@@ -14,7 +14,7 @@ ghost use Rattle.hu_span.specs.Search.{counting, AreKeptBest, CanGather, IsOneOf
 ghost use Rattle.hu_span.specs.Step.{pattern_of};
 
 use crate::child::{Branch, Child, best_of, children_of};
-use crate::cut::{open_items, set_reaches};
+use crate::cut::{any_reaches, open_items, set_reaches};
 use crate::gather::{Grown, first_grown, gathered};
 use crate::kept::Kept;
 use crate::mark::Mark;
@@ -29,14 +29,15 @@ use std::alloc::Global;
 /// Offers the sequences that can change what the collector holds, with their utility and their support, so that it holds
 /// what all sequences that occur would make. The places of all patterns with one item more than a pattern are gathered in
 /// one pass over its places, record by record: what those of a record tell of each item is summed at once, and they are let
-/// go. All these patterns are offered before any is entered. Then those items are dropped that reach the floor in no pattern
-/// below: the sum over the records in which an item makes a child, each with the greatest utility and all that is left after
-/// it. Where some are dropped, what is left of a record is summed anew without them, in one walk from its end. Then the places
-/// are gathered once more and held, summed again and linked item by item, so that they are taken apart for the patterns that
-/// are entered alone. The patterns are entered best bound first, up to the first whose bound is below the floor of the
-/// moment. The bound is the sum over the records of the greatest utility with all that is left after it. The memory of a
-/// level is the places of those patterns whose bound reaches the floor, and the items that still count, where they are fewer
-/// than above. After want of memory some of the sequences have been offered. After USpan (Yin, Zheng and Cao, 2012) and HUS-Span (Wang, Huang and Chen, 2016).
+/// go. All these patterns are offered before any is entered, and where no bound of theirs reaches the floor none is. The bound
+/// is the sum over the records of the greatest utility with all that is left after it. Then those items are dropped that reach
+/// the floor in no pattern below: the sum over the records in which an item makes a child, each with the greatest utility and
+/// all that is left after it. Where some are dropped, what is left of a record is summed anew without them, in one walk from
+/// its end. Then the places are gathered once more and held, summed again and linked item by item, so that they are taken
+/// apart for the patterns that are entered alone. The patterns are entered best bound first, up to the first whose bound is
+/// below the floor of the moment. The memory of a level is the places of those patterns whose bound reaches the floor, and the
+/// items that still count, where they are fewer than above. After want of memory some of the sequences have been offered.
+/// After USpan (Yin, Zheng and Cao, 2012) and HUS-Span (Wang, Huang and Chen, 2016).
 pub fn mine<C: Collect>(
     alloc: Global,
     base: &Base<SeqRecord>,
@@ -134,12 +135,28 @@ fn enter<C: Collect>(
         (C.state collect.new) result }
 {
     steps.push(branch.step)?;
-    let first = narrowed(alloc, records, kept, &branch.marks, steps, reaches, collect)?;
-    let Opened { fewer, grown } = grown_below(alloc, records, kept, first, &branch.marks)?;
+    let below = narrowed(alloc, records, kept, &branch.marks, steps, reaches, collect)?;
+    let items = match below {
+        Below::Items(fewer) => fewer,
+        Below::Nothing => {
+            steps.pop();
+            return Ok(());
+        }
+    };
+    let Opened { fewer, grown } = grown_below(alloc, records, kept, items, &branch.marks)?;
     let kept = counting(&fewer, kept);
     deepen(alloc, records, kept, grown, steps, reaches, collect)?;
     steps.pop();
     Ok(())
+}
+
+/// What a search can still find below a pattern.
+#[derive(Drop)]
+enum Below {
+    /// Patterns of the items that count there, where they are fewer than at the pattern.
+    Items(Option<Kept>),
+    /// Nothing that reaches the floor.
+    Nothing,
 }
 
 /// What a pattern grows by, with the items that count in it.
@@ -160,8 +177,8 @@ fn counting<'a>(fewer: &'a Option<Kept>, kept: &'a Kept) -> &'a Kept
     }
 }
 
-/// Offers the children of a pattern, and answers by the items by which patterns may reach the floor that grow from it,
-/// where they are fewer than at it.
+/// Offers the children of a pattern, and answers by what may reach the floor that grows from them: nothing, or patterns of
+/// some items.
 fn narrowed<C: Collect>(
     alloc: Global,
     records: &[SeqRecord],
@@ -170,7 +187,7 @@ fn narrowed<C: Collect>(
     steps: &mut Vec<Step>,
     reaches: &mut [i128],
     collect: &mut C,
-) -> Result<Option<Kept>, NoMemory>
+) -> Result<Below, NoMemory>
     requires ordered { IsInOrder (C.state collect.old) }
     requires records { AreRecords records.now }
     requires rows { length reaches.old ≡ length records.now }
@@ -185,8 +202,12 @@ fn narrowed<C: Collect>(
     set_reaches(marks, reaches);
     let children = scanned(alloc, records, kept, marks, reaches)?;
     offer_children(alloc, steps, &children, collect)?;
-    let fewer = open_items(alloc, steps, &children, collect.floor())?;
-    Ok(fewer)
+    let floor = collect.floor();
+    if !any_reaches(&children, floor) {
+        return Ok(Below::Nothing);
+    }
+    let fewer = open_items(alloc, steps, &children, floor)?;
+    Ok(Below::Items(fewer))
 }
 
 /// What a pattern grows by, gathered from its marks, where fewer items may count.

@@ -37,34 +37,29 @@ impl Tally {
         }
     }
 
-    /// What it tells with a mark more.
-    fn with(self, mark: &Mark) -> Tally
-        requires tally { IsTally self }
+    /// Tells a mark more.
+    fn add(&mut self, mark: &Mark)
+        requires tally { IsTally self.old }
         requires fit { IsFit mark.now.place }
-        requires fits { reaches_of self <ℤ pos (2 ^ 127) }
-        requires rows { self.rows + 1 < 2 ^ 64 }
-        ensures { result ≡ told_with self mark.now }
+        requires fits { reaches_of self.old <ℤ pos (2 ^ 127) }
+        requires rows { self.old.rows + 1 < 2 ^ 64 }
+        ensures { self.new ≡ told_with self.old mark.now }
     {
         let best = mark.place.best;
         let reach = best + mark.place.rest;
         if self.rows > 0 && self.row == mark.row {
-            return Tally {
-                row: self.row,
-                rows: self.rows,
-                best: self.best.max(best),
-                bests: self.bests,
-                reach: self.reach.max(reach),
-                reaches: self.reaches,
-            };
+            self.best = self.best.max(best);
+            self.reach = self.reach.max(reach);
+            return;
         }
-        Tally {
+        *self = Tally {
             row: mark.row,
             rows: self.rows + 1,
             best,
             bests: self.bests + self.best,
             reach,
             reaches: self.reaches + self.reach,
-        }
+        };
     }
 }
 
@@ -87,26 +82,24 @@ impl Told {
         }
     }
 
-    /// What it tells with a mark more, by what is known of the rows.
-    pub(crate) fn with(self, mark: &Mark, reaches: &[i128]) -> Told
-        requires tally { IsTally self.tally }
+    /// Tells a mark more, by what is known of the rows.
+    pub(crate) fn add(&mut self, mark: &Mark, reaches: &[i128])
+        requires tally { IsTally self.old.tally }
         requires fit { IsFit mark.now.place }
-        requires fits { reaches_of self.tally <ℤ pos (2 ^ 127) }
-        requires rows { self.tally.rows + 1 < 2 ^ 64 }
-        ensures { (marks : List Mark) → IsTold reaches.now marks self
-            → IsTold reaches.now (marks ++ mark.now ∷ []) result }
+        requires fits { reaches_of self.old.tally <ℤ pos (2 ^ 127) }
+        requires rows { self.old.tally.rows + 1 < 2 ^ 64 }
+        ensures { (marks : List Mark) → IsTold reaches.now marks self.old
+            → IsTold reaches.now (marks ++ mark.now ∷ []) self.new }
     {
-        Told {
-            tally: self.tally.with(mark),
-            spread: spread_with(self, mark.row, reaches),
-        }
+        self.spread = spread_with(self, mark.row, reaches);
+        self.tally.add(mark);
     }
 }
 
 /// The sum over rows with a row more.
-fn spread_with(told: Told, row: usize, reaches: &[i128]) -> Option<i128>
-    ensures { IfSome result (λ sum. (before : ℤ) × (told.spread ≡ Some before)
-        × (sum ≡ before +ℤ spread_more reaches.now told.tally row)) }
+fn spread_with(told: &Told, row: usize, reaches: &[i128]) -> Option<i128>
+    ensures { IfSome result (λ sum. (before : ℤ) × (told.now.spread ≡ Some before)
+        × (sum ≡ before +ℤ spread_more reaches.now told.now.tally row)) }
 {
     let sum = told.spread?;
     if told.tally.rows > 0 && told.tally.row == row {

@@ -11,7 +11,7 @@ use Rattle.hu_span.specs.Branch.{IsBranch}
 use Rattle.hu_span.specs.Child.{stepped, AreGathered, ArePlaces}
 use Rattle.hu_span.specs.Kept.{keeps, weighed_of, AreKept}
 use Rattle.hu_span.specs.Growing.{GrowsOn, GrowsOver, IsBegun}
-use Rattle.hu_span.specs.Search.{counting, AreKeptBest}
+use Rattle.hu_span.specs.Search.{counting, AreKeptBest, GoesOn}
 use Rattle.hu_span.specs.Step.{pattern_of}
 use Rattle.hu_span.proofs.SearchLemmas.{so_far-none, so_far-ordered, so_far-all, so_far-next, so_far-some}
 use Rattle.hu_span.proofs.SearchLemmas.{turn-branch}
@@ -146,8 +146,8 @@ enter-narrowed-requires-clause-places g t c =
     let q = pattern_of pushed in
     subst (ArePlaces (weighed_of keep records) q (last_item q)) (sym c.deref.ensures.value) n.places
 
-pub enter-returns-in_err-first-clause-made : goal.enter-returns-in_err-first-clause-made
-enter-returns-in_err-first-clause-made g t c =
+pub enter-returns-in_err-below-clause-made : goal.enter-returns-in_err-below-clause-made
+enter-returns-in_err-below-clause-made g t c =
     let records = c.args.records.now in
     let kept = c.args.kept.now in
     let keep = keeps kept in
@@ -156,8 +156,20 @@ enter-returns-in_err-first-clause-made g t c =
     let old = g.C.Collect.state c.args.collect.now in
     let n = node c.requires.records c.requires.begun c.requires.pattern c.requires.branch c.in_ok-push.ensures.items in
     let rs = weighed_of keep records in
-    stopped {P = GrowsOn rs keep (stepped (pattern_of steps) branch.step)} c.from_residual-in_err-first.result c.from_residual-in_err-first.ensures.0
-    (subst (λ q. ReachedSome old (GrowsOn rs keep q) (g.C.Collect.state c.narrowed.new.collect)) n.same c.in_err-first.ensures.made)
+    stopped {P = GrowsOn rs keep (stepped (pattern_of steps) branch.step)} c.from_residual-in_err-below.result c.from_residual-in_err-below.ensures.0
+    (subst (λ q. ReachedSome old (GrowsOn rs keep q) (g.C.Collect.state c.narrowed.new.collect)) n.same c.in_err-below.ensures.made)
+
+pub enter-returns-in-Nothing-clause-made : goal.enter-returns-in-Nothing-clause-made
+enter-returns-in-Nothing-clause-made g t c =
+    let records = c.args.records.now in
+    let kept = c.args.kept.now in
+    let keep = keeps kept in
+    let pushed = c.push.new.self.items in
+    let n = node c.requires.records c.requires.begun c.requires.pattern c.requires.branch c.in_ok-push.ensures.items in
+    let rs = weighed_of keep records in
+    let old = g.C.Collect.state c.args.collect.now in
+    let new = g.C.Collect.state c.narrowed.new.collect in
+    subst (λ q. Reached old (GrowsOn rs keep q) new) n.same (subst (GoesOn old new rs kept (pattern_of pushed)) c.in-Nothing.is c.in_ok-below.ensures.made)
 
 pub enter-grown_below-requires-clause-places : goal.enter-grown_below-requires-clause-places
 enter-grown_below-requires-clause-places g t c =
@@ -167,7 +179,9 @@ enter-grown_below-requires-clause-places g t c =
     let steps = c.args.steps.now.items in
     let pushed = c.push.new.self.items in
     let n = node c.requires.records c.requires.begun c.requires.pattern c.requires.branch c.in_ok-push.ensures.items in
-    (pattern_of pushed, can-gather records kept steps pushed branch c.in_ok-first.first _ n c.in_ok-first.ensures.made c.deref-2.ensures.value)
+    let is = subst (GoesOn (g.C.Collect.state c.args.collect.now) (g.C.Collect.state c.narrowed.new.collect) (weighed_of (keeps kept) records) kept
+    (pattern_of pushed)) c.in-Items.is c.in_ok-below.ensures.made in
+    (pattern_of pushed, can-gather records kept steps pushed branch c.in-Items.fewer _ n is c.deref-2.ensures.value)
 
 pub enter-returns-in_err-fewer-clause-made : goal.enter-returns-in_err-fewer-clause-made
 enter-returns-in_err-fewer-clause-made g t c =
@@ -178,9 +192,10 @@ enter-returns-in_err-fewer-clause-made g t c =
     let steps = c.args.steps.now.items in
     let pushed = c.push.new.self.items in
     let n = node c.requires.records c.requires.begun c.requires.pattern c.requires.branch c.in_ok-push.ensures.items in
-    let first = c.in_ok-first.first in
+    let first = c.in-Items.fewer in
     let fewer = counting first kept in
-    let is = c.in_ok-first.ensures.made in
+    let is = subst (GoesOn (g.C.Collect.state c.args.collect.now) (g.C.Collect.state c.narrowed.new.collect) (weighed_of (keeps kept) records) kept
+    (pattern_of pushed)) c.in-Items.is c.in_ok-below.ensures.made in
     stopped {P = GrowsOn (weighed_of keep records) keep (stepped (pattern_of steps) branch.step)} c.from_residual-in_err-fewer.result
     c.from_residual-in_err-fewer.ensures.0 (node-stopped records kept fewer steps pushed branch n is)
 
@@ -192,12 +207,13 @@ enter-deepen-requires g t c κs within =
     let steps = c.args.steps.now.items in
     let pushed = c.push.new.self.items in
     let n = node c.requires.records c.requires.begun c.requires.pattern c.requires.branch c.in_ok-push.ensures.items in
-    let first = c.in_ok-first.first in
+    let first = c.in-Items.fewer in
     let fewer = counting first kept in
-    let is = c.in_ok-first.ensures.made in
+    let is = subst (GoesOn (g.C.Collect.state c.args.collect.now) (g.C.Collect.state c.narrowed.new.collect) (weighed_of (keeps kept) records) kept
+    (pattern_of pushed)) c.in-Items.is c.in_ok-below.ensures.made in
     let mid = g.C.Collect.state c.narrowed.new.collect in
     let same : c.counting-kept.result.now ≡ fewer = c.counting-kept.ensures ∙ ap (λ f. counting f kept) c.in_ok-fewer.ensures.fewer in
-    let stay = c.in_ok-first.ensures.steps in
+    let stay = c.in_ok-below.ensures.steps in
     let used = c.counting-kept.result.now in
     let now = pattern_of c.narrowed.new.steps.items in
     let ordered : IsInOrder mid = reached-in_order is.offers in
@@ -222,12 +238,13 @@ enter-returns-in_err-deepen-clause-made g t c =
     let steps = c.args.steps.now.items in
     let pushed = c.push.new.self.items in
     let n = node c.requires.records c.requires.begun c.requires.pattern c.requires.branch c.in_ok-push.ensures.items in
-    let first = c.in_ok-first.first in
+    let first = c.in-Items.fewer in
     let fewer = counting first kept in
-    let is = c.in_ok-first.ensures.made in
+    let is = subst (GoesOn (g.C.Collect.state c.args.collect.now) (g.C.Collect.state c.narrowed.new.collect) (weighed_of (keeps kept) records) kept
+    (pattern_of pushed)) c.in-Items.is c.in_ok-below.ensures.made in
     let mid = g.C.Collect.state c.narrowed.new.collect in
     let same : c.counting-kept.result.now ≡ fewer = c.counting-kept.ensures ∙ ap (λ f. counting f kept) c.in_ok-fewer.ensures.fewer in
-    let stay = c.in_ok-first.ensures.steps in
+    let stay = c.in_ok-below.ensures.steps in
     let new = g.C.Collect.state c.deepen.new.collect in
     let some = subst (λ ss. ReachedSome mid (GrowsOver (weighed_of (keeps fewer) records) (keeps fewer) (pattern_of ss)) new) stay
     (subst (λ f. ReachedSome mid (GrowsOver (weighed_of (keeps f) records) (keeps f) (pattern_of c.narrowed.new.steps.items)) new) same
@@ -243,12 +260,13 @@ enter-returns-clause-made g t c =
     let steps = c.args.steps.now.items in
     let pushed = c.push.new.self.items in
     let n = node c.requires.records c.requires.begun c.requires.pattern c.requires.branch c.in_ok-push.ensures.items in
-    let first = c.in_ok-first.first in
+    let first = c.in-Items.fewer in
     let fewer = counting first kept in
-    let is = c.in_ok-first.ensures.made in
+    let is = subst (GoesOn (g.C.Collect.state c.args.collect.now) (g.C.Collect.state c.narrowed.new.collect) (weighed_of (keeps kept) records) kept
+    (pattern_of pushed)) c.in-Items.is c.in_ok-below.ensures.made in
     let mid = g.C.Collect.state c.narrowed.new.collect in
     let same : c.counting-kept.result.now ≡ fewer = c.counting-kept.ensures ∙ ap (λ f. counting f kept) c.in_ok-fewer.ensures.fewer in
-    let stay = c.in_ok-first.ensures.steps in
+    let stay = c.in_ok-below.ensures.steps in
     let new = g.C.Collect.state c.deepen.new.collect in
     let made = subst (λ ss. Reached mid (GrowsOver (weighed_of (keeps fewer) records) (keeps fewer) (pattern_of ss)) new) stay
     (subst (λ f. Reached mid (GrowsOver (weighed_of (keeps f) records) (keeps f) (pattern_of c.narrowed.new.steps.items)) new) same

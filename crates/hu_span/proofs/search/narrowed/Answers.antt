@@ -1,14 +1,16 @@
-use Rattle.std.proofs.Common.{◌≡◌, ◌∙◌, sym, subst, length, IfSome, to_z, of_z, SFits, rules}
+use Rattle.std.proofs.Common.{◌≡◌, ◌∙◌, ◌<ℤ◌, false, sym, subst, length, IfSome, to_z, of_z, SFits, rules}
 use Rattle.std.specs.Int.{w128}
+use Rattle.std.specs.List.{AllByRecursion}
 use Rattle.std.proofs.lemmas.Int.{to_z-of_z}
 use Rattle.hu_collect.specs.State.{floor_in, Reached}
 use Rattle.hu_collect.proofs.lemmas.Searching.{some-reached}
+use Rattle.hu_span.specs.declared.child.Child.{Child}
 use Rattle.hu_span.specs.Child.{AreChildren}
 use Rattle.hu_span.specs.Cut.{AreOpen}
 use Rattle.hu_span.specs.Kept.{keeps, weighed_of}
 use Rattle.hu_span.specs.Search.{IsOneOf}
 use Rattle.hu_span.specs.Step.{pattern_of}
-use Rattle.hu_span.proofs.SearchLemmas.{marks-fit, marks-within, narrowed-all, offered-some, narrows-stopped}
+use Rattle.hu_span.proofs.SearchLemmas.{marks-fit, ended, marks-within, narrowed-all, offered-some, narrows-stopped}
 use Rattle.hu_span.proofs.WeighedLemmas.{weighed-records}
 use Rattle.hu_span.proofs.search.narrowed.Goals as goal
 
@@ -39,6 +41,26 @@ returns-in_err-offer_children-clause-made g c =
     narrows-stopped rs c.args.kept.now p c.from_residual-in_err-offer_children.result c.from_residual-in_err-offer_children.ensures.0
     (offered-some rs keep p c.requires.pattern c.deref.result.now are.each (c.in_err-offer_children.ensures.made rs keep are.each))
 
+pub returns-then-not-any_reaches-clause-made : goal.returns-then-not-any_reaches-clause-made
+returns-then-not-any_reaches-clause-made g c =
+    let keep = keeps c.args.kept.now in
+    let rs = weighed_of keep c.args.records.now in
+    let p = pattern_of c.args.steps.now.items in
+    let known = weighed-records keep c.args.records.now c.requires.records in
+    let children = c.in_ok-children.children.items in
+    let all = c.in_ok-children.ensures.children p c.requires.reached c.requires.places in
+    let seen = subst (AreChildren rs keep p) (sym c.deref.ensures.value) all in
+    let made = subst (λ cs. Reached (g.C.Collect.state c.args.collect.now) (IsOneOf rs p cs) (g.C.Collect.state c.offer_children.new.collect))
+    c.deref.ensures.value (c.in_ok-offer_children.ensures.made rs keep seen.each) in
+    let fits : SFits w128 c.floor-floor.result = search rules in
+    let floor_is : to_z w128 (of_z w128 c.floor-floor.result) ≡ floor_in (g.C.Collect.state c.offer_children.new.collect) = to_z-of_z w128
+    c.floor-floor.result fits ∙ c.floor-floor.ensures.value in
+    let none : c.any_reaches.result ≡ false = c.if-not-any_reaches.true in
+    let low = subst (λ f. AllByRecursion (λ (child : Child). child.bound <ℤ f) children) floor_is
+    (subst (AllByRecursion (λ (child : Child). child.bound <ℤ to_z w128 (of_z w128 c.floor-floor.result))) c.deref-2.ensures.value
+    (c.any_reaches.ensures none)) in
+    ended rs keep p children known c.requires.reached c.requires.pattern c.requires.ordered all low made
+
 pub returns-in_err-fewer-clause-made : goal.returns-in_err-fewer-clause-made
 returns-in_err-fewer-clause-made g c =
     let keep = keeps c.args.kept.now in
@@ -59,14 +81,14 @@ returns-clause-made g c =
     let children = c.in_ok-children.children.items in
     let all = c.in_ok-children.ensures.children p c.requires.reached c.requires.places in
     let spreads = c.in_ok-children.ensures.spreads p c.requires.reached c.requires.places in
-    let fits : SFits w128 c.floor.result = search rules in
-    let floor_is : to_z w128 (of_z w128 c.floor.result) ≡ floor_in (g.C.Collect.state c.offer_children.new.collect) = to_z-of_z w128 c.floor.result fits
-    ∙ c.floor.ensures.value in
-    let floor = to_z w128 (of_z w128 c.floor.result) in
-    let steps = c.deref-2.ensures.value ∙ c.in_ok-offer_children.ensures.steps in
+    let fits : SFits w128 c.floor-floor.result = search rules in
+    let floor_is : to_z w128 (of_z w128 c.floor-floor.result) ≡ floor_in (g.C.Collect.state c.offer_children.new.collect) = to_z-of_z w128 c.floor-floor.result fits
+    ∙ c.floor-floor.ensures.value in
+    let floor = to_z w128 (of_z w128 c.floor-floor.result) in
+    let steps = c.deref-3.ensures.value ∙ c.in_ok-offer_children.ensures.steps in
     let opened : IfSome c.in_ok-fewer.fewer (AreOpen c.args.steps.now.items children floor) =
-    subst (λ cs. IfSome c.in_ok-fewer.fewer (AreOpen c.args.steps.now.items cs floor)) c.deref-3.ensures.value
-    (subst (λ ss. IfSome c.in_ok-fewer.fewer (AreOpen ss c.deref-3.result.now floor)) steps c.in_ok-fewer.ensures) in
+    subst (λ cs. IfSome c.in_ok-fewer.fewer (AreOpen c.args.steps.now.items cs floor)) c.deref-4.ensures.value
+    (subst (λ ss. IfSome c.in_ok-fewer.fewer (AreOpen ss c.deref-4.result.now floor)) steps c.in_ok-fewer.ensures) in
     let seen = subst (AreChildren rs keep p) (sym c.deref.ensures.value) all in
     let made = subst (λ cs. Reached (g.C.Collect.state c.args.collect.now) (IsOneOf rs p cs) (g.C.Collect.state c.offer_children.new.collect))
     c.deref.ensures.value (c.in_ok-offer_children.ensures.made rs keep seen.each) in

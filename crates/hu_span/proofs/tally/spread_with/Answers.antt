@@ -8,7 +8,7 @@ use Rattle.hu_span.proofs.tally.spread_with.Goals.{else-told-gt0-via-then-told-g
 
 pub returns : goal.returns
 returns c =
-    let t = c.args.told.tally in
+    let t = c.args.told.now.tally in
     let s = c.in_ok-sum.sum in
     let r = c.in_ok-get.field-0.now in
     let fs : SFits w128 s = search rules in
@@ -19,5 +19,5 @@ returns c =
       | else-told-gt0-via-else-told-gt0 w ↦ λ some same. absurd (omega (arith, some, w.if-told-gt0.false))
     ] in
     let first = spread-first c.args.reaches.now t c.args.row differs in
-    sum-some c.checked_add.result c.args.told.spread _ _ s _ c.checked_add.ensures c.in_ok-sum.was
+    sum-some c.checked_add.result c.args.told.now.spread _ _ s _ c.checked_add.ensures c.in_ok-sum.was
     ((λ j. to_z-of_z w128 s fs j +ℤ to_z-of_z w128 r fr j) ∙ ap (λ n. s +ℤ n) (here ∙ sym first))

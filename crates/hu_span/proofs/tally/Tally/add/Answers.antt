@@ -4,12 +4,12 @@ use Rattle.std.proofs.lemmas.Int.{ints, clamps, to_z-of_z}
 use Rattle.hu_chain.specs.Bound.{reach}
 use Rattle.hu_span.proofs.NumberLemmas.{kept-z}
 use Rattle.hu_span.proofs.TallyLemmas.{told-next, told-same, IsKept-fits}
-use Rattle.hu_span.proofs.tally.Tally.with.Goals as goal
-use Rattle.hu_span.proofs.tally.Tally.with.Goals.{else-self-gt0-via-then-self-gt0+else-self-mark, else-self-gt0-via-else-self-gt0}
+use Rattle.hu_span.proofs.tally.Tally.add.Goals as goal
+use Rattle.hu_span.proofs.tally.Tally.add.Goals.{else-self-gt0-via-then-self-gt0+else-self-mark, else-self-gt0-via-else-self-gt0}
 
 pub returns-then-self-mark : goal.returns-then-self-mark
 returns-then-self-mark c =
-    let t = c.args.self in
+    let t = c.args.self.now in
     let place = c.args.mark.now.place in
     let kept = IsKept-fits t c.requires.tally c.requires.fits in
     let low = c.requires.fit.best in
@@ -21,20 +21,18 @@ returns-then-self-mark c =
     let rest = kept-z place.rest (omega (arith, ints)) (omega (arith, ints)) in
     let sum = to_z w128 (of_z w128 place.best) +ℤ to_z w128 (of_z w128 place.rest) in
     let reach' = kept-z sum (omega (arith, ints, best, rest)) (omega (arith, ints, best, rest)) in
-    let b : c.max.result ≡ int_max t.best place.best = omega (arith, ints, clamps, c.max.ensures.value, zb, best) in
-    let r : c.max-then-self-mark.result ≡ int_max t.reach (reach place) = omega
-    (arith, ints, clamps, c.max-then-self-mark.ensures.value, zr, best, rest, reach') in
-    let b' : to_z w128 (of_z w128 c.max.result) ≡ int_max t.best place.best = to_z-of_z w128 c.max.result (omega (arith, ints, c.max.type_inv)) ∙ b in
-    let r' : to_z w128 (of_z w128 c.max-then-self-mark.result) ≡ int_max t.reach (reach place) = to_z-of_z w128 c.max-then-self-mark.result
-    (omega (arith, ints, c.max-then-self-mark.type_inv)) ∙ r in
-    let bests = kept.bests in
-    let reaches = kept.reaches in
-    (λ j. record { row = t.row; rows = t.rows; best = b' j; bests = bests j; reach = r' j; reaches = reaches j })
+    let b : c.max-self.result ≡ int_max t.best place.best = omega (arith, ints, clamps, c.max-self.ensures.value, zb, best) in
+    let r : c.max-self-then-self-mark.result ≡ int_max t.reach (reach place) = omega
+    (arith, ints, clamps, c.max-self-then-self-mark.ensures.value, zr, best, rest, reach') in
+    let b' : to_z w128 (of_z w128 c.max-self.result) ≡ int_max t.best place.best = to_z-of_z w128 c.max-self.result (omega (arith, ints, c.max-self.type_inv)) ∙ b in
+    let r' : to_z w128 (of_z w128 c.max-self-then-self-mark.result) ≡ int_max t.reach (reach place) = to_z-of_z w128 c.max-self-then-self-mark.result
+    (omega (arith, ints, c.max-self-then-self-mark.type_inv)) ∙ r in
+    (λ j. record { row = t.row; rows = t.rows; best = b' j; bests = t.bests; reach = r' j; reaches = t.reaches })
     ∙ told-same t c.args.mark.now c.if-self-gt0.true c.if-self-mark.true
 
 pub returns : goal.returns
 returns c =
-    let t = c.args.self in
+    let t = c.args.self.now in
     let mark = c.args.mark.now in
     let place = mark.place in
     let is = c.requires.tally in
