@@ -1,7 +1,7 @@
 -- The subsequences of a record are the sequences of ascending itemsets that occur in it.
-use Rattle.std.proofs.Common.{◌≡◌, ℕ, ◌<◌, ◌≤◌, ◌+◌, Bool, true, false, cond, eqb, nat_lt, ℤ, ◌+ℤ◌, Option, None, Some, is_some, option_map, List, []}
+use Rattle.std.proofs.Common.{◌≡◌, ℕ, ◌<◌, ◌≤◌, ◌+◌, Bool, true, false, cond, eqb, nat_lt, ℤ, ◌+ℤ◌, Option, None, is_some, option_map, List, []}
 use Rattle.std.proofs.Common.{◌∷◌, map}
-use Rattle.std.proofs.Common.{length, filter, refl, sym, ◌∙◌, subst, ◌⊎◌, inl, inr, arith, sum_by}
+use Rattle.std.proofs.Common.{length, filter, refl, sym, ◌∙◌, subst, inl, inr, arith, sum_by}
 use Rattle.std.specs.List.{AllByRecursion}
 use Rattle.std.proofs.lemmas.Bool.{and_from, or_left, or_right, eq-eqb, lt-ltb, ltb-true}
 use Rattle.std.proofs.lemmas.List.Sums.{sum_by-cons}
@@ -9,7 +9,7 @@ use Rattle.std.proofs.lemmas.List.{length-map}
 use Rattle.hu_kind.specs.declared.entry.Entry.{Entry}
 use Rattle.hu_kind.specs.Record.{has, holds, items_in, values_of}
 use Rattle.hu_kind.specs.Itemsets.{sublists}
-use Rattle.hu_kind.specs.Sequence.{better, best_utility, led_by, subsequences, sequence_entry, sequence_patterns, sequence_support}
+use Rattle.hu_kind.specs.Sequence.{best_utility, led_by, subsequences, sequence_entry, sequence_patterns, sequence_support}
 use Rattle.hu_kind.specs.Order.{Ascend}
 use Rattle.hu_kind.proofs.lemmas.Better.{some_cases, some_left, some_map, some_right}
 use Rattle.hu_kind.proofs.lemmas.Each.{each-weaker}

@@ -1,5 +1,6 @@
-use Rattle.std.proofs.Common.{◌≡◌, ◌<◌, filter, length, ◌∙◌, ◌++◌, suc, pos, take, drop, get_or, [], sym, ap, subst, arith, add-one, append_assoc, append-nil}
+use Rattle.std.proofs.Common.{◌≡◌, to_z, of_z, ◌<◌, filter, length, ◌∙◌, ◌++◌, suc, pos, take, drop, get_or, [], sym, ap, subst, arith, add-one, append_assoc, append-nil}
 use Rattle.std.specs.List.{AllByRecursion}
+use Rattle.std.specs.Int.{w128}
 use Rattle.std.proofs.lemmas.Int.{ints}
 use Rattle.std.proofs.lemmas.List.{get_or-map, length-map, take_all, take_more}
 use Rattle.hu_kind.proofs.lemmas.Each.{each-push}
@@ -13,26 +14,39 @@ use Rattle.hu_span.proofs.GatherLemmas.{first_from}
 use Rattle.hu_span.proofs.NumberLemmas.{kept-z}
 use Rattle.hu_span.proofs.RowsLemmas.{first-kept, first-next}
 use Rattle.hu_span.proofs.WalkLemmas.{drop-past, low-later, totals-fit}
+use Rattle.hu_span.proofs.gather.first_marks.Goals.{After-between}
 use Rattle.hu_span.proofs.gather.first_marks.Goals as goal
+
+-- a record sums to what all its elements do that count
+summed_at : (c : After-between) → c.between.result ≡ totals (weighed_in (keeps c.args.kept.now) c.elements-elements.result.now)
+summed_at c =
+    let keep = keeps c.args.kept.now in
+    let elements = c.elements-elements.result.now in
+    let size = length-map elements (weighed keep) in
+    let gone = ap totals (drop-past (weighed_in keep elements) (length elements) (omega (arith, size))) in
+    omega (arith, ints, gone, c.between.ensures)
+
+all_at : (c : After-between) → c.between.result ≡ totals (weighed_in (keeps c.args.kept.now) c.index-records-row.result)
+all_at c = summed_at c ∙ ap totals (ap (weighed_in (keeps c.args.kept.now)) c.elements-elements.ensures.value)
+
+-- and the sum stays within its type
+kept_at : (c : After-between) → to_z w128 (of_z w128 c.between.result) ≡ c.between.result
+kept_at c =
+    let w = weighed_in (keeps c.args.kept.now) c.index-records-row.result in
+    let rules = weighed-sequence (keeps c.args.kept.now) c.index-records-row.result c.elements-elements.ensures.rules in
+    let low = low-later w rules 0 in
+    let fits = totals-fit w rules in
+    kept-z c.between.result (omega (arith, ints, all_at c, low)) (omega (arith, ints, all_at c, fits))
 
 pub push_walk-requires-clause-walk : goal.push_walk-requires-clause-walk
 push_walk-requires-clause-walk c =
     let keep = keeps c.args.kept.now in
-    let r = c.index-records-row.result in
-    let w = weighed_in keep r in
-    let rules = weighed-sequence keep r c.elements-elements.ensures.rules in
-    let seen = ap (weighed_in keep) c.elements-elements.ensures.value in
-    let gone = ap totals (drop-past (weighed_in keep c.elements-elements.result.now) (length c.elements-elements.result.now) (omega (
-      arith,
-      length-map c.elements-elements.result.now (weighed keep),
-    ))) in
-    let summed : c.between.result ≡ totals (weighed_in keep c.elements-elements.result.now) = omega (arith, ints, gone, c.between.ensures) in
-    let all = summed ∙ ap totals seen in
-    let low = low-later w rules 0 in
-    let fits = totals-fit w rules in
-    let kept = kept-z c.between.result (omega (arith, ints, all, low)) (omega (arith, ints, all, fits)) in
+    let w = weighed_in keep c.index-records-row.result in
+    let fits = totals-fit w (weighed-sequence keep c.index-records-row.result c.elements-elements.ensures.rules) in
+    let kept = kept_at (goal.at.push_walk-requires-clause-walk c).After-between in
+    let all = all_at (goal.at.push_walk-requires-clause-walk c).After-between in
     record {
-      ahead = kept ∙ summed;
+      ahead = kept ∙ summed_at (goal.at.push_walk-requires-clause-walk c).After-between;
       best = omega (arith, ints);
       fits = omega (arith, ints, kept, all, fits);
       left = tt;
@@ -45,17 +59,9 @@ records-preserved c =
     let row = c.records.row in
     let r = c.index-records-row.result in
     let w = weighed_in keep r in
-    let rules = weighed-sequence keep r c.elements-elements.ensures.rules in
     let seen = ap (weighed_in keep) c.elements-elements.ensures.value in
-    let gone = ap totals (drop-past (weighed_in keep c.elements-elements.result.now) (length c.elements-elements.result.now) (omega (
-      arith,
-      length-map c.elements-elements.result.now (weighed keep),
-    ))) in
-    let summed : c.between.result ≡ totals (weighed_in keep c.elements-elements.result.now) = omega (arith, ints, gone, c.between.ensures) in
-    let all = summed ∙ ap totals seen in
-    let low = low-later w rules 0 in
-    let fits = totals-fit w rules in
-    let kept = kept-z c.between.result (omega (arith, ints, all, low)) (omega (arith, ints, all, fits)) in
+    let kept = kept_at (goal.at.records-preserved c).After-between in
+    let all = all_at (goal.at.records-preserved c).After-between in
     let rs = weighed_of keep records in
     let size = length-map records (weighed_in keep) in
     let within : row < length rs = omega (arith, size, c.records-test.true) in
