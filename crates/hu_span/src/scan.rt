@@ -13,11 +13,8 @@ use crate::kept::Kept;
 use crate::links::Links;
 use crate::mark::Mark;
 use hu_chain::Growth;
-use hu_kind::{NoMemory, SeqRecord};
+use hu_kind::{Element, NoMemory, SeqRecord};
 use std::alloc::Global;
-
-/// About how many marks a place grows by, from which the links are given room.
-const MARKS_A_PLACE: usize = 8;
 
 /// The children of a pattern with a kept item more, and what is known of the rows. The marks by which the pattern grows are
 /// told row by row, so that those of one row alone are held.
@@ -40,19 +37,51 @@ pub(crate) fn scanned(
         → IfOk result (λ children. AllByRecursion
         (IsSpread reaches.now (weighed_of (keeps kept.now) records.now) p) children.items) }
 {
-    let mut children = scanned_into(alloc, records, kept, marks, reaches)?;
-    let mut later = scanned_after(alloc, records, kept, marks, reaches)?;
+    let room = cells_of(records, marks);
+    let mut children = scanned_into(alloc, records, kept, marks, reaches, room)?;
+    let mut later = scanned_after(alloc, records, kept, marks, reaches, room)?;
     children.append(&mut later)?;
     Ok(children)
 }
 
-/// The children with an item more in the last itemset.
+/// How many cells the records of marks have together: no more items are met there. Marks of one record stand together.
+fn cells_of(records: &[SeqRecord], marks: &[Mark]) -> usize {
+    let mut cells: usize = 0;
+    let mut counted = None;
+    'marks: for mark in marks {
+        if counted != Some(mark.row) {
+            cells = cells.saturating_add(cells_at(records, mark.row));
+            counted = Some(mark.row);
+        }
+    }
+    cells
+}
+
+/// How many cells a record has.
+fn cells_at(records: &[SeqRecord], row: usize) -> usize {
+    match records.get(row) {
+        Some(record) => cells_in(record.elements()),
+        None => 0,
+    }
+}
+
+/// How many cells elements have.
+fn cells_in(elements: &[Element]) -> usize {
+    let mut cells: usize = 0;
+    'elements: for element in elements {
+        cells = cells.saturating_add(element.cells().len());
+    }
+    cells
+}
+
+/// The children with an item more in the last itemset, where there is room for the links of so many marks.
 fn scanned_into(
     alloc: Global,
     records: &[SeqRecord],
     kept: &Kept,
     marks: &[Mark],
     reaches: &[i128],
+    room: usize,
 ) -> Result<Vec<Child>, NoMemory>
     requires records { AreRecords records.now }
     requires places { (p : Pattern) × IsReached p
@@ -62,7 +91,7 @@ fn scanned_into(
         → IfOk result (λ children. AreAllTold (weighed_of (keeps kept.now) records.now)
         (keeps kept.now) p Growth.IntoLast reaches.now children.items) }
 {
-    let mut links = Links::new(alloc, marks.len())?;
+    let mut links = Links::new(alloc, room)?;
     let mut tells = Vec::new(alloc);
     let mut beside = Vec::new(alloc);
     'marks: for mark in marks {
@@ -73,13 +102,14 @@ fn scanned_into(
     children_told(alloc, &links, &tells, Growth::IntoLast)
 }
 
-/// The children with an item in a new last itemset.
+/// The children with an item in a new last itemset, where there is room for the links of so many marks.
 fn scanned_after(
     alloc: Global,
     records: &[SeqRecord],
     kept: &Kept,
     marks: &[Mark],
     reaches: &[i128],
+    room: usize,
 ) -> Result<Vec<Child>, NoMemory>
     requires records { AreRecords records.now }
     requires places { (p : Pattern) × IsReached p
@@ -89,7 +119,7 @@ fn scanned_after(
         → IfOk result (λ children. AreAllTold (weighed_of (keeps kept.now) records.now)
         (keeps kept.now) p Growth.AfterLast reaches.now children.items) }
 {
-    let mut links = Links::new(alloc, marks.len().saturating_mul(MARKS_A_PLACE))?;
+    let mut links = Links::new(alloc, room)?;
     let mut tells = Vec::new(alloc);
     let mut later = Vec::new(alloc);
     let mut left = marks;
