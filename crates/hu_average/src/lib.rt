@@ -26,6 +26,3 @@ pub use order::{cmp_average, reaches};
 pub use plain::mine_plain;
 pub use search::mine;
 pub use text::write_averages;
-
-#[cfg(test)]
-mod tests;

@@ -13,6 +13,3 @@ mod text;
 
 pub use certificate::certify;
 pub use fault::CertFault;
-
-#[cfg(test)]
-mod tests;

@@ -10,8 +10,6 @@
 
 mod chain;
 mod place;
-#[cfg(test)]
-mod tests;
 mod walk;
 
 pub use chain::{Chain, Growth};

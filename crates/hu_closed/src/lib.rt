@@ -15,6 +15,3 @@ mod sets;
 
 pub use closed_only::ClosedOnly;
 pub use sets::RecordSets;
-
-#[cfg(test)]
-mod tests;

@@ -4,7 +4,7 @@
 //! for it, [`mine`] for any collector up to a greatest length. [`bound`] is the most that a set of ranks can earn with so many
 //! later ones. The answer under lengths stands in `specs/Lengths.antt`, what the collector makes of entries in
 //! `specs/LengthsOnly.antt`, the bound in `specs/Bound.antt`. The crate stands on hu_kind, hu_totals, hu_collect, hu_search and
-//! hu_list; its tests stand on hu_base too. After FHM+ (Fournier-Viger, Lin, Duong and Dam, 2016).
+//! hu_list. After FHM+ (Fournier-Viger, Lin, Duong and Dam, 2016).
 #![tactic(auto)]
 
 mod bounds;
@@ -14,6 +14,3 @@ mod search;
 pub use bounds::bound;
 pub use lengths_only::LengthsOnly;
 pub use search::{mine, mine_sized};
-
-#[cfg(test)]
-mod tests;

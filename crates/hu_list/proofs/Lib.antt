@@ -14,4 +14,4 @@ pub mod PlaceLemmas
 pub mod MergeLemmas
 pub mod SingleLemmas
 pub mod LengthLemmas
-pub mod Joining
+pub mod lemmas

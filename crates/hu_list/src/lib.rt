@@ -4,7 +4,7 @@
 //! Two lists join into that of a greater set, and a list bounds what all sets that grow its own can earn. The lists stand in
 //! `specs/Nodes.antt`, their bounds in `specs/Bounds.antt` and their joins in `specs/Joins.antt`. A search keeps the same in a
 //! form that costs no join: the tails of a set, `specs/Tails.antt`, from which it walks on in the records. The crate stands on
-//! hu_kind, hu_collect, hu_totals and hu_search; its tests stand on hu_base too.
+//! hu_kind, hu_collect, hu_totals and hu_search.
 #![tactic(auto)]
 
 mod gains;
@@ -20,6 +20,3 @@ mod tail;
 
 pub use list::{Node, UtilityList};
 pub use search::{mine, mine_upto};
-
-#[cfg(test)]
-mod tests;

@@ -19,8 +19,6 @@ mod items;
 mod places;
 mod row;
 mod sequences;
-#[cfg(test)]
-mod tests;
 
 pub use items::mine_items;
 pub use sequences::mine_sequences;

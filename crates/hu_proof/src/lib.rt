@@ -18,6 +18,3 @@ mod words;
 
 pub use certificate::check;
 pub use fault::CheckFault;
-
-#[cfg(test)]
-mod tests;

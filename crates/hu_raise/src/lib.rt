@@ -13,8 +13,6 @@ mod partners;
 mod rests;
 mod start;
 mod sums;
-#[cfg(test)]
-mod tests;
 
 pub use laws::law_of_pairs;
 pub use pairs::PairTwu;

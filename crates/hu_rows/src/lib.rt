@@ -14,8 +14,6 @@ mod projection;
 mod rows;
 mod setting;
 mod tally;
-#[cfg(test)]
-mod tests;
 
 pub use bins::Bins;
 pub use narrowing::narrow;

@@ -15,8 +15,6 @@ mod jobs;
 pub mod laws;
 pub mod shelf;
 mod stop;
-#[cfg(test)]
-mod tests;
 mod top;
 mod words;
 

@@ -10,8 +10,6 @@
 mod child;
 mod key;
 mod offer;
-#[cfg(test)]
-mod tests;
 
 pub use child::{Child, best_first};
 pub use key::key_of;

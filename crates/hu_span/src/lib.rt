@@ -22,7 +22,5 @@ mod scan;
 mod search;
 mod step;
 mod tally;
-#[cfg(test)]
-mod tests;
 
 pub use search::mine;

@@ -7,8 +7,6 @@
 #![tactic(auto)]
 
 mod ranked;
-#[cfg(test)]
-mod tests;
 mod totals;
 mod weights;
 

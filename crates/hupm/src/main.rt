@@ -9,6 +9,9 @@ use std::process::ExitCode;
 use std::rt::Env;
 use std::{env, io};
 
+#[cfg(test)]
+mod tests;
+
 /// The status where the words find no memory.
 const OUT_OF_MEMORY: u8 = 5;
 
