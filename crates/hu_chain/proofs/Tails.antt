@@ -2,6 +2,7 @@
 use Rattle.std.proofs.Common.{◌≡◌, ℕ, zero, suc, ◌<◌, ◌≤◌, ◌+◌, Bool, true, false, cond, eqb, ℤ, pos, ◌-◌, ◌+ℤ◌, ◌-ℤ◌}
 use Rattle.std.proofs.Common.{◌≤ℤ◌, unsigned_abs, None, Some, is_some, List, [], ◌∷◌, length, get_or, drop, take, refl}
 use Rattle.std.proofs.Common.{sym, ap, ◌∙◌, subst, arith, add-one, sum_by, length-drop}
+use Rattle.std.specs.Prelude.{IfSome}
 use Rattle.std.specs.List.{AllByRecursion}
 use Rattle.std.proofs.lemmas.Int.{ints}
 use Rattle.std.proofs.lemmas.Bool.{eqb-true, ne_eqb}
@@ -119,6 +120,26 @@ found-some tail item k cell place is element number best rest =
         let at : ℕ → ℕ → ℤ → ℤ → Place = λ e n u r. record { element = e; cell = n; best = u; rest = r } in
         ap (λ e. at e p.cell p.best p.rest) a ∙ ap (λ n. at q.element n p.best p.rest) b
         ∙ ap (λ u. at q.element q.cell u p.rest) c ∙ ap (λ r. at q.element q.cell q.best r) d
+
+-- what a search finds is fit
+pub found-fit : (tail : Tail) (item k : ℕ) (cell : Cell) → IsTail tail → IsFound tail item k cell
+    → IfSome (found tail.element tail.first item tail.best (tail.ahead -ℤ total (pairs_of tail.cells.now)) (pairs_of tail.cells.now)) IsFit
+found-fit tail item k cell rules is =
+    let place : Place = record {
+      element = tail.element;
+      cell = tail.first + k;
+      best = tail.best +ℤ (get_or tail.cells.now k cell).value;
+      rest = tail.ahead -ℤ total (pairs_of (take (k + 1) tail.cells.now));
+    } in
+    let low = is.low in
+    let front = is.front in
+    let parts = is.parts in
+    let left = is.rest in
+    let above = rules.best in
+    let holds = rules.holds in
+    let fits = rules.fits in
+    let fit : IsFit place = record { best = omega (arith, ints); rest = omega (arith, ints); reach = omega (arith, ints) } in
+    subst (λ p. IfSome p IsFit) (found-some tail item k cell place is refl refl refl refl) fit
 
 -- ---- the elements of a sequence
 

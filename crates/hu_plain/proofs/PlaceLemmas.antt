@@ -32,7 +32,7 @@ use Rattle.hu_plain.proofs.Reach.{ahead, ahead-upto, reach_with, best-within, ne
 use Rattle.hu_plain.proofs.RowLemmas.{item-of_number}
 use Rattle.hu_plain.proofs.SearchLemmas.{entry_with, popped}
 use Rattle.hu_plain.proofs.PlaceGrowth.{grown_best-alone}
-use Rattle.hu_plain.proofs.Steps.{rising-fresh, ascending-stepped, begun-stepped, taken-following, taken-joining}
+use Rattle.hu_plain.proofs.Steps.{IsGrown, rising-fresh, ascending-stepped, begun-stepped, taken-following, taken-joining}
 use Rattle.hu_plain.proofs.Subsequences.{AreRising, grows-pattern, pattern-grows}
 
 -- what holds of each element as it is seen holds of the one at an index
@@ -255,11 +255,18 @@ length-places grown rows is =
 pub none-stepped : (grown : Vec (Vec Place)) (rows : List Places) → all_places grown.items ≡ rows → eqb grown.len 0 ≡ true → length rows ≡ 0
 none-stepped grown rows is none = length-places grown rows is ∙ eqb-true grown.len 0 none
 
-pub some-stepped : (grown : Vec (Vec Place)) (rows : List Places) → all_places grown.items ≡ rows → eqb grown.len 0 ≡ false → 0 < length rows
+some-stepped : (grown : Vec (Vec Place)) (rows : List Places) → all_places grown.items ≡ rows → eqb grown.len 0 ≡ false → 0 < length rows
 some-stepped grown rows is some = elim (cases_lt 0 (length rows)) [
   | inl more ↦ more
   | inr none ↦ absurd (eqb-false grown.len 0 some (omega (arith, none, length-places grown rows is)))
 ]
+
+pub IsGrown-from : (grown : Vec (Vec Place)) (found : List (Vec Place)) (step : Step) (rows : List Places) → found ≡ grown.items
+    → all_places grown.items ≡ all_stepped step rows → eqb grown.len 0 ≡ false → IsGrown step rows (all_places found)
+IsGrown-from grown found step rows same is some = record {
+  is = ap all_places same ∙ is;
+  some = some-stepped grown (all_stepped step rows) is some;
+}
 
 -- the entry of the prefix itself
 pub own_entry : (prefix key : List ℤ) (rows : List (Vec Place)) (utility : ℤ) → key ≡ closed prefix

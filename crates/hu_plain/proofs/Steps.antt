@@ -13,6 +13,8 @@ use Rattle.hu_kind.specs.Order.{Ascend}
 use Rattle.hu_kind.proofs.lemmas.Each.{each-weaker}
 use Rattle.hu_kind.proofs.lemmas.Members.{Member, Member-append_left, Member-append_right, Member-flat_map, Member-from_filter, Member-from_map}
 use Rattle.hu_kind.proofs.lemmas.Occurring.{at_member, by_members, counted, holds-members}
+use Rattle.hu_collect.specs.State.{State, Reached, ReachedSome}
+use Rattle.hu_collect.proofs.lemmas.Searching.{reached-as, some-as}
 use Rattle.hu_plain.specs.declared.places.Step.{Step}
 use Rattle.hu_plain.specs.declared.places.Step.TheVariants.{Into, After}
 use Rattle.hu_plain.specs.Row.{Cells, RowOf, IsRising}
@@ -382,3 +384,23 @@ module _ (rows : List Places) (up : AllByRecursion AreAscending rows) where
   taken-following item some =
       let found = counted (λ places. is_some (grown_best [] ((item.0 ∷ []) ∷ []) places)) rows (taken-support (After item) some) in
       Member-flat_map following found.0 item.0 rows found.1 (following-some item.0 [] [] found.0 found.2)
+
+-- what a step grows, where some row takes it
+pub record IsGrown (step : Step) (rows found : List Places) : Type 0 where
+  pub is : found ≡ all_stepped step rows
+  pub some : 0 < length (all_stepped step rows)
+
+-- the entries of what a step grows begin with the step
+module _ {before prefix : List ℤ} {step : Step} {rows found : List Places} (grown : IsGrown step rows found) (same : before ≡ prefix) where
+  growth : IsGrowth (stepped_key before step) found ≡ IsGrowth (stepped_key prefix step) (all_stepped step rows)
+  growth = λ j. IsGrowth (stepped_key (same j) step) (grown.is j)
+
+  pub begins-reached : {now new : State} → Reached now (IsGrowth (stepped_key before step) found) new → Reached now (BeginsWith prefix rows step) new
+  begins-reached {now = now} {new = new} reached =
+      reached-as {P = IsGrowth (stepped_key prefix step) (all_stepped step rows)} {R = BeginsWith prefix rows step}
+      (λ e p. (grown.some, p)) (λ e r pass high. r.1) (subst (λ P. Reached now P new) growth reached)
+
+  pub begins-some : {now new : State} → ReachedSome now (IsGrowth (stepped_key before step) found) new → ReachedSome now (BeginsWith prefix rows step) new
+  begins-some {now = now} {new = new} reached =
+      some-as {P = IsGrowth (stepped_key prefix step) (all_stepped step rows)} {R = BeginsWith prefix rows step}
+      (λ e p. (grown.some, p)) (subst (λ P. ReachedSome now P new) growth reached)

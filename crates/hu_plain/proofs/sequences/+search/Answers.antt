@@ -1,17 +1,19 @@
-use Rattle.std.proofs.Common.{rules, ◌≡◌, ◌∙◌, ◌+◌, ◌*◌, ◌<◌, List, get_or, length, refl, sym, ap, subst, arith}
+use Rattle.std.proofs.Common.{rules, ◌≡◌, ◌∙◌, ◌+◌, ◌*◌, ◌<◌, ℕ, List, get_or, length, refl, sym, ap, subst, arith}
 use Rattle.std.specs.Global.{Vec}
 use Rattle.hu_collect.specs.State.{IsInOrder, Reached, ReachedSome}
-use Rattle.hu_collect.proofs.lemmas.Searching.{reached-none, reached-as, some-as, stopped}
+use Rattle.hu_collect.proofs.lemmas.Searching.{reached-none, stopped}
 use Rattle.hu_plain.specs.declared.places.Place.{Place}
 use Rattle.hu_plain.specs.declared.places.Step.{Step}
 use Rattle.hu_plain.specs.declared.places.Step.TheVariants.{Into}
 use Rattle.hu_plain.specs.Growth.{prefix_entry, stepped_key, Grows, IsGrowth}
 use Rattle.hu_plain.specs.Place.{all_stepped, ArePlaces}
 use Rattle.hu_plain.specs.PlaceView.{all_places, HasSteps}
-use Rattle.hu_plain.proofs.PlaceLemmas.{none-stepped, some-stepped}
+use Rattle.hu_plain.proofs.PlaceLemmas.{none-stepped, IsGrown-from}
 use Rattle.hu_plain.proofs.Reach.{left_in, left_in-stepped}
 use Rattle.hu_plain.proofs.SoFar.{own-ordered, own-then, own-some, so_far-none, so_far-ordered, so_far-stopped, so_far-all, so_far-next, so_far-some}
-use Rattle.hu_plain.proofs.Steps.{BeginsWith, begins-whole}
+use Rattle.hu_plain.proofs.Steps.{BeginsWith, IsGrown, begins-reached, begins-some, begins-whole}
+use Rattle.hu_plain.proofs.sequences.+search.Given.{Over}
+use Rattle.hu_plain.proofs.sequences.+search.Goals.{search-After-enter}
 use Rattle.hu_plain.proofs.sequences.+search.Goals as goal
 
 no_step : Step
@@ -89,52 +91,35 @@ search-enter-requires g t c κs within =
     let rows = all_places c.args.rows.now in
     let step = get_or c.deref-step-items.result.now c.steps.step-index no_step in
     let found = all_places c.deref.result.now in
-    let is : found ≡ all_stepped step rows = ap all_places c.deref.ensures.value ∙ c.in_ok-grown.ensures.value in
-    let some : 0 < length (all_stepped step rows) =
-    some-stepped c.in_ok-grown.grown (all_stepped step rows) c.in_ok-grown.ensures.value (sym c.is_empty.ensures ∙ c.if-is_empty.false) in
+    let grown = IsGrown-from c.in_ok-grown.grown c.deref.result.now step rows c.deref.ensures.value c.in_ok-grown.ensures.value
+    (sym c.is_empty.ensures ∙ c.if-is_empty.false) in
     let are : ArePlaces found = subst (λ (xs : List (Vec Place)). ArePlaces (all_places xs)) (sym c.deref.ensures.value) c.in_ok-grown.ensures.rules in
     let ordered : IsInOrder (g.C.Collect.state c.steps.collect) = so_far-ordered c.steps.invariant.so_far in
     let fewer = left_in-stepped step rows in
-    let smaller : 2 * left_in found + 1 < 2 * left_in rows = omega (arith, some, fewer, ap left_in is) in
+    let smaller : 2 * left_in found + 1 < 2 * left_in rows = omega (arith, grown.some, fewer, ap left_in grown.is) in
     search rules
+
+-- what the step has grown, which was entered
+grown_at : (g : Over) (t : ℕ) (c : search-After-enter g t)
+    → IsGrown (get_or c.deref-step-items.result.now c.steps.step-index no_step) (all_places c.args.rows.now) (all_places c.deref.result.now)
+unfolding no_step
+grown_at g t c =
+    IsGrown-from c.in_ok-grown.grown c.deref.result.now (get_or c.deref-step-items.result.now c.steps.step-index no_step) (all_places c.args.rows.now)
+    c.deref.ensures.value c.in_ok-grown.ensures.value (sym c.is_empty.ensures ∙ c.if-is_empty.false)
 
 pub search-returns-in_err-enter-clause-searches : goal.search-returns-in_err-enter-clause-searches
 unfolding no_step
 search-returns-in_err-enter-clause-searches g t c =
-    let rows = all_places c.args.rows.now in
-    let now = g.C.Collect.state c.steps.collect in
-    let new = g.C.Collect.state c.enter.new.collect in
-    let prefix = c.args.prefix.now in
-    let step = get_or c.deref-step-items.result.now c.steps.step-index no_step in
-    let found = all_places c.deref.result.now in
-    let is : found ≡ all_stepped step rows = ap all_places c.deref.ensures.value ∙ c.in_ok-grown.ensures.value in
-    let some : 0 < length (all_stepped step rows) =
-    some-stepped c.in_ok-grown.grown (all_stepped step rows) c.in_ok-grown.ensures.value (sym c.is_empty.ensures ∙ c.if-is_empty.false) in
-    let same = c.steps.invariant.prefix in
-    stopped {P = Grows prefix rows} c.from_residual-in_err-enter.result c.from_residual-in_err-enter.ensures.0
-    (so_far-some c.steps.invariant.so_far no_step c.steps-test.true
-    (some-as {P = IsGrowth (stepped_key prefix step) (all_stepped step rows)} {R = BeginsWith prefix rows step} (λ e p. (some, p))
-    (subst (λ rs. ReachedSome now (IsGrowth (stepped_key prefix step) rs) new) is
-    (subst (λ p. ReachedSome now (IsGrowth (stepped_key p step) found) new) same c.in_err-enter.ensures.searches))))
+    let grown = grown_at g t (goal.at.search-returns-in_err-enter-clause-searches g t c).After-enter in
+    stopped {P = Grows c.args.prefix.now (all_places c.args.rows.now)} c.from_residual-in_err-enter.result c.from_residual-in_err-enter.ensures.0
+    (so_far-some c.steps.invariant.so_far no_step c.steps-test.true (begins-some grown c.steps.invariant.prefix c.in_err-enter.ensures.searches))
 
 pub search-steps-preserved : goal.search-steps-preserved
 unfolding no_step
 search-steps-preserved g t c =
-    let rows = all_places c.args.rows.now in
-    let now = g.C.Collect.state c.steps.collect in
-    let new = g.C.Collect.state c.enter.new.collect in
-    let prefix = c.args.prefix.now in
-    let step = get_or c.deref-step-items.result.now c.steps.step-index no_step in
-    let found = all_places c.deref.result.now in
-    let is : found ≡ all_stepped step rows = ap all_places c.deref.ensures.value ∙ c.in_ok-grown.ensures.value in
-    let some : 0 < length (all_stepped step rows) =
-    some-stepped c.in_ok-grown.grown (all_stepped step rows) c.in_ok-grown.ensures.value (sym c.is_empty.ensures ∙ c.if-is_empty.false) in
-    let same = c.steps.invariant.prefix in
+    let grown = grown_at g t (goal.at.search-steps-preserved g t c).After-enter in
     record {
-      prefix = c.in_ok-enter.ensures.prefix ∙ same;
+      prefix = c.in_ok-enter.ensures.prefix ∙ c.steps.invariant.prefix;
       so_far = so_far-next c.steps.invariant.so_far no_step c.steps-test.true c.requires.in_order
-          (reached-as {P = IsGrowth (stepped_key prefix step) (all_stepped step rows)} {R = BeginsWith prefix rows step}
-          (λ e p. (some, p)) (λ e r pass high. r.1)
-          (subst (λ rs. Reached now (IsGrowth (stepped_key prefix step) rs) new) is
-          (subst (λ p. Reached now (IsGrowth (stepped_key p step) found) new) same c.in_ok-enter.ensures.searches)));
+          (begins-reached grown c.steps.invariant.prefix c.in_ok-enter.ensures.searches);
     }

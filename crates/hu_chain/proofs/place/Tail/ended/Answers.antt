@@ -1,11 +1,13 @@
-use Rattle.std.proofs.Common.{◌≡◌, ◌≤◌, ◌∙◌, ◌+◌, ◌-ℤ◌, ℕ, None, refl, sym, pos, arith, length, length-take-le}
+use Rattle.std.proofs.Common.{◌≡◌, ◌≤◌, ◌∙◌, ◌+◌, ◌-ℤ◌, ℕ, None, refl, sym, subst, pos, arith, length, length-take-le}
+use Rattle.std.specs.Prelude.{IfSome}
 use Rattle.std.proofs.lemmas.Int.{ints}
 use Rattle.hu_kind.specs.declared.item.Cell.{Cell}
 use Rattle.hu_kind.specs.Cell.{pairs_of}
 use Rattle.hu_kind.specs.Record.{total}
 use Rattle.hu_chain.specs.declared.place.Tail.{Tail}
+use Rattle.hu_chain.specs.Bound.{IsFit}
 use Rattle.hu_chain.specs.Search.{cell_in, found}
-use Rattle.hu_chain.proofs.Tails.{found-missing, found-some, IsFound-from}
+use Rattle.hu_chain.proofs.Tails.{found-fit, found-missing, found-some, IsFound-from}
 use Rattle.hu_chain.proofs.place.Tail.ended.Goals as goal
 
 -- a cell past the end
@@ -90,17 +92,6 @@ returns-clause-value c =
     found-some c.args.self.now c.args.item.0 c.in_ok-cell.cell no_cell _ is refl refl (omega (arith, ints)) (omega (arith, ints))
 
 pub returns-clause-fit : goal.returns-clause-fit
-unfolding no_cell
 returns-clause-fit c =
     let is = IsFound-from c.args.self.now c.args.item.0 c.in_ok-cell.cell no_cell c.requires c.in_ok-cell.ensures in
-    let few = c.requires.few in
-    let within = is.within in
-    let low = is.low in
-    let front = is.front in
-    let parts = is.parts in
-    let rest = is.rest in
-    let best = c.requires.best in
-    let holds = c.requires.holds in
-    let fits = c.requires.fits in
-    let sum = c.total.ensures in
-    record { best = omega (arith, ints); rest = omega (arith, ints); reach = omega (arith, ints) }
+    subst (λ place. IfSome place IsFit) (sym (returns-clause-value c)) (found-fit c.args.self.now c.args.item.0 c.in_ok-cell.cell no_cell c.requires is)
