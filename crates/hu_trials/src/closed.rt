@@ -45,20 +45,6 @@ const OFFERS: [Offer<'static>; 4] = [
     (&[3], 13, 5),
 ];
 
-/// An entry of a key.
-fn entry_of(
-    alloc: Global,
-    numbers: &[i64],
-    utility: i128,
-    support: u64,
-) -> Result<Entry, NoMemory> {
-    Ok(Entry {
-        key: key_of(alloc, numbers)?,
-        utility,
-        support,
-    })
-}
-
 /// The key of one rank.
 fn key_of_rank(alloc: Global, ranked: &Ranked, rank: u32) -> Result<Key, NoMemory>
     requires { rank < length ranked.now.items }
@@ -130,7 +116,12 @@ fn expect_told(
 
 /// Offers a key with a utility and a support.
 fn offer(alloc: Global, closed: &mut ClosedOnly<'_, All>, one: &Offer<'_>) -> Result<(), NoMemory> {
-    closed.offer(entry_of(alloc, one.0, one.1, one.2)?)
+    let (numbers, utility, support) = *one;
+    closed.offer(Entry {
+        key: key_of(alloc, numbers)?,
+        utility,
+        support,
+    })
 }
 
 /// The entries that are kept of these offers.

@@ -8,9 +8,9 @@ mod refusals;
 mod shelf;
 mod sizes;
 
-use hu_run::run;
 use hu_io::{MemoryFiles, MemorySink};
 use hu_kind::NoMemory;
+use hu_run::run;
 use std::alloc::Global;
 use std::process::Abort;
 use std::test::Fail;

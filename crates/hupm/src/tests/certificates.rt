@@ -1,8 +1,8 @@
 //! Runs that check a certificate.
 
 use super::{ends, words_of};
-use hu_run::run;
 use hu_io::{MemoryFiles, MemorySink};
+use hu_run::run;
 use std::alloc::Global;
 use std::process::Abort;
 use std::test::Fail;

@@ -1,8 +1,8 @@
 //! Reads and writes that fail, and files that break off.
 
 use super::{BASE_A, BASE_A_AT_30, CLOSED_JOBS, ITEM_JOBS, SEQUENCE_JOBS, ends, files, words_of};
-use hu_run::run;
 use hu_io::{MemoryFiles, MemorySink};
+use hu_run::run;
 use std::alloc::Global;
 use std::process::Abort;
 use std::test::Fail;

@@ -3,8 +3,8 @@
 ghost use Rattle.hu_io.specs.Edge.{system_files};
 
 use super::words_of;
-use hu_run::run;
 use hu_io::{Failed, Files, MemorySink, SureSink};
+use hu_run::run;
 use std::test::Fail;
 
 /// Files of which each holds so many bytes: marks, and the end of a line at the end of each read.

@@ -1,8 +1,8 @@
 //! Stores over runs: one that grows, words and stores that are refused, and calls that fail.
 
 use super::{BASE_A_AT_30, files, words_of};
-use hu_run::run_all;
 use hu_io::MemorySink;
+use hu_run::run_all;
 use hu_shelf::{Keeper, MemoryKeeper};
 use std::alloc::Global;
 use std::process::Abort;
