@@ -78,29 +78,9 @@ fn add_kept(
         +ℤ share else at (pos 0) found.old.ranks gains.old.items z) else at
         (pos 0) found.old.ranks gains.old.items z)) }
 {
-    if kept.has(rank) {
-        add_gain(found, gains, rank, share)?;
+    if !kept.has(rank) {
+        return Ok(());
     }
-    Ok(())
-}
-
-/// Adds to what a rank has.
-fn add_gain(
-    found: &mut Slots,
-    gains: &mut Vec<i128>,
-    rank: u32,
-    share: i128,
-) -> Result<(), NoMemory>
-    requires len { length gains.old.items ≡ length found.old.ranks }
-    requires within { rank < found.old.room }
-    requires fits { unsigned_abs (at (pos 0) found.old.ranks gains.old.items rank)
-        + unsigned_abs share < 2 ^ 127 }
-    ensures room { found.new.room ≡ found.old.room }
-    ensures len { OnOk result (length gains.new.items ≡ length found.new.ranks) }
-    ensures gains { OnOk result ((z : ℕ) → at (pos 0) found.new.ranks gains.new.items z
-        ≡ (if z == rank then at (pos 0) found.old.ranks gains.old.items z
-        +ℤ share else at (pos 0) found.old.ranks gains.old.items z)) }
-{
     match found.find(rank) {
         Some(slot) => gains[slot] += share,
         None => {

@@ -1,37 +1,29 @@
-use Rattle.std.proofs.Common.{pos, ◌+◌, arith}
-use Rattle.std.proofs.lemmas.Int.{ints}
+use Rattle.std.proofs.Common.{◌≡◌, ◌∙◌, ◌+◌, ◌+ℤ◌, pos, take, to_z, of_z, arith}
+use Rattle.std.specs.Int.{w128}
+use Rattle.std.proofs.lemmas.Int.{ints, to_z-of_z}
 use Rattle.hu_totals.specs.declared.ranked.Dense.{Dense}
+use Rattle.hu_totals.specs.Cells.{kept_gain}
+use Rattle.hu_list.specs.View.{cells_of}
 use Rattle.hu_list.proofs.ShareLemmas.{kept_gain-more, kept_gain-take}
+use Rattle.hu_list.proofs.tail.kept_gain.Goals.{After-kept_part-gain}
 use Rattle.hu_list.proofs.tail.kept_gain.Goals as goal
 
-pub overflow_add-gain : goal.overflow_add-gain
-overflow_add-gain c =
+-- the gain with the cell's kept part
+next_at : (c : After-kept_part-gain)
+    → to_z w128 c.loop-cell.gain-bits +ℤ to_z w128 (of_z w128 c.kept_part-gain.result)
+    ≡ kept_gain c.args.kept.now.ranks (cells_of (take (c.loop-cell.cell-index + 1) c.args.cells.now))
+next_at c =
     let none : Dense = record { rank = 0; value = pos 0 } in
-    let keep = c.args.kept.now.ranks in
-    let cells = c.args.cells.now in
-    let i = c.loop-cell.cell-index in
     omega (
       arith,
       ints,
-      kept_gain-more keep cells i none c.loop-cell-test.true,
-      kept_gain-take keep cells (i + 1),
+      kept_gain-more c.args.kept.now.ranks c.args.cells.now c.loop-cell.cell-index none c.loop-cell-test.true,
       c.kept_part-gain.ensures,
       c.loop-cell.invariant,
-      c.requires,
     )
 
+pub overflow_add-gain : goal.overflow_add-gain
+overflow_add-gain c = omega (arith, ints, next_at c, kept_gain-take c.args.kept.now.ranks c.args.cells.now (c.loop-cell.cell-index + 1), c.requires)
+
 pub loop-cell-preserved : goal.loop-cell-preserved
-loop-cell-preserved c =
-    let none : Dense = record { rank = 0; value = pos 0 } in
-    let keep = c.args.kept.now.ranks in
-    let cells = c.args.cells.now in
-    let i = c.loop-cell.cell-index in
-    omega (
-      arith,
-      ints,
-      kept_gain-more keep cells i none c.loop-cell-test.true,
-      kept_gain-take keep cells (i + 1),
-      c.kept_part-gain.ensures,
-      c.loop-cell.invariant,
-      c.requires,
-    )
+loop-cell-preserved c = to_z-of_z w128 _ (overflow_add-gain c) ∙ next_at c

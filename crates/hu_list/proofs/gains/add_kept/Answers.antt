@@ -1,10 +1,18 @@
-use Rattle.std.proofs.Common.{◌≡◌, pos, ◌+ℤ◌, to_z, of_z, ◌∙◌, arith}
+use Rattle.std.proofs.Common.{◌≡◌, ℕ, ℤ, List, true, pos, ◌+ℤ◌, to_z, of_z, cond, eqb, ap, ◌∙◌, arith}
 use Rattle.std.specs.Int.{w128}
 use Rattle.std.proofs.lemmas.Int.{ints}
 use Rattle.std.proofs.lemmas.List.{get_or_read}
+use Rattle.hu_totals.specs.Cells.{among}
 use Rattle.hu_list.specs.Slots.{at}
 use Rattle.hu_list.proofs.SlotLemmas.{at-set, at-push, at-place, at-absent, changed_at}
-use Rattle.hu_list.proofs.gains.add_gain.Goals as goal
+use Rattle.hu_list.proofs.gains.add_kept.Goals as goal
+
+-- a kept rank has a share more
+changed_kept : (kept : List ℕ) (f : ℕ → ℤ) (share : ℤ) (rank : ℕ) (v : ℤ) → true ≡ among rank kept → v ≡ f rank +ℤ share → (z : ℕ)
+    → cond (eqb z rank) v (f z) ≡ cond (eqb z rank) (cond (among rank kept) (f z +ℤ share) (f z)) (f z)
+changed_kept kept f share rank v is worth z =
+    changed_at f (λ sum. cond (among rank kept) (sum +ℤ share) sum) rank v
+    (worth ∙ ap (λ b. cond b (f rank +ℤ share) (f rank)) is) z
 
 pub overflow_add-index_mut : goal.overflow_add-index_mut
 overflow_add-index_mut c =
@@ -27,7 +35,7 @@ returns-in-Some-clause-gains c z =
     let v = to_z w128 (of_z w128 (to_z w128 (of_z w128 c.index_mut.result.now) +ℤ to_z w128 (of_z w128 c.args.share))) in
     let worth : v ≡ at (pos 0) ranks gains c.args.rank +ℤ c.args.share = omega (arith, ints, here, read, c.requires.fits) in
     at-set (pos 0) ranks gains c.args.rank c.in-Some.slot v place (omega (arith, low, c.requires.len)) z
-    ∙ changed_at (at (pos 0) ranks gains) (λ sum. sum +ℤ c.args.share) c.args.rank v worth z
+    ∙ changed_kept c.args.kept.now.ranks (at (pos 0) ranks gains) c.args.share c.args.rank v c.if-not-has.ensures worth z
 
 pub returns-in_ok-push-in-None-2-clause-gains : goal.returns-in_ok-push-in-None-2-clause-gains
 returns-in_ok-push-in-None-2-clause-gains c z =
@@ -39,4 +47,4 @@ returns-in_ok-push-in-None-2-clause-gains c z =
     let worth : v ≡ at (pos 0) ranks gains c.args.rank +ℤ c.args.share = omega (arith, ints, none, c.requires.fits) in
     (λ j. at (pos 0) (c.in_ok-push-in-None.ensures.ranks j) (c.in_ok-push-in-None-2.ensures.items j) z)
     ∙ at-push (pos 0) ranks gains c.args.rank v c.requires.len fresh z
-    ∙ changed_at (at (pos 0) ranks gains) (λ sum. sum +ℤ c.args.share) c.args.rank v worth z
+    ∙ changed_kept c.args.kept.now.ranks (at (pos 0) ranks gains) c.args.share c.args.rank v c.if-not-has.ensures worth z
