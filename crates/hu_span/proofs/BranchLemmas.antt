@@ -23,8 +23,9 @@ use Rattle.std.specs.declared.vec.Vec.{Vec}
 use Rattle.std.specs.declared.alloc.Global.{Global}
 use Rattle.hu_chain.specs.declared.chain.Growth.{Growth}
 use Rattle.hu_kind.proofs.lemmas.Members.{Contains-from_member, Member-append_left, Member-append_right, Member-from_contains}
-use Rattle.hu_span.specs.declared.mark.Mark.{Mark}
-use Rattle.hu_span.specs.Branch.{AreBranchesBy, AreCopies, Fall, HasPlaces, IsBranch, IsCopy, IsPushed}
+use Rattle.hu_kind.proofs.lemmas.Each.{each-append, each-push, each-weaker}
+use Rattle.hu_span.specs.declared.trail.Held.{Held}
+use Rattle.hu_span.specs.Branch.{AreBranchesBy, AreCopies, Fall, HasPlaces, IsBranch, IsCopy, IsPart, IsPushed}
 use Rattle.hu_span.specs.Child.{stepped, AreChildrenBy, ArePlaces, IsChild}
 use Rattle.hu_span.specs.Gather.{MayTake}
 use Rattle.hu_span.specs.Growing.{Records}
@@ -36,11 +37,32 @@ pub branch-of : (records : Records) (keep : ℕ → Bool) (pattern : List (List 
 branch-of records keep pattern child branch is copy = record {
   may = subst (λ (s : Step). MayTake s.growth pattern s.item.0) (sym copy.step) is.may;
   kept = subst (λ (s : Step). keep s.item.0 ≡ true) (sym copy.step) is.kept;
-  places = subst (λ (s : Step). ArePlaces records (stepped pattern s) s.item.0 branch.marks.items) (sym copy.step) copy.places;
+  places = subst (λ (s : Step). ArePlaces records (stepped pattern s) s.item.0 branch.held.marks.items) (sym copy.step) copy.places;
   occurs = subst (λ (s : Step). 0 < sequence_support records (stepped pattern s)) (sym copy.step) is.occurs;
   bound = λ other from. subst (λ b. sequence_utility records other ≤ℤ b) (sym copy.bound)
       (is.bound other (subst (λ (s : Step). IsGrownFrom (stepped pattern s) other) copy.step from));
 }
+
+-- the marks of each are those of an item
+pub parts-next : (held : Held) (kept new : List Branch) (child : Child) (is_kept : Bool) → AllByRecursion (IsPart held) kept
+    → IsPushed is_kept held kept new child → AllByRecursion (IsPart held) new
+parts-next held kept new child true all pushed =
+    let made = pushed.2 in
+    subst (AllByRecursion (IsPart held)) (sym pushed.1) (each-push (IsPart held) kept pushed.0 all (record {
+      item = child.step.item.0;
+      marks = made.marks;
+      spans = made.spans;
+    }))
+parts-next held kept new child false all pushed = subst (AllByRecursion (IsPart held)) (sym pushed) all
+
+-- and stay so in another order
+pub parts-among : (into after : Held) (kept later sorted : List Branch) (branch : Branch) → AllByRecursion (IsPart into) kept
+    → AllByRecursion (IsPart after) later → IsPermutation (kept ++ later) sorted → Contains sorted branch → IsPart into branch ⊎ IsPart after branch
+parts-among into after kept later sorted branch one two same among =
+    let P : Branch → Type 0 = λ b. IsPart into b ⊎ IsPart after b in
+    let all = each-append P kept later (each-weaker (IsPart into) P kept (λ b is. inl is) one) (each-weaker (IsPart after) P later (λ b is. inr is) two) in
+    let here = Contains-permutation sorted (kept ++ later) branch (IsPermutation-sym (kept ++ later) sorted same) among in
+    at_member P branch (kept ++ later) all (Member-from_contains branch (kept ++ later) here)
 
 -- ---- branches, child by child
 
@@ -48,15 +70,16 @@ module _ (records : Records) (pattern : List (List ℕ)) where
   pub copies-none : (floor : ℤ) → AreCopies records pattern floor [] []
   copies-none floor = record { each = λ branch c. absurd (empty-contains branch c); all = λ child c. absurd (empty-contains child c) }
 
-  pub copies-next : (floor : ℤ) (marks : List Mark) (children : List Child) (kept new : List Branch) (i : ℕ) (d : Child) (is_kept : Bool)
+  pub copies-next : (floor : ℤ) (held : Held) (children : List Child) (kept new : List Branch) (i : ℕ) (d : Child) (is_kept : Bool)
       → i < length children → AreCopies records pattern floor (take i children) kept → is_kept ≡ int_le floor (get_or children i d).bound
-      → HasPlaces records pattern marks (get_or children i d)
-      → IsPushed is_kept marks kept new (get_or children i d) → AreCopies records pattern floor (take (i + 1) children) new
-  copies-next floor marks children kept new i d true within so_far reaches places pushed =
+      → HasPlaces records pattern held.marks.items (get_or children i d)
+      → IsPushed is_kept held kept new (get_or children i d) → AreCopies records pattern floor (take (i + 1) children) new
+  copies-next floor held children kept new i d true within so_far reaches places pushed =
+      let made = pushed.2 in
       let copy : IsCopy records pattern (get_or children i d) pushed.0 = record {
-        step = pushed.2;
-        places = subst (ArePlaces records (stepped pattern (get_or children i d).step) (get_or children i d).step.item.0) (sym pushed.3) places;
-        bound = pushed.4;
+        step = made.step;
+        places = subst (ArePlaces records (stepped pattern (get_or children i d).step) (get_or children i d).step.item.0) (sym made.marks) places;
+        bound = made.bound;
       } in
       record {
         each = λ branch c. elim (Contains-push_cases kept pushed.0 branch (subst (λ bs. Contains bs branch) pushed.1 c)) [
@@ -79,7 +102,7 @@ module _ (records : Records) (pattern : List (List ℕ)) where
           })
         ];
       }
-  copies-next floor marks children kept new i d false within so_far reaches places pushed = record {
+  copies-next floor held children kept new i d false within so_far reaches places pushed = record {
     each = λ branch c.
         let from = so_far.each branch (subst (λ bs. Contains bs branch) pushed c) in
         (from.0, contains-before children i d within from.0 from.1, from.2);

@@ -22,4 +22,10 @@ mod ChildLemmas
 mod FamilyLemmas
 mod WalkLemmas
 mod RowsLemmas
+mod TrailLemmas
+mod SpanLemmas
+mod TurnLemmas
+mod ThinLemmas
+mod GrownLemmas
+mod BeginLemmas
 mod ScanLemmas

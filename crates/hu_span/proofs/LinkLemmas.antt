@@ -2,11 +2,12 @@
 use Rattle.std.proofs.Common.{◌≡◌, ◌≢◌, ℕ, zero, suc, ◌+◌, ◌-◌, ◌<◌, ◌≤◌, Bool, true, false, cond, eqb, List, [], ◌∷◌, ◌++◌, length, get_or, take, reverse}
 use Rattle.std.proofs.Common.{◌%◌, ltb, set, replicate, refl, sym, ap, ◌∙◌, subst, arith, inl, inr, ◌⊎◌, length-append, append_assoc}
 use Rattle.std.proofs.lemmas.Bool.{eq-eqb, ne_eqb, cases_eq, ltb-true, ltb-false}
-use Rattle.std.proofs.lemmas.List.{append-nil, length-map, length-set, map-append, get_or-map, get_or-set_same, get_or-set_other, get_or_append_left, reverse-append, take_all}
+use Rattle.std.proofs.lemmas.List.{append-nil, length-map, length-set, map-append, get_or-map, get_or-set_same, get_or-set_other, get_or_append_left}
+use Rattle.std.proofs.lemmas.List.{reverse-append, take_all}
 use Rattle.hu_span.specs.declared.mark.Mark.{Mark}
 use Rattle.hu_span.specs.declared.links.Links.{Links}
 use Rattle.hu_span.specs.declared.links.Numbers.{Numbers}
-use Rattle.hu_span.specs.Links.{at, buckets, keys_of, AreLinked, AreLinks, AreNumbers, IsAbsent, IsBack, IsNumber}
+use Rattle.hu_span.specs.Links.{at, buckets, keys_of, picked, AreLinked, AreLinks, AreNumbers, IsAbsent, IsBack, IsNumber}
 use Rattle.hu_span.specs.Mark.{marks_with}
 
 -- ---- a key more
@@ -74,81 +75,92 @@ linked-more keys olders key upto linked back = record {
   ];
 }
 
--- ---- marks of an item
+-- ---- what stands beside a key
 
-skipped : (item : ℕ) (marks : List Mark) (upto top : ℕ) → upto ≤ top → ((later : ℕ) → upto ≤ later → later < top → at (keys_of marks) later ≢ item)
-    → top ≤ length marks → marks_with item (take top marks) ≡ marks_with item (take upto marks)
-skipped item marks zero zero low none inside = refl
-skipped item marks (suc upto) zero low none inside = absurd (omega arith)
-skipped item [] upto (suc top) low none inside = absurd (omega arith)
-skipped item (mark ∷ marks) zero (suc top) low none inside =
-    let other : eqb item mark.item.0 ≡ false = ne_eqb item mark.item.0 (λ e. none 0 (omega arith) (omega arith) (sym e)) in
-    ap (λ b. cond b (mark ∷ marks_with item (take top marks)) (marks_with item (take top marks))) other
-    ∙ skipped item marks zero top (omega arith) (λ later l h. none (suc later) (omega arith) (omega arith)) (omega arith)
-skipped item (mark ∷ marks) (suc upto) (suc top) low none inside =
-    let rest = skipped item marks upto top (omega arith) (λ later l h. none (suc later) (omega arith) (omega arith)) (omega arith) in
-    ap (λ ms. cond (eqb item mark.item.0) (mark ∷ ms) ms) rest
+module _ {A : Type 0} (item : ℕ) where
+  skipped : (keys : List ℕ) (xs : List A) (upto top : ℕ) → upto ≤ top → ((later : ℕ) → upto ≤ later → later < top → at keys later ≢ item)
+      → top ≤ length keys → picked item (take top keys) (take top xs) ≡ picked item (take upto keys) (take upto xs)
+  skipped keys xs zero zero low none inside = refl
+  skipped keys xs (suc upto) zero low none inside = absurd (omega arith)
+  skipped [] xs upto (suc top) low none inside = absurd (omega arith)
+  skipped (key ∷ keys) [] zero (suc top) low none inside = refl
+  skipped (key ∷ keys) [] (suc upto) (suc top) low none inside = refl
+  skipped (key ∷ keys) (x ∷ xs) zero (suc top) low none inside =
+      let other : eqb item key ≡ false = ne_eqb item key (λ e. none 0 (omega arith) (omega arith) (sym e)) in
+      let rest = picked item (take top keys) (take top xs) in
+      ap (λ b. cond b (x ∷ rest) rest) other
+      ∙ skipped keys xs zero top (omega arith) (λ later l h. none (suc later) (omega arith) (omega arith)) (omega arith)
+  skipped (key ∷ keys) (x ∷ xs) (suc upto) (suc top) low none inside =
+      let rest = skipped keys xs upto top (omega arith) (λ later l h. none (suc later) (omega arith) (omega arith)) (omega arith) in
+      ap (λ ys. cond (eqb item key) (x ∷ ys) ys) rest
 
--- the marks of an item up to a place of it are those in front of it, and its mark
-back-with : (item : ℕ) (marks : List Mark) (place : ℕ) → place < length marks → at (keys_of marks) place ≡ item → (d : Mark)
-    → marks_with item (take (suc place) marks) ≡ marks_with item (take place marks) ++ get_or marks place d ∷ []
-back-with item [] place inside here d = absurd (omega (arith, inside))
-back-with item (mark ∷ marks) zero inside here d =
-    let same : eqb item mark.item.0 ≡ true = eq-eqb item mark.item.0 (sym here) in
-    ap (λ b. cond b (mark ∷ []) []) same
-back-with item (mark ∷ marks) (suc place) inside here d =
-    let rest = back-with item marks place (omega arith) here d in
-    ap (λ ms. cond (eqb item mark.item.0) (mark ∷ ms) ms) rest ∙ out (eqb item mark.item.0)
-  where
-    out : (b : Bool) → cond b (mark ∷ marks_with item (take place marks) ++ get_or marks place d ∷ []) (marks_with item
-        (take place marks) ++ get_or marks place d ∷ [])
-        ≡ cond b (mark ∷ marks_with item (take place marks)) (marks_with item (take place marks)) ++ get_or marks place d ∷ []
-    out true = refl
-    out false = refl
+  -- what stands beside a key up to a place of it is what stands so in front of it, and its value
+  back-with : (keys : List ℕ) (xs : List A) (place : ℕ) → place < length keys → length xs ≡ length keys → at keys place ≡ item → (d : A)
+      → picked item (take (suc place) keys) (take (suc place) xs) ≡ picked item (take place keys) (take place xs) ++ get_or xs place d ∷ []
+  back-with [] xs place inside size here d = absurd (omega (arith, inside))
+  back-with (key ∷ keys) [] place inside size here d = absurd (omega (arith, size))
+  back-with (key ∷ keys) (x ∷ xs) zero inside size here d =
+      let same : eqb item key ≡ true = eq-eqb item key (sym here) in
+      ap (λ b. cond b (x ∷ []) []) same
+  back-with (key ∷ keys) (x ∷ xs) (suc place) inside size here d =
+      let rest = back-with keys xs place (omega arith) (omega (arith, size)) here d in
+      ap (λ ys. cond (eqb item key) (x ∷ ys) ys) rest ∙ out (eqb item key)
+    where
+      out : (b : Bool) → cond b (x ∷ picked item (take place keys) (take place xs) ++ get_or xs place d ∷ [])
+          (picked item (take place keys) (take place xs) ++ get_or xs place d ∷ [])
+          ≡ cond b (x ∷ picked item (take place keys) (take place xs)) (picked item (take place keys) (take place xs)) ++ get_or xs place d ∷ []
+      out true = refl
+      out false = refl
 
--- marks of an item are left in front of a place, and the others were collected from the last one back
-pub record IsCollected (item : ℕ) (marks : List Mark) (upto : ℕ) (own : List Mark) : Type 0 where
-  pub top : ℕ
-  pub inside : top ≤ length marks
-  pub back : IsBack (keys_of marks) item upto top
-  pub whole : marks_with item (take top marks) ++ reverse own ≡ marks_with item marks
+  -- values beside a key are left in front of a place, and the others were collected from the last one back
+  pub record IsCollected (keys : List ℕ) (xs : List A) (upto : ℕ) (own : List A) : Type 0 where
+    pub top : ℕ
+    pub inside : top ≤ length keys
+    pub back : IsBack keys item upto top
+    pub whole : picked item (take top keys) (take top xs) ++ reverse own ≡ picked item keys xs
 
-module _ (item : ℕ) (marks : List Mark) where
-  pub collected-none : (upto : ℕ) → IsBack (keys_of marks) item upto (length marks) → (own : List Mark) → own ≡ [] → IsCollected item marks upto own
-  collected-none upto back own none = record {
-    top = length marks;
-    inside = omega arith;
-    back = back;
-    whole = ap (λ ms. marks_with item (take (length marks) marks) ++ reverse ms) none ∙ append-nil (marks_with item (take (length marks) marks))
-        ∙ ap (marks_with item) (take_all (length marks) marks (omega arith));
-  }
+  module _ (keys : List ℕ) (xs : List A) (same_size : length xs ≡ length keys) where
+    pub collected-none : (upto : ℕ) → IsBack keys item upto (length keys) → (own : List A) → own ≡ [] → IsCollected keys xs upto own
+    collected-none upto back own none = record {
+      top = length keys;
+      inside = omega arith;
+      back = back;
+      whole = ap (λ ys. picked item (take (length keys) keys) (take (length keys) xs) ++ reverse ys) none
+          ∙ append-nil (picked item (take (length keys) keys) (take (length keys) xs))
+          ∙ (λ j. picked item (take_all (length keys) keys (omega arith) j) (take_all (length keys) xs (omega (arith, same_size)) j));
+    }
 
-  pub collected-next : (upto : ℕ) (own new : List Mark) (olders : List ℕ) → IsCollected item marks upto own → 0 < upto → (d : Mark)
-      → AreLinked (keys_of marks) olders → new ≡ own ++ get_or marks (upto - 1) d ∷ [] → IsCollected item marks (at olders (upto - 1)) new
-  collected-next upto own new olders is some d linked pushed =
-      let back = is.back in
-      let size = length-map marks (λ (m : Mark). m.item.0) in
-      let place : upto - 1 < length (keys_of marks) = omega (arith, some, back.within, is.inside, size) in
-      let here = back.here some in
-      let next = linked.each (upto - 1) place in
-      let skip = skipped item marks upto is.top back.within back.none is.inside in
-      let one = get_or marks (upto - 1) d in
-      let next_up : upto ≡ suc (upto - 1) = omega (arith, some) in
-      let split = ap (λ k. marks_with item (take k marks)) next_up ∙ back-with item marks (upto - 1) (omega (arith, place, size)) here d in
-      record {
-        top = upto - 1;
-        inside = omega (arith, place, size);
-        back = subst (λ k. IsBack (keys_of marks) k (at olders (upto - 1)) (upto - 1)) here next;
-        whole = ap (λ ms. marks_with item (take (upto - 1) marks) ++ reverse ms) pushed
-            ∙ ap (λ ms. marks_with item (take (upto - 1) marks) ++ ms) (reverse-append own (one ∷ []))
-            ∙ sym (append_assoc (marks_with item (take (upto - 1) marks)) (one ∷ []) (reverse own))
-            ∙ ap (λ ms. ms ++ reverse own) (sym (skip ∙ split)) ∙ is.whole;
-      }
+    pub collected-next : (upto : ℕ) (own new : List A) (olders : List ℕ) → IsCollected keys xs upto own → 0 < upto → (d : A)
+        → AreLinked keys olders → new ≡ own ++ get_or xs (upto - 1) d ∷ [] → IsCollected keys xs (at olders (upto - 1)) new
+    collected-next upto own new olders is some d linked pushed =
+        let back = is.back in
+        let place : upto - 1 < length keys = omega (arith, some, back.within, is.inside) in
+        let here = back.here some in
+        let next = linked.each (upto - 1) place in
+        let skip = skipped keys xs upto is.top back.within back.none is.inside in
+        let one = get_or xs (upto - 1) d in
+        let next_up : upto ≡ suc (upto - 1) = omega (arith, some) in
+        let split = ap (λ k. picked item (take k keys) (take k xs)) next_up ∙ back-with keys xs (upto - 1) place same_size here d in
+        let front = picked item (take (upto - 1) keys) (take (upto - 1) xs) in
+        record {
+          top = upto - 1;
+          inside = omega (arith, place);
+          back = subst (λ k. IsBack keys k (at olders (upto - 1)) (upto - 1)) here next;
+          whole = ap (λ ys. front ++ reverse ys) pushed
+              ∙ ap (λ ys. front ++ ys) (reverse-append own (one ∷ []))
+              ∙ sym (append_assoc front (one ∷ []) (reverse own))
+              ∙ ap (λ ys. ys ++ reverse own) (sym (skip ∙ split)) ∙ is.whole;
+        }
 
-  pub collected-all : (own : List Mark) → IsCollected item marks 0 own → reverse own ≡ marks_with item marks
-  collected-all own is =
-      let back = is.back in
-      ap (λ ms. ms ++ reverse own) (sym (skipped item marks 0 is.top back.within back.none is.inside)) ∙ is.whole
+    pub collected-all : (own : List A) → IsCollected keys xs 0 own → reverse own ≡ picked item keys xs
+    collected-all own is =
+        let back = is.back in
+        ap (λ ys. ys ++ reverse own) (sym (skipped keys xs 0 is.top back.within back.none is.inside)) ∙ is.whole
+
+-- marks beside their own items are those of an item
+pub marks-picked : (item : ℕ) (marks : List Mark) → picked item (keys_of marks) marks ≡ marks_with item marks
+marks-picked item [] = refl
+marks-picked item (mark ∷ marks) = ap (λ ms. cond (eqb item mark.item.0) (mark ∷ ms) ms) (marks-picked item marks)
 
 -- ---- an item among those of its remainder
 

@@ -9,7 +9,9 @@ use Rattle.hu_span.specs.Branch.{IsBranch}
 use Rattle.hu_kind.specs.declared.item.Item.{Item}
 use Rattle.hu_chain.specs.declared.chain.Growth.TheVariants.{IntoLast, AfterLast}
 use Rattle.hu_span.specs.declared.gather.Grown.{Grown}
-use Rattle.hu_span.specs.declared.mark.Mark.{Mark}
+use Rattle.hu_span.specs.declared.trail.Held.{Held}
+use Rattle.hu_span.specs.declared.trail.TrailCell.{TrailCell}
+use Rattle.hu_span.specs.Trail.{AreHeld, AreSpans}
 use Rattle.hu_span.specs.Child.{stepped, AreGathered, ArePlaces}
 use Rattle.hu_span.specs.Gather.{AreGrown}
 use Rattle.hu_collect.specs.State.{State, IsInOrder, Reached, ReachedSome}
@@ -30,7 +32,7 @@ pub record IsNode (records : Records) (keep : ℕ → Bool) (steps pushed : List
   pub are : AreRecords records
   pub reached : IsReached (pattern_of pushed)
   pub own : AreKept keep (pattern_of pushed)
-  pub places : ArePlaces records (pattern_of pushed) (last_item (pattern_of pushed)) branch.marks.items
+  pub places : ArePlaces records (pattern_of pushed) (last_item (pattern_of pushed)) branch.held.marks.items
   pub nearer : 2 * (4097 - length pushed) + 1 < 2 * (4097 - length steps)
 
 pub node : {keep : ℕ → Bool} {records : Records} {steps pushed : List Step} {branch : Branch} → AreRecords records → IsBegun (pattern_of steps)
@@ -51,13 +53,20 @@ node {keep} {records} {steps} {pushed} {branch} rules begun own is to =
       are = are;
       reached = reached;
       own = subst (AreKept keep) (sym same) (grown-kept keep step.growth p step.item.0 own is.kept);
-      places = subst (λ r. ArePlaces rs r (last_item r) branch.marks.items) (sym same)
-          (subst (λ i. ArePlaces rs q i branch.marks.items) (sym (last_item-grown step.growth p step.item.0)) is.places);
+      places = subst (λ r. ArePlaces rs r (last_item r) branch.held.marks.items) (sym same)
+          (subst (λ i. ArePlaces rs q i branch.held.marks.items) (sym (last_item-grown step.growth p step.item.0)) is.places);
       nearer = omega (arith, long, few);
     }
 
+-- its places, with the cells behind each
+pub node-held : (records : Records) (kept : Bool × List Item) (steps pushed : List Step) (branch : Branch) (trail : List TrailCell) → AreRecords records
+    → IsNode (weighed_of (keeps kept) records) (keeps kept) steps pushed branch
+    → AreSpans (keeps kept) records trail branch.held.marks.items branch.held.spans.items
+    → AreHeld (keeps kept) records trail (pattern_of pushed) branch.held
+node-held records kept steps pushed branch trail are n spans = record { are = are; reached = n.reached; places = n.places; spans = spans }
+
 pub gathered-of : {records : Records} {keep : ℕ → Bool} {pattern : List (List ℕ)} {grown : Grown} → AreRecords records → IsReached pattern
-    → AreGrown records keep pattern IntoLast grown.into.items → AreGrown records keep pattern AfterLast grown.after.items
+    → AreGrown records keep pattern IntoLast grown.into.marks.items → AreGrown records keep pattern AfterLast grown.after.marks.items
     → AreGathered records keep pattern grown
 gathered-of are reached into after = record {
   into = record { are = are; begun = inr reached; grown = into };
@@ -65,8 +74,8 @@ gathered-of are reached into after = record {
 }
 
 -- where fewer items count
-module _ (records : Records) (kept fewer : Bool × List Item) (found : Option (Bool × List Item)) (marks : List Mark) (pattern : List (List ℕ))
-    (is : CanGather records kept found marks pattern) (some : found ≡ Some fewer) where
+module _ (records : Records) (kept fewer : Bool × List Item) (found : Option (Bool × List Item)) (trail : List TrailCell) (held : Held)
+    (pattern : List (List ℕ)) (is : CanGather records kept found trail held pattern) (some : found ≡ Some fewer) where
   pub fewer-still : AreKept (keeps fewer) pattern
   fewer-still = subst (λ f. AreKept (keeps (counting f kept)) pattern) some is.still
 
@@ -109,15 +118,14 @@ module _ {old mid : State} (records : Records) (kept fewer : Bool × List Item) 
       narrowed.enough n.reached made))
 
 pub can-gather : {old mid : State} (records : Records) (kept : Bool × List Item) (steps pushed : List Step) (branch : Branch)
-    (fewer : Option (Bool × List Item)) (seen : List Mark) → IsNode (weighed_of (keeps kept) records) (keeps kept) steps pushed branch
+    (fewer : Option (Bool × List Item)) (trail : List TrailCell) → AreRecords records
+    → IsNode (weighed_of (keeps kept) records) (keeps kept) steps pushed branch
+    → AreSpans (keeps kept) records trail branch.held.marks.items branch.held.spans.items
     → IsNarrowed old mid (weighed_of (keeps kept) records) (keeps kept) (pattern_of pushed) (counting fewer kept)
-    → seen ≡ branch.marks.items → CanGather records kept fewer seen (pattern_of pushed)
-can-gather records kept steps pushed branch fewer seen n is same =
-    let q = pattern_of pushed in
-    record {
-      reached = n.reached;
-      places = subst (ArePlaces (weighed_of (keeps kept) records) q (last_item q)) (sym same) n.places;
-      own = n.own;
-      still = is.own;
-      less = is.fewer;
-    }
+    → CanGather records kept fewer trail branch.held (pattern_of pushed)
+can-gather records kept steps pushed branch fewer trail are n spans is = record {
+  are = node-held records kept steps pushed branch trail are n spans;
+  own = n.own;
+  still = is.own;
+  less = is.fewer;
+}

@@ -1,32 +1,25 @@
 -- The places of a pattern where fewer items count: they are the same, with other rests.
-use Rattle.std.proofs.Common.{◌≡◌, ℕ, zero, suc, ◌<◌, ◌^◌, Bool, true, cond, eqb, ℤ, pos, ◌+ℤ◌, ◌≤ℤ◌, ◌<ℤ◌, drop, Option, None, Some, option_map, option_to_list, List}
-use Rattle.std.proofs.Common.{[], ◌∷◌, ◌++◌, map, length, take, reverse, get_or, refl, sym, ap, ◌∙◌, subst, arith, append_assoc, length-append}
+use Rattle.std.proofs.Common.{◌≡◌, ℕ, suc, Bool, true, cond, eqb, ℤ, pos, ◌+ℤ◌, ◌≤ℤ◌, Option, None, Some, option_map, option_to_list, List}
+use Rattle.std.proofs.Common.{[], ◌∷◌, ◌++◌, map, length, take, refl, sym, ap, ◌∙◌, subst, arith, append_assoc, length-append}
 use Rattle.std.specs.List.{AllByRecursion}
 use Rattle.std.proofs.lemmas.Int.{ints}
-use Rattle.std.proofs.lemmas.List.{append-nil, length-map, map-append, reverse-append, take-map}
-use Rattle.hu_kind.specs.Record.{holds, total, values_of}
+use Rattle.std.proofs.lemmas.List.{length-map, map-append, take-map}
+use Rattle.hu_kind.specs.Record.{holds, values_of}
 use Rattle.hu_kind.specs.Sequence.{best_utility, IsSequence}
 use Rattle.hu_chain.specs.declared.place.Place.{Place}
 use Rattle.hu_chain.specs.Bound.{IsFit}
 use Rattle.hu_chain.specs.Pattern.{earlier, last_item, last_itemset}
-use Rattle.hu_chain.specs.Place.{best_at, cell_of, chain_of, element_at, place_at, places_from, rest_at, totals}
-use Rattle.hu_chain.proofs.lemmas.Cells.{total-above, IsAbove}
-use Rattle.hu_chain.specs.Search.{IsPlaceOf}
+use Rattle.hu_chain.specs.Place.{best_at, cell_of, chain_of, element_at, place_at, places_from, rest_at}
+use Rattle.hu_chain.proofs.lemmas.Cells.{total-above}
 use Rattle.hu_span.specs.declared.mark.Mark.{Mark}
-use Rattle.hu_span.specs.declared.rests.Behind.{Behind}
-use Rattle.hu_span.specs.Rests.{IsBehind, IsKnown}
 use Rattle.hu_span.specs.Child.{ArePlaces}
-use Rattle.hu_span.specs.Gather.{cells_after, IsInside}
+use Rattle.hu_span.specs.Gather.{cells_after}
 use Rattle.hu_span.specs.Growing.{IsReached, Records}
 use Rattle.hu_span.specs.Kept.{weighed, weighed_in, weighed_of, AreKept}
 use Rattle.hu_span.specs.Mark.{mark_at, marks_from, marks_of, places_of, record_at, IsMark}
-use Rattle.std.proofs.Common.{to_z, of_z}
-use Rattle.std.specs.Int.{w128}
-use Rattle.hu_span.proofs.NumberLemmas.{kept-z}
 use Rattle.hu_span.proofs.ChildLemmas.{each-place}
 use Rattle.hu_span.proofs.ReachLemmas.{Ends-reached}
-use Rattle.hu_span.proofs.WalkLemmas.{after-above, after-of, inside-of, inside-weighed, low-later, rest-fits}
-use Rattle.hu_kind.proofs.lemmas.Each.{each-left, each-right}
+use Rattle.hu_span.proofs.WalkLemmas.{after-above, low-later, rule-at}
 use Rattle.hu_span.proofs.WeighedLemmas.{rest-less, weighed-best, weighed-element, weighed-holds, weighed-record, weighed-sequence, weighed-values}
 
 -- a place with the rest of other elements
@@ -35,11 +28,6 @@ with_rest elements place = record { element = place.element; cell = place.cell; 
 
 abbrev pub rested_mark : Records → Mark → Mark
 rested_mark records mark = record { item = mark.item; row = mark.row; place = with_rest (record_at records mark.row) mark.place }
-
--- what is known is so of its row
-abbrev pub KnownIn : Records → (ℕ → Bool) → Option Behind → Type 0
-KnownIn records fewer None = Unit {0}
-KnownIn records fewer (Some behind) = IsBehind fewer (record_at records behind.row) behind
 
 -- ---- the itemsets of a pattern
 
@@ -164,11 +152,6 @@ module _ (keep fewer : ℕ → Bool) (pattern : List (List ℕ)) (kept : AreKept
       let best = is.fit.best in
       let high = is.fit.reach in
       record { best = best; rest = omega (arith, ints, now, low); reach = omega (arith, ints, was, now, lower, high) }
-    where
-      rule-at : (rs : Records) (k : ℕ) → AllByRecursion IsSequence rs → k < length rs → IsSequence (record_at rs k)
-      rule-at [] k all within = absurd (omega arith)
-      rule-at (x ∷ rs) zero all within = all.0
-      rule-at (x ∷ rs) (suc k) all within = rule-at rs k all.1 (omega arith)
 
   fits-rested : (records : Records) → AllByRecursion IsSequence records → ((item : ℕ) → fewer item ≡ true → keep item ≡ true) → (item : ℕ) (marks : List Mark)
       → AllByRecursion (IsMark (weighed_of keep records) item) marks → AllByRecursion IsFit (places_of (map (rested_mark (weighed_of fewer records)) marks))
@@ -184,135 +167,3 @@ module _ (keep fewer : ℕ → Bool) (pattern : List (List ℕ)) (kept : AreKept
       let is : map (rested_mark new) marks ≡ marks_of new pattern item = ap (map (rested_mark new)) places.is ∙ marks-rested item [] records in
       let fit = subst (λ ms. AllByRecursion IsFit (places_of ms)) is (fits-rested records rules less item marks places.each) in
       record { is = is; each = subst (AllByRecursion (IsMark new item)) (sym is) (each-place new pattern item (Ends-reached pattern reached) refl fit) }
-
--- ---- marks, from the last one back
-
--- the last of the marks have other rests, and what is known stands behind one of them
-pub record AreRested (records : Records) (fewer : ℕ → Bool) (marks left rested : List Mark) (known : Option Behind) : Type 0 where
-  pub parts : (later : List Mark) × (marks ≡ left ++ later)
-  pub done : map (rested_mark (weighed_of fewer records)) left ++ reverse rested ≡ map (rested_mark (weighed_of fewer records)) marks
-  pub knows : KnownIn records fewer known
-
-module _ (records : Records) (fewer : ℕ → Bool) (marks : List Mark) where
-  pub rested-none : AreRested records fewer marks marks [] None
-  rested-none = record { parts = ([], sym (append-nil marks)); done = append-nil (map (rested_mark (weighed_of fewer records)) marks); knows = tt }
-
-  pub rested-all : (rested : List Mark) (known : Option Behind) → AreRested records fewer marks [] rested known
-      → reverse rested ≡ map (rested_mark (weighed_of fewer records)) marks
-  rested-all rested known is = is.done
-
-  module _ (left before rested : List Mark) (mark : Mark) (known : Option Behind) (is : AreRested records fewer marks left rested known)
-      (last : left ≡ before ++ mark ∷ []) where
-    pub rested-here : (P : Mark → Type 0) → AllByRecursion P marks → P mark
-    rested-here P all =
-        let parts = is.parts in
-        let front = each-left P left parts.0 (subst (AllByRecursion P) parts.1 all) in
-        (each-right P before (mark ∷ []) (subst (AllByRecursion P) last front)).0
-
-    pub rested-next : (new : List Mark) (one : Mark) (next : Option Behind) → new ≡ rested ++ one ∷ []
-        → one ≡ rested_mark (weighed_of fewer records) mark → KnownIn records fewer next → AreRested records fewer marks before new next
-    rested-next new one next pushed made knows =
-        let f = rested_mark (weighed_of fewer records) in
-        let parts = is.parts in
-        record {
-          parts = (mark ∷ parts.0, parts.1 ∙ ap (λ ms. ms ++ parts.0) last ∙ append_assoc before (mark ∷ []) parts.0);
-          done = ap (λ ms. map f before ++ reverse ms) pushed ∙ ap (λ ms. map f before ++ ms) (reverse-append rested (one ∷ []))
-              ∙ ap (λ m. map f before ++ m ∷ reverse rested) made
-              ∙ sym (append_assoc (map f before) (f mark ∷ []) (reverse rested))
-              ∙ ap (λ ms. ms ++ reverse rested) (sym (map-append f before (mark ∷ [])) ∙ sym (ap (map f) last)) ∙ is.done;
-          knows = knows;
-        }
-
-    pub rested-known : (elements : List (List (ℕ × ℤ))) → elements ≡ record_at records mark.row → IsKnown fewer elements mark.row known
-    rested-known elements same = by known is.knows
-      where
-        by : (k : Option Behind) → KnownIn records fewer k → IsKnown fewer elements mark.row k
-        by None knows = tt
-        by (Some behind) knows = λ row. subst (λ es. IsBehind fewer es behind) (ap (record_at records) row ∙ sym same) knows
-
--- the two parts of a rest are not below 0, and their sum is not too large
-pub record AreParts (here later : ℤ) : Type 0 where
-  pub low : pos 0 ≤ℤ here
-  pub more : pos 0 ≤ℤ later
-  pub fits : (here +ℤ later) <ℤ pos (2 ^ 127)
-
-module _ (fewer : ℕ → Bool) (elements : List (List (ℕ × ℤ))) (place : Place) (rules : IsSequence elements) (inside : IsInside elements place)
-    (cells : List (ℕ × ℤ)) (are : cells ≡ cells_after elements place) where
-  pub parts-same : weighed fewer cells ≡ cells_after (weighed_in fewer elements) place
-  parts-same = after-of fewer elements place cells are
-
-  pub parts-above : AllByRecursion IsAbove (weighed fewer cells)
-  parts-above = subst (AllByRecursion IsAbove) (sym parts-same) (after-above (weighed_in fewer elements) (weighed-sequence fewer elements rules) place)
-
-  pub rest-parts : AreParts (total (weighed fewer cells)) (totals (drop (suc place.element) (weighed_in fewer elements)))
-  rest-parts =
-      let es = weighed_in fewer elements in
-      let rule = weighed-sequence fewer elements rules in
-      let same = ap total parts-same in
-      let fits = rest-fits es rule place (inside-weighed fewer elements place inside) in
-      let low = total-above (weighed fewer cells) parts-above in
-      let later = low-later es rule (suc place.element) in
-      record { low = low; more = later; fits = omega (arith, ints, same, fits) }
-
--- a mark and the elements of its row
-pub record IsTurn (records : Records) (keep : ℕ → Bool) (last : ℕ) (elements : List (List (ℕ × ℤ))) (mark : Mark) : Type 0 where
-  pub is : IsMark (weighed_of keep records) last mark
-  pub within : mark.row < length records
-  pub at : elements ≡ record_at records mark.row
-  pub inside : IsInside elements mark.place
-
-pub turn : (records : Records) (keep : ℕ → Bool) (last : ℕ) (elements d : List (List (ℕ × ℤ))) (mark : Mark)
-    → IsMark (weighed_of keep records) last mark → elements ≡ d → d ≡ get_or records mark.row d → IsTurn records keep last elements mark
-turn records keep last elements d mark is same found =
-    let size = length-map records (weighed_in keep) in
-    let within : mark.row < length records = omega (arith, size, is.within) in
-    let at = same ∙ found ∙ any records mark.row d [] within in
-    let seen = weighed-record keep records mark.row ∙ ap (weighed_in keep) (sym at) in
-    record {
-      is = is;
-      within = within;
-      at = at;
-      inside = inside-of keep elements last mark.place (subst (λ r. IsPlaceOf r last mark.place) seen is.place);
-    }
-  where
-    any : (rs : Records) (k : ℕ) (a b : List (List (ℕ × ℤ))) → k < length rs → get_or rs k a ≡ get_or rs k b
-    any [] k a b inside = absurd (omega arith)
-    any (r ∷ rs) zero a b inside = refl
-    any (r ∷ rs) (suc k) a b inside = any rs k a b (omega arith)
-
--- a turn of a walk back over marks
-pub rested-turn : {records : Records} {fewer keep : ℕ → Bool} {last : ℕ} {marks left rested : List Mark} {known : Option Behind}
-    {elements d : List (List (ℕ × ℤ))} (before : List Mark) (mark : Mark) → AreRested records fewer marks left rested known → left ≡ before ++ mark ∷ []
-    → AllByRecursion (IsMark (weighed_of keep records) last) marks → elements ≡ d → d ≡ get_or records mark.row d → IsTurn records keep last elements mark
-rested-turn {records} {fewer} {keep} {last} {marks} {left} {rested} {known} {elements} {d} before mark is last_is each same found =
-    turn records keep last elements d mark
-    (rested-here records fewer marks left before rested mark known is last_is (IsMark (weighed_of keep records) last) each) same found
-
--- what is left in a place's element and behind it are kept as numbers, and together they are the rest
-pub record IsRestSum (fewer : ℕ → Bool) (elements : List (List (ℕ × ℤ))) (place : Place) (here behind : ℤ) : Type 0 where
-  pub own : to_z w128 (of_z w128 here) ≡ here
-  pub other : to_z w128 (of_z w128 behind) ≡ behind
-  pub low : pos 0 ≤ℤ (here +ℤ behind)
-  pub fits : (here +ℤ behind) <ℤ pos (2 ^ 127)
-  pub rest : to_z w128 (of_z w128 (to_z w128 (of_z w128 here) +ℤ to_z w128 (of_z w128 behind)))
-      ≡ rest_at (weighed_in fewer elements) place.element place.cell
-
-pub rest-sum : (fewer : ℕ → Bool) (elements : List (List (ℕ × ℤ))) (place : Place) → IsSequence elements → IsInside elements place
-    → (cells : List (ℕ × ℤ)) → cells ≡ cells_after elements place → (here : ℤ) (behind : Behind) → here ≡ total (weighed fewer cells)
-    → IsBehind fewer elements behind → behind.first ≡ suc place.element → IsRestSum fewer elements place here behind.sum
-rest-sum fewer elements place rules inside cells after here behind is knows next =
-    let parts = rest-parts fewer elements place rules inside cells after in
-    let es = weighed_in fewer elements in
-    let sum = knows.sum ∙ ap (λ n. totals (drop n es)) next in
-    let a = kept-z here (omega (arith, ints, is, parts.low)) (omega (arith, ints, is, parts.more, parts.fits)) in
-    let b = kept-z behind.sum (omega (arith, ints, sum, parts.more)) (omega (arith, ints, sum, parts.low, parts.fits)) in
-    let both = kept-z (to_z w128 (of_z w128 here) +ℤ to_z w128 (of_z w128 behind.sum)) (omega (arith, ints, a, b, is, sum, parts.low, parts.more))
-    (omega (arith, ints, a, b, is, sum, parts.fits)) in
-    let same = ap total (parts-same fewer elements place rules inside cells after) in
-    record {
-      own = a;
-      other = b;
-      low = omega (arith, ints, is, sum, parts.low, parts.more);
-      fits = omega (arith, ints, is, sum, parts.fits);
-      rest = both ∙ (λ j. (a ∙ is ∙ same) j +ℤ (b ∙ sum) j);
-    }

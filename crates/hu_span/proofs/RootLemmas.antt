@@ -25,8 +25,8 @@ pub record IsRoot (records seen : Records) (keep : ℕ → Bool) (steps : List S
 
 pub root : {records seen : Records} (keep : ℕ → Bool) {steps : List Step} (grown : Grown) → seen ≡ records
     → ((item : ℕ) → keep item ≡ true) → sum_by (λ elements. sum_by absolute_of elements) records < 2 ^ 127
-    → AllByRecursion IsSequence seen → steps ≡ [] → grown.into.items ≡ []
-    → AreGrown (weighed_of keep seen) keep [] AfterLast grown.after.items → IsRoot records seen keep steps grown
+    → AllByRecursion IsSequence seen → steps ≡ [] → grown.into.marks.items ≡ []
+    → AreGrown (weighed_of keep seen) keep [] AfterLast grown.after.marks.items → IsRoot records seen keep steps grown
 root {records} {seen} keep {steps} grown same every fits rules none into after =
     let are : AreRecords records = record { rules = subst (AllByRecursion IsSequence) same rules; fits = fits } in
     let weighed = weighed-records keep seen (subst AreRecords (sym same) are) in

@@ -26,6 +26,7 @@ use Rattle.hu_span.specs.Growing.{IsReached, Records}
 use Rattle.hu_span.specs.Kept.{takes, weighed_in, weighed_of}
 use Rattle.hu_span.specs.Mark.{mark_at, marks_from, marks_of, marks_with, places_of, record_at, IsMark}
 use Rattle.hu_span.proofs.GatherLemmas.{first-found, first_from, grown-found, grown_from}
+use Rattle.hu_span.proofs.TrailLemmas.{chain-from, AreFrom}
 use Rattle.hu_span.proofs.WeighedLemmas.{weighed-record}
 use Rattle.hu_span.proofs.MarkLemmas.{each-filter, filter-append, taken-flat_map, taken-kept, taken-with}
 use Rattle.hu_span.proofs.ReachLemmas.{can-reached, may-reached, Ends-reached}
@@ -258,13 +259,6 @@ record_at-any [] k d within = absurd (omega arith)
 record_at-any (r ∷ rs) zero d within = refl
 record_at-any (r ∷ rs) (suc k) d within = record_at-any rs k d (omega arith)
 
--- the elements of a record where kept items count alone
-pub seen-row : (keep : ℕ → Bool) (records : Records) (row : ℕ) (elements d : List (List (ℕ × ℤ))) → row < length (weighed_of keep records) → elements ≡ d
-    → d ≡ get_or records row d → weighed_in keep elements ≡ record_at (weighed_of keep records) row
-seen-row keep records row elements d within is at =
-    let size = length-map records (weighed_in keep) in
-    ap (weighed_in keep) (is ∙ at ∙ record_at-any records row d (omega (arith, size, within))) ∙ sym (weighed-record keep records row)
-
 pub no-marks : (marks : List Mark) → length marks ≡ 0 → marks ≡ []
 no-marks [] none = refl
 no-marks (m ∷ ms) none = absurd (omega (arith, none))
@@ -314,14 +308,16 @@ module _ (records : Records) (keep : ℕ → Bool) (pattern : List (List ℕ)) (
   at_row : record_at (drop is.row records) here.skipped ≡ record_at records first.row
   at_row = record_at-drop is.row here.skipped records ∙ ap (record_at records) (sym here.row_is)
 
-  pub rows-within : first.row < length records
-  rows-within = let mark = is.each.0 in mark.within
-
   pub rows-places : Ends pattern → AllByRecursion (IsPlaceOf (record_at records first.row) (last_item pattern)) (places_of (first ∷ take n later))
   rows-places ends =
       let all = chain_of-rules pattern (record_at (drop is.row records) here.skipped) ends in
       let seen = subst (AllByRecursion (IsPlaceOf (record_at (drop is.row records) here.skipped) (last_item pattern))) (sym here.places) all in
       subst (λ r. AllByRecursion (IsPlaceOf r (last_item pattern)) (places_of (first ∷ take n later))) at_row seen
+
+  pub rows-from : AreFrom 0 (places_of (first ∷ take n later))
+  rows-from =
+      let elements = record_at (drop is.row records) here.skipped in
+      subst (AreFrom 0) (sym here.places) (chain-from pattern elements 0 elements)
 
   pub rows-fit : AllByRecursion IsFit (places_of (first ∷ take n later))
   rows-fit = fit-each records (last_item pattern) (first ∷ take n later) (is.each.0, each-take (IsMark records (last_item pattern)) n later is.each.1)

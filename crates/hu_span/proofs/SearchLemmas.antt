@@ -484,8 +484,8 @@ offered-turn {s = s} records steps seen children i d within ordered same first i
 
 -- ---- the first patterns
 
-pub first-gathered : (records : Records) (keep : ℕ → Bool) (grown : Grown) → AreRecords records → grown.into.items ≡ []
-    → AreGrown records keep [] AfterLast grown.after.items → AreGathered records keep [] grown
+pub first-gathered : (records : Records) (keep : ℕ → Bool) (grown : Grown) → AreRecords records → grown.into.marks.items ≡ []
+    → AreGrown records keep [] AfterLast grown.after.marks.items → AreGathered records keep [] grown
 first-gathered records keep grown are none after = record {
   into = record {
     are = are;

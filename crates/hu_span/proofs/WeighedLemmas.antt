@@ -204,7 +204,7 @@ module _ (keep : ℕ → Bool) (every : (item : ℕ) → keep item ≡ true) whe
   all-cells [] = refl
   all-cells (cell ∷ cells) = λ j. (cell.0, counted (every cell.0 j) cell.1) ∷ all-cells cells j
 
-  all-elements : (elements : List (List (ℕ × ℤ))) → weighed_in keep elements ≡ elements
+  pub all-elements : (elements : List (List (ℕ × ℤ))) → weighed_in keep elements ≡ elements
   all-elements [] = refl
   all-elements (cells ∷ elements) = λ j. all-cells cells j ∷ all-elements elements j
 

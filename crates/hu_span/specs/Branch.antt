@@ -11,6 +11,8 @@ use Rattle.hu_span.specs.Child.{stepped, AreChildrenBy, ArePlaces}
 use Rattle.hu_span.specs.Gather.{MayTake}
 use Rattle.hu_span.specs.Growing.{Records}
 use Rattle.hu_span.specs.Mark.{marks_with}
+use Rattle.hu_span.specs.declared.trail.Held.{Held}
+use Rattle.hu_span.specs.Links.{keys_of, picked}
 
 -- a branch of a pattern: a step by a kept item that the pattern may take, where what it makes occurs, with its places; no
 -- pattern earns more than its bound that grows from it
@@ -18,7 +20,7 @@ pub record IsBranch (records : Records) (keep : ℕ → Bool) (pattern : List (L
     (branch : Branch) : Type 0 where
   pub may : MayTake branch.step.growth pattern branch.step.item.0
   pub kept : keep branch.step.item.0 ≡ true
-  pub places : ArePlaces records (stepped pattern branch.step) branch.step.item.0 branch.marks.items
+  pub places : ArePlaces records (stepped pattern branch.step) branch.step.item.0 branch.held.marks.items
   pub occurs : 0 < sequence_support records (stepped pattern branch.step)
   pub bound : (other : List (List ℕ)) → IsGrownFrom (stepped pattern branch.step) other
       → sequence_utility records other ≤ℤ branch.bound
@@ -33,7 +35,7 @@ HasPlaces records pattern marks child =
 pub record IsCopy (records : Records) (pattern : List (List ℕ)) (child : Child)
     (branch : Branch) : Type 0 where
   pub step : branch.step ≡ child.step
-  pub places : ArePlaces records (stepped pattern child.step) child.step.item.0 branch.marks.items
+  pub places : ArePlaces records (stepped pattern child.step) child.step.item.0 branch.held.marks.items
   pub bound : branch.bound ≡ child.bound
 
 -- one of the branches is a child
@@ -51,12 +53,25 @@ pub record AreCopies (records : Records) (pattern : List (List ℕ)) (floor : �
   pub all : (child : Child) → Contains children child
       → HasCopy records pattern branches child ⊎ (child.bound <ℤ floor)
 
--- branches with a child more, if it is kept, by the marks of its item
-abbrev pub IsPushed : Bool → List Mark → List Branch → List Branch → Child → Type 0
-IsPushed true marks old new child = (branch : Branch) × (new ≡ old ++ branch ∷ [])
-    × (branch.step ≡ child.step) × (branch.marks.items ≡ marks_with child.step.item.0 marks)
-    × (branch.bound ≡ child.bound)
-IsPushed false marks old new child = new ≡ old
+-- the marks of a branch are those of an item, with their spans
+pub record IsPart (held : Held) (branch : Branch) : Type 0 where
+  pub item : ℕ
+  pub marks : branch.held.marks.items ≡ marks_with item held.marks.items
+  pub spans : branch.held.spans.items ≡ picked item (keys_of held.marks.items) held.spans.items
+
+-- a branch is a child with the marks of its item
+pub record IsMade (held : Held) (child : Child) (branch : Branch) : Type 0 where
+  pub step : branch.step ≡ child.step
+  pub marks : branch.held.marks.items ≡ marks_with child.step.item.0 held.marks.items
+  pub spans : branch.held.spans.items
+      ≡ picked child.step.item.0 (keys_of held.marks.items) held.spans.items
+  pub bound : branch.bound ≡ child.bound
+
+-- branches with a child more, if it is kept
+abbrev pub IsPushed : Bool → Held → List Branch → List Branch → Child → Type 0
+IsPushed true held old new child =
+    (branch : Branch) × (new ≡ old ++ branch ∷ []) × IsMade held child branch
+IsPushed false held old new child = new ≡ old
 
 -- bounds that fall
 abbrev pub Fall : List Branch → Type 0

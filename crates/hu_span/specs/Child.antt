@@ -134,5 +134,5 @@ child_entry records pattern child = sequence_entry records (stepped pattern chil
 -- what a pattern grows by, in both kinds
 pub record AreGathered (records : Records) (keep : ℕ → Bool) (pattern : List (List ℕ))
     (grown : Grown) : Type 0 where
-  pub into : IsGathered records keep pattern IntoLast grown.into.items
-  pub after : IsGathered records keep pattern AfterLast grown.after.items
+  pub into : IsGathered records keep pattern IntoLast grown.into.marks.items
+  pub after : IsGathered records keep pattern AfterLast grown.after.marks.items

@@ -1,42 +1,16 @@
 -- The marks of all items by which a pattern can grow, by its places in a record.
-use Rattle.std.specs.Prelude.{
-  ◌≡◌,
-  ◌==◌,
-  Bool,
-  true,
-  if◌then◌else◌,
-  ◌+◌,
-  ◌<◌,
-  ◌≤◌,
-  ◌^◌,
-  ⊤,
-  ℕ,
-  suc,
-  ℤ,
-  pos,
-  ◌+ℤ◌,
-  ◌-ℤ◌,
-  ◌≤ℤ◌,
-  ◌<ℤ◌,
-  List,
-  [],
-  ◌∷◌,
-}
+use Rattle.std.specs.Prelude.{◌≡◌, ◌==◌, Bool, true, if◌then◌else◌, ◌<◌, ⊤, ℕ, suc, ℤ, ◌+ℤ◌, ◌-ℤ◌, List, [], ◌∷◌}
 use Rattle.std.specs.Prelude.{◌++◌, drop, length}
 use Rattle.std.specs.List.{flat_map, AllByRecursion}
-use Rattle.hu_kind.specs.Cell.{pairs_of}
 use Rattle.hu_kind.specs.Record.{total}
 use Rattle.hu_chain.specs.declared.chain.Growth.{Growth}
 use Rattle.hu_chain.specs.declared.chain.Growth.TheVariants.{IntoLast, AfterLast}
 use Rattle.hu_chain.specs.declared.place.Place.{Place}
 use Rattle.hu_chain.specs.Bound.{IsFit}
 use Rattle.hu_chain.specs.Grown.{grown, CanGrow}
-use Rattle.hu_chain.specs.Place.{element_at, totals}
-use Rattle.hu_chain.specs.Search.{best_past, left_past, IsLeft}
+use Rattle.hu_chain.specs.Place.{element_at}
+use Rattle.hu_chain.specs.Search.{best_past, left_past}
 use Rattle.hu_span.specs.declared.mark.Mark.{Mark}
-use Rattle.hu_span.specs.declared.gather.Tail.{Tail}
-use Rattle.hu_span.specs.declared.gather.Walk.{Walk}
-use Rattle.hu_span.specs.Kept.{weighed}
 use Rattle.hu_span.specs.Mark.{mark_at, marks_of, marks_with, places_of}
 
 -- the marks of the cells of an element, of which the first has a number: occurrences that end before them earn a sum, and
@@ -83,16 +57,6 @@ abbrev pub row_marks : Growth → List (List (ℕ × ℤ)) → ℕ → List Plac
 row_marks IntoLast elements row places = flat_map (beside_marks elements row) places
 row_marks AfterLast elements row places = later_marks elements row places
 
--- those of a record's tail and of a walk
-abbrev pub marks_in : (ℕ → Bool) → Tail → List Mark
-marks_in keep tail =
-    tail_marks tail.row tail.element tail.first tail.best tail.ahead
-    (weighed keep (pairs_of tail.cells.now))
-
-abbrev pub marks_past : List (List (ℕ × ℤ)) → ℕ → Walk → List Mark
-marks_past elements first walk =
-    walk_marks walk.row first walk.best walk.ahead (places_of walk.left.now) (drop first elements)
-
 -- a pattern may take a growth by an item; the empty one begins an itemset
 abbrev pub Begins : Growth → Type 0
 Begins IntoLast = ⊥
@@ -124,18 +88,3 @@ StaysFit old new = AllByRecursion IsFit (places_of old) → AllByRecursion IsFit
 abbrev pub front_of : ℕ → List Mark → ℕ
 front_of row [] = 0
 front_of row (mark ∷ marks) = if mark.row == row then suc (front_of row marks) else 0
-
--- the rules of a tail in which kept items count: no value is below 0, and no sum is too large
-pub record IsTail (keep : ℕ → Bool) (tail : Tail) : Type 0 where
-  pub none_below : AllByRecursion (λ cell. pos 0 ≤ℤ cell.1) (weighed keep (pairs_of tail.cells.now))
-  pub few : tail.first + length tail.cells.now ≤ 4096
-  pub best : pos 0 ≤ℤ tail.best
-  pub holds : total (weighed keep (pairs_of tail.cells.now)) ≤ℤ tail.ahead
-  pub fits : (tail.best +ℤ tail.ahead) <ℤ pos (2 ^ 127)
-
--- the rules of a walk before an element
-pub record IsWalk (elements : List (List (ℕ × ℤ))) (e : ℕ) (walk : Walk) : Type 0 where
-  pub ahead : walk.ahead ≡ totals (drop e elements)
-  pub best : pos 0 ≤ℤ walk.best
-  pub fits : (walk.best +ℤ walk.ahead) <ℤ pos (2 ^ 127)
-  pub left : AllByRecursion (IsLeft elements) (places_of walk.left.now)

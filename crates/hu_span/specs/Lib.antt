@@ -3,7 +3,8 @@ pub mod Links
 pub mod Step
 pub mod Mark
 pub mod Gather
-pub mod Rests
+pub mod Trail
+pub mod Thin
 pub mod Tally
 pub mod Growing
 pub mod Child

@@ -1,6 +1,6 @@
 -- Keys linked from the last one back: each tells where the one before it of its kind stands. Items are numbered with such
 -- links by their remainders, and the places at which an item is met are linked by the item.
-use Rattle.std.specs.Prelude.{◌≡◌, ◌≢◌, ◌<◌, ◌≤◌, ◌-◌, ◌%◌, ◌++◌, ◌⊎◌, ◌∷◌, [], ℕ, List, length, map, slice_index_or}
+use Rattle.std.specs.Prelude.{◌≡◌, ◌==◌, if◌then◌else◌, ◌≢◌, ◌<◌, ◌≤◌, ◌-◌, ◌%◌, ◌++◌, ◌⊎◌, ◌∷◌, [], ℕ, List, length, map, slice_index_or}
 use Rattle.hu_span.specs.declared.links.Links.{Links}
 use Rattle.hu_span.specs.declared.links.Numbers.{Numbers}
 use Rattle.hu_span.specs.declared.mark.Mark.{Mark}
@@ -66,3 +66,10 @@ pub record IsNumbered (old new : List ℕ) (item number : ℕ) : Type 0 where
 -- the items of marks
 abbrev pub keys_of : List Mark → List ℕ
 keys_of marks = map (λ mark. mark.item.0) marks
+
+-- those of values that stand beside a key
+abbrev pub picked : {A : Type 0} → ℕ → List ℕ → List A → List A
+picked item [] values = []
+picked item (key ∷ keys) [] = []
+picked item (key ∷ keys) (value ∷ values) =
+    if item == key then value ∷ picked item keys values else picked item keys values

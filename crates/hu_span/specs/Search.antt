@@ -9,13 +9,16 @@ use Rattle.hu_kind.specs.Sequence.{sequence_support, sequence_utility}
 use Rattle.hu_kind.specs.declared.item.Item.{Item}
 use Rattle.hu_span.specs.declared.child.Branch.{Branch}
 use Rattle.hu_span.specs.Branch.{AreCopies, Fall}
-use Rattle.hu_span.specs.declared.mark.Mark.{Mark}
+use Rattle.hu_span.specs.declared.gather.Grown.{Grown}
 use Rattle.hu_span.specs.declared.search.Below.{Below}
 use Rattle.hu_span.specs.declared.search.Below.TheVariants.{Items, Nothing}
-use Rattle.hu_chain.specs.Pattern.{last_item}
-use Rattle.hu_span.specs.Child.{child_entry, stepped, AreChildren, ArePlaces}
-use Rattle.hu_span.specs.Kept.{keeps, weighed_of, AreKept}
-use Rattle.hu_span.specs.Growing.{GrowsOn, IsReached, Records}
+use Rattle.hu_span.specs.declared.search.Fewer.{Fewer}
+use Rattle.hu_span.specs.declared.trail.Held.{Held}
+use Rattle.hu_span.specs.declared.trail.TrailCell.{TrailCell}
+use Rattle.hu_span.specs.Child.{child_entry, stepped, AreChildren}
+use Rattle.hu_span.specs.Kept.{keeps, AreKept}
+use Rattle.hu_span.specs.Growing.{GrowsOn, Records}
+use Rattle.hu_span.specs.Trail.{AreHeld, AreSpans}
 
 -- the entry is that of a child
 pub record IsOneOf (records : Records) (pattern : List (List ℕ)) (children : List Child)
@@ -62,12 +65,26 @@ pub record IsNarrowed (old new : State) (records : Records) (keep : ℕ → Bool
       → 0 < sequence_support records other
       → floor_in new ≤ℤ sequence_utility records other → AreKept (keeps kept) other
 
+-- those of fewer items, and the cells that a level below walks over
+abbrev pub kept_of : Option Fewer → Option (Bool × List Item)
+kept_of None = None
+kept_of (Some fewer) = Some fewer.kept
+
+abbrev pub trail_of : Option Fewer → List TrailCell → List TrailCell
+trail_of None trail = trail
+trail_of (Some fewer) trail = fewer.trail.items
+
+-- the kept cells behind all marks by which a pattern grows stand in a trail
+pub record AreBehind (keep : ℕ → Bool) (records : Records) (trail : List TrailCell)
+    (grown : Grown) : Type 0 where
+  pub into : AreSpans keep records trail grown.into.marks.items grown.into.spans.items
+  pub after : AreSpans keep records trail grown.after.marks.items grown.after.spans.items
+
 -- by what a pattern grows can be gathered, where it has places and the items that count are fewer or the same
 pub record CanGather (records : Records) (kept : Bool × List Item)
-    (fewer : Option (Bool × List Item)) (marks : List Mark) (pattern : List (List ℕ))
-    : Type 0 where
-  pub reached : IsReached pattern
-  pub places : ArePlaces (weighed_of (keeps kept) records) pattern (last_item pattern) marks
+    (fewer : Option (Bool × List Item)) (trail : List TrailCell) (held : Held)
+    (pattern : List (List ℕ)) : Type 0 where
+  pub are : AreHeld (keeps kept) records trail pattern held
   pub own : AreKept (keeps kept) pattern
   pub still : AreKept (keeps (counting fewer kept)) pattern
   pub less : (item : ℕ) → keeps (counting fewer kept) item ≡ true → keeps kept item ≡ true

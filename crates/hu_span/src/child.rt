@@ -1,9 +1,10 @@
 //! The patterns with one step more than a pattern.
 
-ghost use Rattle.std.specs.Prelude.{◌≡◌, ◌++◌, ◌∷◌, [], ℕ, ℤ, Bool, List, length, IfOk, OnOk};
-ghost use Rattle.std.specs.List.{AllByRecursion};
+ghost use Rattle.std.specs.Prelude.{◌≡◌, ◌++◌, ◌⊎◌, ◌∷◌, [], ℕ, ℤ, Bool, List, length, IfOk, OnOk};
+ghost use Rattle.std.specs.List.{AllByRecursion, Contains};
+ghost use Rattle.hu_span.specs.declared.child.Branch.{Branch};
 ghost use Rattle.hu_span.specs.declared.mark.Mark.{Mark};
-ghost use Rattle.hu_span.specs.Branch.{AreBranchesBy, AreCopies, HasPlaces, IsPushed};
+ghost use Rattle.hu_span.specs.Branch.{AreBranchesBy, AreCopies, HasPlaces, IsPart, IsPushed};
 ghost use Rattle.hu_span.specs.Child.{AreAllTold, AreChildren, AreLasting, AreTold, IsChild, IsFamily, IsGathered, IsLast, IsSpread, IsStep, MayTell, MayTellEach};
 ghost use Rattle.hu_span.specs.Growing.{Pattern, Records};
 ghost use Rattle.hu_span.specs.Links.{keys_of, AreLinked};
@@ -14,6 +15,7 @@ use crate::links::{Links, collected};
 use crate::mark::Mark;
 use crate::step::Step;
 use crate::tally::Told;
+use crate::trail::Held;
 use hu_chain::Growth;
 use hu_kind::{Item, NoMemory};
 use std::alloc::Global;
@@ -189,7 +191,7 @@ fn child_of(step: Step, told: Told, last: usize) -> Child
 pub(crate) struct Branch {
     pub step: Step,
     /// Its places in all records.
-    pub marks: Vec<Mark>,
+    pub held: Held,
     /// What patterns earn at most that grow from it.
     pub bound: i128,
 }
@@ -197,18 +199,22 @@ pub(crate) struct Branch {
 /// The children of a pattern whose bound reaches a floor, best bound first, by its marks of the two kinds of growth.
 pub(crate) fn best_of(
     alloc: Global,
-    into: &[Mark],
-    after: &[Mark],
+    into: &Held,
+    after: &Held,
     floor: i128,
 ) -> Result<Vec<Branch>, NoMemory>
     requires into { (rs : Records) × (keep : ℕ → Bool) × (p : Pattern)
-        × IsGathered rs keep p Growth.IntoLast into.now }
+        × IsGathered rs keep p Growth.IntoLast into.now.marks.items }
     requires after { (rs : Records) × (keep : ℕ → Bool) × (p : Pattern)
-        × IsGathered rs keep p Growth.AfterLast after.now }
-    ensures { (rs : Records) → (keep : ℕ → Bool) → (p : Pattern)
-        → IsGathered rs keep p Growth.IntoLast into.now
-        → IsGathered rs keep p Growth.AfterLast after.now
+        × IsGathered rs keep p Growth.AfterLast after.now.marks.items }
+    requires into_spans { length into.now.spans.items ≡ length into.now.marks.items }
+    requires after_spans { length after.now.spans.items ≡ length after.now.marks.items }
+    ensures best { (rs : Records) → (keep : ℕ → Bool) → (p : Pattern)
+        → IsGathered rs keep p Growth.IntoLast into.now.marks.items
+        → IsGathered rs keep p Growth.AfterLast after.now.marks.items
         → IfOk result (λ kept. AreKeptBest rs keep p floor kept.items) }
+    ensures parts { IfOk result (λ kept. (branch : Branch) → Contains kept.items branch
+        → IsPart into.now branch ⊎ IsPart after.now branch) }
 {
     let mut kept = branches_by(alloc, into, Growth::IntoLast, floor)?;
     let mut later = branches_by(alloc, after, Growth::AfterLast, floor)?;
@@ -220,38 +226,42 @@ pub(crate) fn best_of(
 /// The children of a kind of growth whose bound reaches a floor.
 fn branches_by(
     alloc: Global,
-    marks: &[Mark],
+    held: &Held,
     growth: Growth,
     floor: i128,
 ) -> Result<Vec<Branch>, NoMemory>
-    requires { (rs : Records) × (keep : ℕ → Bool) × (p : Pattern)
-        × IsGathered rs keep p growth marks.now }
-    ensures { (rs : Records) → (keep : ℕ → Bool) → (p : Pattern)
-        → IsGathered rs keep p growth marks.now
+    requires marks { (rs : Records) × (keep : ℕ → Bool) × (p : Pattern)
+        × IsGathered rs keep p growth held.now.marks.items }
+    requires spans { length held.now.spans.items ≡ length held.now.marks.items }
+    ensures branches { (rs : Records) → (keep : ℕ → Bool) → (p : Pattern)
+        → IsGathered rs keep p growth held.now.marks.items
         → IfOk result (λ kept. AreBranchesBy rs keep p growth floor kept.items) }
+    ensures parts { IfOk result (λ kept. AllByRecursion (IsPart held.now) kept.items) }
 {
-    let family = family_of(alloc, marks, growth, &[])?;
-    kept_of(alloc, marks, &family.olders, &family.children, floor)
+    let family = family_of(alloc, &held.marks, growth, &[])?;
+    kept_of(alloc, held, &family.olders, &family.children, floor)
 }
 
 /// The children whose bound reaches a floor, by the marks of their items.
 fn kept_of(
     alloc: Global,
-    marks: &[Mark],
+    held: &Held,
     olders: &[usize],
     children: &[Child],
     floor: i128,
 ) -> Result<Vec<Branch>, NoMemory>
-    requires size { length olders.now ≡ length marks.now }
-    requires linked { AreLinked (keys_of marks.now) olders.now }
-    requires lasts { AllByRecursion (IsLast marks.now) children.now }
-    ensures { (rs : Records) → (p : Pattern)
-        → AllByRecursion (HasPlaces rs p marks.now) children.now
+    requires size { length olders.now ≡ length held.now.marks.items }
+    requires spans { length held.now.spans.items ≡ length held.now.marks.items }
+    requires linked { AreLinked (keys_of held.now.marks.items) olders.now }
+    requires lasts { AllByRecursion (IsLast held.now.marks.items) children.now }
+    ensures copies { (rs : Records) → (p : Pattern)
+        → AllByRecursion (HasPlaces rs p held.now.marks.items) children.now
         → IfOk result (λ kept. AreCopies rs p floor children.now kept.items) }
+    ensures parts { IfOk result (λ kept. AllByRecursion (IsPart held.now) kept.items) }
 {
     let mut kept = Vec::new(alloc);
     'children: for child in children {
-        push_if(alloc, &mut kept, marks, olders, child, child.bound >= floor)?;
+        push_if(alloc, &mut kept, held, olders, child, child.bound >= floor)?;
     }
     Ok(kept)
 }
@@ -260,21 +270,22 @@ fn kept_of(
 fn push_if(
     alloc: Global,
     kept: &mut Vec<Branch>,
-    marks: &[Mark],
+    held: &Held,
     olders: &[usize],
     child: &Child,
     is_kept: bool,
 ) -> Result<(), NoMemory>
-    requires size { length olders.now ≡ length marks.now }
-    requires linked { AreLinked (keys_of marks.now) olders.now }
-    requires last { IsLast marks.now child.now }
-    ensures { OnOk result (IsPushed is_kept marks.now kept.old.items kept.new.items child.now) }
+    requires size { length olders.now ≡ length held.now.marks.items }
+    requires spans { length held.now.spans.items ≡ length held.now.marks.items }
+    requires linked { AreLinked (keys_of held.now.marks.items) olders.now }
+    requires last { IsLast held.now.marks.items child.now }
+    ensures { OnOk result (IsPushed is_kept held.now kept.old.items kept.new.items child.now) }
 {
     if is_kept {
-        let own = collected(alloc, marks, olders, child.last)?;
+        let own = collected(alloc, held, olders, child.last)?;
         kept.push(Branch {
             step: child.step,
-            marks: own,
+            held: own,
             bound: child.bound,
         })?;
     }

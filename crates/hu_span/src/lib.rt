@@ -17,10 +17,12 @@ mod gather;
 mod kept;
 mod links;
 mod mark;
-mod rests;
 mod scan;
 mod search;
 mod step;
 mod tally;
+mod thin;
+mod trail;
+mod walk;
 
 pub use search::mine;

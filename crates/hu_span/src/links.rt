@@ -1,10 +1,10 @@
 //! Items with a number each, and the places at which each is met, linked from the last one back.
 
 ghost use Rattle.std.specs.Prelude.{◌≡◌, ◌<◌, ◌≤◌, ◌%◌, ◌^◌, ◌++◌, [], ◌∷◌, ℕ, List, length, IfOk, OnOk, MatchOption};
-ghost use Rattle.hu_span.specs.Links.{buckets, keys_of, AreLinked, AreLinks, AreNumbers, IsAbsent, IsBack, IsNumber, IsNumbered};
+ghost use Rattle.hu_span.specs.Links.{buckets, keys_of, picked, AreLinked, AreLinks, AreNumbers, IsAbsent, IsBack, IsNumber, IsNumbered};
 ghost use Rattle.hu_span.specs.Mark.{marks_with};
 
-use crate::mark::Mark;
+use crate::trail::Held;
 use hu_kind::NoMemory;
 use std::alloc::Global;
 
@@ -130,25 +130,33 @@ impl Links {
     }
 }
 
-/// The marks of an item, from one more than the place of its last one back.
+/// The marks of an item with their spans, from one more than the place of its last one back.
 pub(crate) fn collected(
     alloc: Global,
-    marks: &[Mark],
+    held: &Held,
     olders: &[usize],
     last: usize,
-) -> Result<Vec<Mark>, NoMemory>
-    requires size { length olders.now ≡ length marks.now }
-    requires linked { AreLinked (keys_of marks.now) olders.now }
-    requires last { (item : ℕ) × IsBack (keys_of marks.now) item last (length marks.now) }
-    ensures { (item : ℕ) → IsBack (keys_of marks.now) item last (length marks.now)
-        → IfOk result (λ own. own.items ≡ marks_with item marks.now) }
+) -> Result<Held, NoMemory>
+    requires size { length olders.now ≡ length held.now.marks.items }
+    requires spans { length held.now.spans.items ≡ length held.now.marks.items }
+    requires linked { AreLinked (keys_of held.now.marks.items) olders.now }
+    requires last { (item : ℕ) × IsBack (keys_of held.now.marks.items) item last
+        (length held.now.marks.items) }
+    ensures marks { (item : ℕ) → IsBack (keys_of held.now.marks.items) item last
+        (length held.now.marks.items)
+        → IfOk result (λ own. own.marks.items ≡ marks_with item held.now.marks.items) }
+    ensures spans { (item : ℕ) → IsBack (keys_of held.now.marks.items) item last
+        (length held.now.marks.items)
+        → IfOk result (λ own. own.spans.items
+        ≡ picked item (keys_of held.now.marks.items) held.now.spans.items) }
 {
-    let mut own = Vec::new(alloc);
+    let mut own = Held::new(alloc);
     let mut upto = last;
     'older: while upto > 0 {
-        own.push(marks[upto - 1])?;
+        own.push(held.marks[upto - 1], held.spans[upto - 1])?;
         upto = olders[upto - 1];
     }
-    own.reverse();
+    own.marks.reverse();
+    own.spans.reverse();
     Ok(own)
 }

@@ -1,26 +1,28 @@
 //! The search for sequences.
 
-ghost use Rattle.std.specs.Prelude.{◌≡◌, ℕ, Bool, [], ◌∷◌, length, IfOk, OnOk};
-ghost use Rattle.std.specs.List.{AllByRecursion};
+ghost use Rattle.std.specs.Prelude.{◌≡◌, ℕ, Bool, List, [], ◌∷◌, length, IfOk, OnOk};
+ghost use Rattle.std.specs.List.{AllByRecursion, Contains};
 ghost use Rattle.hu_kind.specs.Sequence.{sequence_patterns};
 ghost use Rattle.hu_base.specs.Base.{records_of};
 ghost use Rattle.hu_collect.specs.State.{IsInOrder, Mines, Searches, Takes};
-ghost use Rattle.hu_chain.specs.Pattern.{last_item};
+ghost use Rattle.hu_span.specs.declared.child.Branch.{Branch};
+ghost use Rattle.hu_span.specs.declared.trail.TrailCell.{TrailCell};
 ghost use Rattle.hu_span.specs.Branch.{IsBranch};
-ghost use Rattle.hu_span.specs.Child.{child_entry, stepped, AreGathered, ArePlaces, IsChild};
-ghost use Rattle.hu_span.specs.Growing.{AreRecords, GrowsOn, GrowsOver, IsBegun, IsReached, Pattern, Records};
+ghost use Rattle.hu_span.specs.Child.{child_entry, stepped, AreGathered, IsChild};
+ghost use Rattle.hu_span.specs.Growing.{AreRecords, GrowsOn, GrowsOver, IsBegun, Pattern, Records};
 ghost use Rattle.hu_span.specs.Kept.{keeps, weighed_of, AreKept};
-ghost use Rattle.hu_span.specs.Search.{counting, AreKeptBest, CanGather, IsOneOf, Narrows, OffersAll};
+ghost use Rattle.hu_span.specs.Search.{counting, kept_of, trail_of, AreBehind, AreKeptBest, CanGather, IsOneOf, Narrows, OffersAll};
 ghost use Rattle.hu_span.specs.Step.{pattern_of};
+ghost use Rattle.hu_span.specs.Trail.{AreHeld, AreSpans};
 
 use crate::child::{Branch, Child, best_of, children_of};
 use crate::cut::{any_reaches, open_items, set_reaches};
-use crate::gather::{Grown, first_grown, gathered};
+use crate::gather::{Begun, Grown, first_grown, gathered};
 use crate::kept::Kept;
-use crate::mark::Mark;
-use crate::rests::rested;
 use crate::scan::scanned;
 use crate::step::{Step, key_of};
+use crate::thin::{Thin, thinned};
+use crate::trail::{Held, TrailCell};
 use hu_base::Base;
 use hu_collect::Collect;
 use hu_kind::{Entry, NoMemory, SeqRecord};
@@ -53,17 +55,24 @@ pub fn mine<C: Collect>(
     let kept = Kept::every(alloc);
     let mut reaches = zeros(alloc, records.len())?;
     let mut steps = Vec::new(alloc);
-    let grown = first_grown(alloc, records, &kept)?;
+    let Begun { trail, grown } = first_grown(alloc, records)?;
     offer_grown(alloc, &grown, &mut steps, collect)?;
-    deepen(
-        alloc,
+    let level = Level {
         records,
-        &kept,
-        grown,
-        &mut steps,
-        &mut reaches,
-        collect,
-    )
+        kept: &kept,
+        trail: &trail,
+    };
+    deepen(alloc, level, grown, &mut steps, &mut reaches, collect)
+}
+
+/// What a level of the search stands on.
+#[derive(Clone, Copy)]
+struct Level<'a> {
+    records: &'a [SeqRecord],
+    /// The items that count.
+    kept: &'a Kept,
+    /// Their cells behind the places of the level's pattern.
+    trail: &'a [TrailCell],
 }
 
 /// So many zeros.
@@ -81,22 +90,22 @@ fn zeros(alloc: Global, count: usize) -> Result<Vec<i128>, NoMemory>
 #[cycle(search)]
 fn deepen<C: Collect>(
     alloc: Global,
-    records: &[SeqRecord],
-    kept: &Kept,
+    level: Level<'_>,
     grown: Grown,
     steps: &mut Vec<Step>,
     reaches: &mut [i128],
     collect: &mut C,
 ) -> Result<(), NoMemory>
     requires ordered { IsInOrder (C.state collect.old) }
-    requires records { AreRecords records.now }
-    requires rows { length reaches.old ≡ length records.now }
-    requires pattern { AreKept (keeps kept.now) (pattern_of steps.old.items) }
-    requires grown { AreGathered (weighed_of (keeps kept.now) records.now) (keeps kept.now)
+    requires records { AreRecords level.records.now }
+    requires rows { length reaches.old ≡ length level.records.now }
+    requires pattern { AreKept (keeps level.kept.now) (pattern_of steps.old.items) }
+    requires grown { AreGathered (weighed_of (keeps level.kept.now) level.records.now) (keeps level.kept.now)
         (pattern_of steps.old.items) grown }
+    requires spans { AreBehind (keeps level.kept.now) level.records.now level.trail.now grown }
     ensures steps { OnOk result (steps.new.items ≡ steps.old.items) }
     ensures made { Searches (C.state collect.old)
-        (GrowsOver (weighed_of (keeps kept.now) records.now) (keeps kept.now)
+        (GrowsOver (weighed_of (keeps level.entry.kept.now) level.entry.records.now) (keeps level.entry.kept.now)
         (pattern_of steps.old.items))
         (C.state collect.new) result }
 {
@@ -105,7 +114,7 @@ fn deepen<C: Collect>(
         if branch.bound < collect.floor() {
             return Ok(());
         }
-        enter(alloc, records, kept, branch, steps, reaches, collect)?;
+        enter(alloc, level, branch, steps, reaches, collect)?;
     }
     Ok(())
 }
@@ -114,28 +123,29 @@ fn deepen<C: Collect>(
 #[cycle(search)]
 fn enter<C: Collect>(
     alloc: Global,
-    records: &[SeqRecord],
-    kept: &Kept,
+    level: Level<'_>,
     branch: &Branch,
     steps: &mut Vec<Step>,
     reaches: &mut [i128],
     collect: &mut C,
 ) -> Result<(), NoMemory>
     requires ordered { IsInOrder (C.state collect.old) }
-    requires records { AreRecords records.now }
-    requires rows { length reaches.old ≡ length records.now }
+    requires records { AreRecords level.records.now }
+    requires rows { length reaches.old ≡ length level.records.now }
     requires begun { IsBegun (pattern_of steps.old.items) }
-    requires pattern { AreKept (keeps kept.now) (pattern_of steps.old.items) }
-    requires branch { IsBranch (weighed_of (keeps kept.now) records.now) (keeps kept.now)
+    requires pattern { AreKept (keeps level.kept.now) (pattern_of steps.old.items) }
+    requires branch { IsBranch (weighed_of (keeps level.kept.now) level.records.now) (keeps level.kept.now)
         (pattern_of steps.old.items) branch.now }
+    requires spans { AreSpans (keeps level.kept.now) level.records.now level.trail.now
+        branch.now.held.marks.items branch.now.held.spans.items }
     ensures steps { OnOk result (steps.new.items ≡ steps.old.items) }
     ensures made { Searches (C.state collect.old)
-        (GrowsOn (weighed_of (keeps kept.now) records.now) (keeps kept.now) (stepped
+        (GrowsOn (weighed_of (keeps level.entry.kept.now) level.entry.records.now) (keeps level.entry.kept.now) (stepped
         (pattern_of steps.old.items) branch.now.step))
         (C.state collect.new) result }
 {
     steps.push(branch.step)?;
-    let below = narrowed(alloc, records, kept, &branch.marks, steps, reaches, collect)?;
+    let below = narrowed(alloc, level, &branch.held, steps, reaches, collect)?;
     let items = match below {
         Below::Items(fewer) => fewer,
         Below::Nothing => {
@@ -143,9 +153,13 @@ fn enter<C: Collect>(
             return Ok(());
         }
     };
-    let Opened { fewer, grown } = grown_below(alloc, records, kept, items, &branch.marks)?;
-    let kept = counting(&fewer, kept);
-    deepen(alloc, records, kept, grown, steps, reaches, collect)?;
+    let Opened { fewer, grown } = grown_below(alloc, level, items, &branch.held)?;
+    let below = Level {
+        records: level.records,
+        kept: counting(&fewer, level.kept),
+        trail: walked(&fewer, level.trail),
+    };
+    deepen(alloc, below, grown, steps, reaches, collect)?;
     steps.pop();
     Ok(())
 }
@@ -159,21 +173,37 @@ enum Below {
     Nothing,
 }
 
+/// The items that count below a pattern, where they are fewer than at it, and their cells behind its places.
+#[derive(Drop)]
+struct Fewer {
+    kept: Kept,
+    trail: Vec<TrailCell>,
+}
+
 /// What a pattern grows by, with the items that count in it.
 #[derive(Drop)]
 struct Opened {
-    /// Those that count below the pattern, where they are fewer than at it.
-    fewer: Option<Kept>,
+    fewer: Option<Fewer>,
     grown: Grown,
 }
 
 /// The items that count below a pattern.
-fn counting<'a>(fewer: &'a Option<Kept>, kept: &'a Kept) -> &'a Kept
-    ensures { result.now ≡ counting fewer.now kept.now }
+fn counting<'a>(fewer: &'a Option<Fewer>, kept: &'a Kept) -> &'a Kept
+    ensures { result.now ≡ counting (kept_of fewer.now) kept.now }
 {
     match fewer {
-        Some(fewer) => fewer,
+        Some(fewer) => &fewer.kept,
         None => kept,
+    }
+}
+
+/// The cells that are walked over below a pattern.
+fn walked<'a>(fewer: &'a Option<Fewer>, trail: &'a [TrailCell]) -> &'a [TrailCell]
+    ensures { result.now ≡ trail_of fewer.now trail.now }
+{
+    match fewer {
+        Some(fewer) => &fewer.trail,
+        None => trail,
     }
 }
 
@@ -181,26 +211,24 @@ fn counting<'a>(fewer: &'a Option<Kept>, kept: &'a Kept) -> &'a Kept
 /// some items.
 fn narrowed<C: Collect>(
     alloc: Global,
-    records: &[SeqRecord],
-    kept: &Kept,
-    marks: &[Mark],
+    level: Level<'_>,
+    held: &Held,
     steps: &mut Vec<Step>,
     reaches: &mut [i128],
     collect: &mut C,
 ) -> Result<Below, NoMemory>
     requires ordered { IsInOrder (C.state collect.old) }
-    requires records { AreRecords records.now }
-    requires rows { length reaches.old ≡ length records.now }
-    requires pattern { AreKept (keeps kept.now) (pattern_of steps.old.items) }
-    requires reached { IsReached (pattern_of steps.old.items) }
-    requires places { ArePlaces (weighed_of (keeps kept.now) records.now)
-        (pattern_of steps.old.items) (last_item (pattern_of steps.old.items)) marks.now }
+    requires records { AreRecords level.records.now }
+    requires rows { length reaches.old ≡ length level.records.now }
+    requires pattern { AreKept (keeps level.kept.now) (pattern_of steps.old.items) }
+    requires held { AreHeld (keeps level.kept.now) level.records.now level.trail.now
+        (pattern_of steps.old.items) held.now }
     ensures steps { OnOk result (steps.new.items ≡ steps.old.items) }
     ensures made { Narrows (C.state collect.old) (C.state collect.new)
-        (weighed_of (keeps kept.now) records.now) kept.now (pattern_of steps.old.items) result }
+        (weighed_of (keeps level.entry.kept.now) level.entry.records.now) level.entry.kept.now (pattern_of steps.old.items) result }
 {
-    set_reaches(marks, reaches);
-    let children = scanned(alloc, records, kept, marks, reaches)?;
+    set_reaches(&held.marks, reaches);
+    let children = scanned(alloc, level.trail, held, reaches)?;
     offer_children(alloc, steps, &children, collect)?;
     let floor = collect.floor();
     if !any_reaches(&children, floor) {
@@ -213,29 +241,33 @@ fn narrowed<C: Collect>(
 /// What a pattern grows by, gathered from its marks, where fewer items may count.
 fn grown_below(
     alloc: Global,
-    records: &[SeqRecord],
-    kept: &Kept,
+    level: Level<'_>,
     fewer: Option<Kept>,
-    marks: &[Mark],
+    held: &Held,
 ) -> Result<Opened, NoMemory>
-    requires records { AreRecords records.now }
-    requires places { (p : Pattern) × CanGather records.now kept.now fewer marks.now p }
-    ensures fewer { IfOk result (λ opened. opened.fewer ≡ fewer) }
-    ensures grown { (p : Pattern) → CanGather records.now kept.now fewer marks.now p
+    requires { (p : Pattern) × CanGather level.records.now level.kept.now fewer level.trail.now
+        held.now p }
+    ensures fewer { IfOk result (λ opened. kept_of opened.fewer ≡ fewer) }
+    ensures grown { (p : Pattern)
+        → CanGather level.entry.records.now level.entry.kept.now fewer level.entry.trail.now held.now p
         → IfOk result (λ opened. AreGathered
-        (weighed_of (keeps (counting fewer kept.now)) records.now)
-        (keeps (counting fewer kept.now)) p opened.grown) }
+        (weighed_of (keeps (counting fewer level.entry.kept.now)) level.entry.records.now)
+        (keeps (counting fewer level.entry.kept.now)) p opened.grown) }
+    ensures spans { (p : Pattern)
+        → CanGather level.entry.records.now level.entry.kept.now fewer level.entry.trail.now held.now p
+        → IfOk result (λ opened. AreBehind (keeps (counting fewer level.entry.kept.now))
+        level.entry.records.now (trail_of opened.fewer level.entry.trail.now) opened.grown) }
 {
     match fewer {
         None => {
-            let grown = gathered(alloc, records, kept, marks)?;
+            let grown = gathered(alloc, level.trail, held)?;
             Ok(Opened { fewer: None, grown })
         }
-        Some(fewer) => {
-            let marks = rested(alloc, records, &fewer, marks)?;
-            let grown = gathered(alloc, records, &fewer, &marks)?;
+        Some(kept) => {
+            let Thin { trail, held } = thinned(alloc, &kept, level.trail, held)?;
+            let grown = gathered(alloc, &trail, &held)?;
             Ok(Opened {
-                fewer: Some(fewer),
+                fewer: Some(Fewer { kept, trail }),
                 grown,
             })
         }
@@ -244,9 +276,15 @@ fn grown_below(
 
 /// The children of a pattern whose bound reaches a floor, best bound first.
 fn best_branches(alloc: Global, grown: Grown, floor: i128) -> Result<Vec<Branch>, NoMemory>
-    requires { (rs : Records) × (keep : ℕ → Bool) × (p : Pattern) × AreGathered rs keep p grown }
-    ensures { (rs : Records) → (keep : ℕ → Bool) → (p : Pattern) → AreGathered rs keep p grown
+    requires grown { (rs : Records) × (keep : ℕ → Bool) × (p : Pattern) × AreGathered rs keep p grown }
+    requires spans { (keep : ℕ → Bool) × (records : Records) × (trail : List TrailCell)
+        × AreBehind keep records trail grown }
+    ensures best { (rs : Records) → (keep : ℕ → Bool) → (p : Pattern) → AreGathered rs keep p grown
         → IfOk result (λ kept. AreKeptBest rs keep p floor kept.items) }
+    ensures spans { (keep : ℕ → Bool) → (records : Records) → (trail : List TrailCell)
+        → AreBehind keep records trail grown
+        → IfOk result (λ kept. (branch : Branch) → Contains kept.items branch
+        → AreSpans keep records trail branch.held.marks.items branch.held.spans.items) }
 {
     best_of(alloc, &grown.into, &grown.after, floor)
 }
@@ -267,7 +305,7 @@ fn offer_grown<C: Collect>(
         → OffersAll (C.state collect.old) (C.state collect.new) rs keep
         (pattern_of steps.old.items) result }
 {
-    let children = children_of(alloc, &grown.into, &grown.after, &[])?;
+    let children = children_of(alloc, &grown.into.marks, &grown.after.marks, &[])?;
     offer_children(alloc, steps, &children, collect)
 }
 

@@ -1,17 +1,17 @@
-use Rattle.std.proofs.Common.{◌++◌, rules, sym, subst, to_z, of_z}
+use Rattle.std.proofs.Common.{◌++◌, IsPermutation, rules, sym, subst, to_z, of_z}
 use Rattle.std.specs.Int.{w128}
 use Rattle.std.proofs.lemmas.Int.{to_z-of_z}
 use Rattle.std.proofs.lemmas.List.Sorted.{answers_always}
 use Rattle.hu_span.specs.Branch.{AreCopies}
-use Rattle.hu_span.proofs.BranchLemmas.{copies-both, copies-permuted, fall-sorted, stands_before, stands_before_order}
+use Rattle.hu_span.proofs.BranchLemmas.{copies-both, copies-permuted, fall-sorted, parts-among, stands_before, stands_before_order}
 use Rattle.hu_span.proofs.ChildLemmas.{children-both}
 use Rattle.hu_span.proofs.child.best_of.Goals as goal
 
-pub returns : goal.returns
-returns c rs keep p into after =
+pub returns-clause-best : goal.returns-clause-best
+returns-clause-best c rs keep p into after =
     let floor = to_z w128 (of_z w128 c.args.floor) in
-    let one = c.in_ok-kept.ensures rs keep p into in
-    let two = c.in_ok-later.ensures rs keep p after in
+    let one = c.in_ok-kept.ensures.branches rs keep p into in
+    let two = c.in_ok-later.ensures.branches rs keep p after in
     let all = one.all ++ two.all in
     let sorted = c.sort_unstable_by.new.self.items in
     let both = copies-both rs p floor one.all two.all c.in_ok-kept.kept.items c.in_ok-later.later.items one.copies two.copies in
@@ -24,3 +24,9 @@ returns c rs keep p into after =
       fall = fall-sorted sorted
           (c.sort_unstable_by.ensures.sorted stands_before stands_before_order (answers_always _ _ _ (λ f a r f' k. search rules)));
     }
+
+pub returns-clause-parts : goal.returns-clause-parts
+returns-clause-parts c branch among =
+    parts-among c.args.into.now c.args.after.now c.in_ok-kept.kept.items c.in_ok-later.later.items c.sort_unstable_by.new.self.items branch
+    c.in_ok-kept.ensures.parts c.in_ok-later.ensures.parts
+    (subst (λ bs. IsPermutation bs c.sort_unstable_by.new.self.items) c.in_ok-append.ensures.items c.sort_unstable_by.ensures.permutation) among

@@ -5,8 +5,11 @@ use Rattle.hu_span.proofs.links.collected.Given as goal
 
 abbrev pub invariant-older : goal.invariant-older
 invariant-older l = record {
-  within : l.upto ≤ length l.marks;
-  so_far : (item : ℕ) → IsBack (keys_of l.marks) item l.last (length l.marks) → IsCollected item l.marks l.upto l.own.items;
+  within : l.upto ≤ length l.held.marks.items;
+  marks : (item : ℕ) → IsBack (keys_of l.held.marks.items) item l.last (length l.held.marks.items)
+      → IsCollected item (keys_of l.held.marks.items) l.held.marks.items l.upto l.own.marks.items;
+  spans : (item : ℕ) → IsBack (keys_of l.held.marks.items) item l.last (length l.held.marks.items)
+      → IsCollected item (keys_of l.held.marks.items) l.held.spans.items l.upto l.own.spans.items;
 }
 
 abbrev pub decreases-older : goal.decreases-older

@@ -1,172 +1,191 @@
-use Rattle.std.proofs.Common.{ℕ, filter, ◌∙◌, ◌∷◌, ◌++◌, [], List, take, drop, refl, sym, ap, subst, arith}
-use Rattle.std.specs.List.{AllByRecursion}
+use Rattle.std.proofs.Common.{◌≡◌, ◌∙◌, ◌-◌, ◌≤◌, ◌++◌, ◌∷◌, ℕ, Bool, Fits, [], List, drop, filter, get_or, length, length-drop, reverse, rules, take, w64}
+use Rattle.std.proofs.Common.{refl, sym, ap, subst, arith}
 use Rattle.hu_chain.specs.declared.chain.Growth.TheVariants.{AfterLast}
-use Rattle.hu_chain.specs.Bound.{IsFit}
 use Rattle.hu_chain.specs.Pattern.{last_item}
-use Rattle.hu_chain.specs.Search.{IsPlaceOf}
-use Rattle.hu_span.specs.declared.mark.Mark.{Mark}
 use Rattle.hu_span.specs.Child.{AreTold, ArePlaces, MayTellEach}
-use Rattle.hu_span.specs.Growing.{IsReached}
-use Rattle.hu_span.specs.Gather.{front_of, later_marks}
-use Rattle.hu_span.specs.Mark.{places_of}
-use Rattle.hu_span.specs.Kept.{keeps, takes, weighed_in, weighed_of}
+use Rattle.hu_span.specs.Gather.{later_marks}
+use Rattle.hu_span.specs.Growing.{Records}
+use Rattle.hu_span.specs.Kept.{takes, weighed_of}
+use Rattle.hu_span.specs.Mark.{places_of, record_at}
+use Rattle.hu_span.specs.Trail.{trail_later, AreHeld}
 use Rattle.hu_span.proofs.FamilyLemmas.{told-first}
+use Rattle.hu_span.proofs.GrownLemmas.{first-span, first-within, met-row, next-rest, IsLater}
+use Rattle.hu_span.proofs.RowsLemmas.{front-within, no-marks, rows-end, rows-first, rows-next, AreRowsLeft}
+use Rattle.hu_span.proofs.ScanLemmas.{all_grown, all-gathered, rows-may}
+use Rattle.hu_span.proofs.SpanLemmas.{span-size}
+use Rattle.hu_span.proofs.TurnLemmas.{AreFit}
 use Rattle.hu_span.proofs.WalkLemmas.{stays-fit}
 use Rattle.hu_span.proofs.WeighedLemmas.{weighed-records}
-use Rattle.hu_span.proofs.ReachLemmas.{Ends-reached}
-use Rattle.hu_span.proofs.RowsLemmas.{front-within, no-marks, rows-end, rows-first, rows-fit, rows-next, rows-places, rows-within, seen-row}
-use Rattle.hu_span.proofs.RowsLemmas.{AreRowsLeft}
-use Rattle.hu_span.proofs.ScanLemmas.{all_grown, all-gathered, rows-may}
-use Rattle.hu_span.proofs.scan.scanned_after.Goals.{In-Some, In_ok-push_later}
+use Rattle.hu_span.proofs.scan.scanned_after.Goals.{After-deref-2, After-index-span, After-of, In_ok-push_later}
 use Rattle.hu_span.proofs.scan.scanned_after.Goals as goal
 
 pub rows-init : goal.rows-init
-rows-init c p is places =
-    let keep = keeps c.args.kept.now in
+rows-init c =
+    let same = c.as_slice-left.ensures.value in
+    let size = ap length same in
+    let marks = c.args.held.now.marks.items in
+    let none : length marks - length c.as_slice-left.result.now ≡ 0 = omega (arith, size) in
     let links = c.in_ok-links.ensures in
     record {
-      done = [];
-      rows = rows-first (weighed_of keep c.args.records.now) keep p c.args.marks.now [] places refl;
-      told = told-first c.args.reaches.now _ _ links.rules links.none c.new-tells.ensures.items;
+      few = omega (arith, size);
+      rest = same ∙ ap (λ k. drop k marks) (sym none);
+      heard = λ keep records p are. record {
+        done = [];
+        rows = rows-first (weighed_of keep records) keep p c.as_slice-left.result.now []
+            (subst (ArePlaces (weighed_of keep records) p (last_item p)) (sym same) are.places) refl;
+        told = told-first c.args.reaches.now _ _ links.rules links.none c.new-tells.ensures.items;
+      };
     }
+
+pub index-span-requires : goal.index-span-requires
+index-span-requires c =
+    let k = length c.args.held.now.marks.items - length c.rows.left.now in
+    let within = first-within c.requires.3 c.rows.left.now c.in-Some.others.now c.in-Some.first.now k c.rows.invariant.rest c.in-Some.ensures.cases.0 in
+    omega (arith, within, c.len.ensures)
+
+-- the span of the first mark that is left
+span_at : (c : After-index-span) → c.index-span.result.now
+    ≡ get_or c.args.held.now.spans.items (length c.args.held.now.marks.items - length c.rows.left.now) c.index-span.result.now
+span_at c =
+    let n : c.len.result ≡ length c.args.held.now.marks.items = omega (arith, c.len.ensures) in
+    c.index-span.ensures ∙ ap (λ k. get_or c.args.held.now.spans.items (k - length c.rows.left.now) c.index-span.result.now) n
+
+pub of-requires : goal.of-requires
+of-requires c =
+    let k = length c.args.held.now.marks.items - length c.rows.left.now in
+    let here = first-span c.requires.3 c.rows.left.now c.in-Some.others.now c.in-Some.first.now k c.rows.invariant.rest c.in-Some.ensures.cases.0
+    c.index-span.result.now (span_at (goal.at.of-requires c).After-index-span) in
+    here.stands
 
 pub split_at-requires : goal.split_at-requires
 split_at-requires c = omega (arith, c.row_len.ensures, front-within c.in-Some.first.now.row c.in-Some.others.now)
 
--- the rows that are left from a mark on
-left_at : (c : In-Some) (p : List (List ℕ)) (is : IsReached p)
-    (places : ArePlaces (weighed_of (keeps c.args.kept.now) c.args.records.now) p (last_item p) c.args.marks.now)
-    → AreRowsLeft (weighed_of (keeps c.args.kept.now) c.args.records.now) (keeps c.args.kept.now) p
-    (c.in-Some.first.now ∷ c.in-Some.others.now) (c.rows.invariant p is places).done
-left_at c p is places =
-    let keep = keeps c.args.kept.now in
-    let heard = c.rows.invariant p is places in
-    subst (λ (ms : List Mark). AreRowsLeft (weighed_of keep c.args.records.now) keep p ms heard.done) c.in-Some.ensures.cases.0 heard.rows
+pub push_later-requires-clause-within : goal.push_later-requires-clause-within
+push_later-requires-clause-within c =
+    let span = c.index-span.result.now in
+    let k = length c.args.held.now.marks.items - length c.rows.left.now in
+    let here = first-span c.requires.3 c.rows.left.now c.in-Some.others.now c.in-Some.first.now k c.rows.invariant.rest c.in-Some.ensures.cases.0 span
+    (span_at (goal.at.push_later-requires-clause-within c).After-index-span) in
+    let size = span-size c.args.trail.now span c.of.result.now here.stands c.of.ensures in
+    let fits : Fits w64 span.high = search rules in
+    omega (arith, size, fits)
 
--- those that are left after the row of that mark
-next_at : (c : In_ok-push_later) (p : List (List ℕ)) (is : IsReached p)
-    (places : ArePlaces (weighed_of (keeps c.args.kept.now) c.args.records.now) p (last_item p) c.args.marks.now)
-    → AreRowsLeft (weighed_of (keeps c.args.kept.now) c.args.records.now) (keeps c.args.kept.now) p
-    (c.in-Some.first.now ∷ c.in-Some.others.now) (c.rows.invariant p is places).done
-    → AreRowsLeft (weighed_of (keeps c.args.kept.now) c.args.records.now) (keeps c.args.kept.now) p
-    (drop (front_of c.in-Some.first.now.row c.in-Some.others.now) c.in-Some.others.now)
-    ((c.rows.invariant p is places).done ++ c.push_later.new.marks.items)
-next_at c p is places left =
-    let keep = keeps c.args.kept.now in
-    let records = weighed_of keep c.args.records.now in
-    let first = c.in-Some.first.now in
-    let others = c.in-Some.others.now in
-    let done = (c.rows.invariant p is places).done in
-    let more = c.push_later.new.marks.items in
-    let within = rows-within records keep p first others done left in
-    let seen =
-    seen-row keep c.args.records.now first.row c.elements.result.now c.index-records-first.result within
-    c.elements.ensures.value c.index-records-first.is in
-    let row = c.split_at.ensures.front ∙ ap (λ k. take k others) c.row_len.ensures in
-    let made = c.in_ok-push_later.ensures.marks ∙ (λ j. c.clear.ensures.items j ++ filter (takes keep)
-    (later_marks (seen j) first.row (places_of (first ∷ row j)))) in
-    let none = subst (λ (ms : List Mark). AllByRecursion IsFit (places_of ms)) (sym c.clear.ensures.items) tt in
-    let fit = stays-fit done (done ++ more) more refl (c.in_ok-push_later.ensures.fit none) left.fit in
-    rows-next records keep p first others done left (done ++ more) (ap (λ ms. done ++ ms) made) fit
+-- what the pattern grows by behind the element of that mark
+row_at : (c : After-of) (keep : ℕ → Bool) (records : Records) (p : List (List ℕ)) (are : AreHeld keep records c.args.trail.now p c.args.held.now)
+    → IsLater keep records c.args.trail.now are.are.rules c.in-Some.first.now c.split_at.result.0.now c.index-span.result.now (reverse c.of.result.now)
+row_at c keep records p are =
+    let k = length c.args.held.now.marks.items - length c.rows.left.now in
+    met-row are c.rows.left.now c.in-Some.others.now c.in-Some.first.now k c.rows.invariant.rest c.in-Some.ensures.cases.0
+    (c.rows.invariant.heard keep records p are).done
+    c.split_at.result.0.now c.index-span.result.now (reverse c.of.result.now) (c.rows.invariant.heard keep records p are).rows
+    (c.split_at.ensures.front ∙ ap (λ n. take n c.in-Some.others.now) c.row_len.ensures)
+    (span_at (goal.at.push_later-requires-clause-fit c).After-index-span) c.of.ensures
 
-pub push_later-requires-clause-places : goal.push_later-requires-clause-places
-push_later-requires-clause-places c =
-    let keep = keeps c.args.kept.now in
-    let records = weighed_of keep c.args.records.now in
-    let p = c.requires.places.0 in
-    let last = last_item p in
-    let first = c.in-Some.first.now in
-    let others = c.in-Some.others.now in
-    let heard = c.rows.invariant p c.requires.places.1 c.requires.places.2 in
-    let left = left_at (goal.at.push_later-requires-clause-places c).In-Some p c.requires.places.1 c.requires.places.2 in
-    let within = rows-within records keep p first others heard.done left in
-    let seen =
-    seen-row keep c.args.records.now first.row c.elements.result.now c.index-records-first.result within
-    c.elements.ensures.value c.index-records-first.is in
-    let row = c.split_at.ensures.front ∙ ap (λ k. take k others) c.row_len.ensures in
-    let all = rows-places records keep p first others heard.done left (Ends-reached p c.requires.places.1) in
-    let here = subst (λ r. AllByRecursion (IsPlaceOf r last) (places_of (first ∷ take (front_of first.row others) others))) (sym seen) all in
-    (last, subst (λ (ms : List Mark). AllByRecursion (IsPlaceOf (weighed_in keep c.elements.result.now) last) (places_of (first ∷ ms))) (sym row) here)
+pub push_later-requires-clause-beside : goal.push_later-requires-clause-beside
+push_later-requires-clause-beside c =
+    let own = row_at c c.requires.0 c.requires.1 c.requires.2 c.requires.3 in
+    own.beside
 
 pub push_later-requires-clause-fit : goal.push_later-requires-clause-fit
 push_later-requires-clause-fit c =
-    let keep = keeps c.args.kept.now in
-    let records = weighed_of keep c.args.records.now in
-    let p = c.requires.places.0 in
+    let own = row_at c c.requires.0 c.requires.1 c.requires.2 c.requires.3 in
+    own.fit
+
+-- the rows that are left after the row of that mark
+next_at : (c : In_ok-push_later) (keep : ℕ → Bool) (records : Records) (p : List (List ℕ)) (are : AreHeld keep records c.args.trail.now p c.args.held.now)
+    → IsLater keep records c.args.trail.now are.are.rules c.in-Some.first.now c.split_at.result.0.now c.index-span.result.now (reverse c.of.result.now)
+    → AreRowsLeft (weighed_of keep records) keep p c.split_at.result.1.now ((c.rows.invariant.heard keep records p are).done
+    ++ c.push_later.new.held.marks.items)
+next_at c keep records p are own =
+    let rs = weighed_of keep records in
     let first = c.in-Some.first.now in
     let others = c.in-Some.others.now in
-    let heard = c.rows.invariant p c.requires.places.1 c.requires.places.2 in
-    let left = left_at (goal.at.push_later-requires-clause-fit c).In-Some p c.requires.places.1 c.requires.places.2 in
-    let row = c.split_at.ensures.front ∙ ap (λ k. take k others) c.row_len.ensures in
-    subst (λ (ms : List Mark). AllByRecursion IsFit (places_of (first ∷ ms))) (sym row) (rows-fit records keep p first others heard.done left)
+    let heard = c.rows.invariant.heard keep records p are in
+    let done = heard.done in
+    let more = c.push_later.new.held.marks.items in
+    let rows = subst (λ ms. AreRowsLeft rs keep p ms done) c.in-Some.ensures.cases.0 heard.rows in
+    let row = c.split_at.ensures.front ∙ ap (λ m. take m others) c.row_len.ensures in
+    let here = c.in_ok-push_later.ensures.marks ∙ (λ j. c.clear.ensures.marks j ++ own.marks j) in
+    let made = ap (λ ms. done ++ ms) (here ∙ ap (λ ms. filter (takes keep) (later_marks (record_at rs first.row) first.row (places_of (first ∷ ms)))) row) in
+    let fit = stays-fit done (done ++ more) more refl (subst AreFit (sym (c.in_ok-push_later.ensures.marks
+    ∙ ap (λ ms. ms ++ trail_later first.row (places_of (first ∷ c.split_at.result.0.now)) (reverse c.of.result.now)) c.clear.ensures.marks)) own.fit)
+    rows.fit in
+    subst (λ ms. AreRowsLeft rs keep p ms (done ++ more)) (sym (c.split_at.ensures.back ∙ ap (λ m. drop m others) c.row_len.ensures))
+    (rows-next rs keep p first others done rows (done ++ more) made fit)
 
 pub tell_all-requires : goal.tell_all-requires
 tell_all-requires c =
-    let keep = keeps c.args.kept.now in
-    let records = weighed_of keep c.args.records.now in
-    let p = c.requires.places.0 in
-    let is = c.requires.places.1 in
-    let places = c.requires.places.2 in
-    let heard = c.rows.invariant p is places in
-    let more = c.push_later.new.marks.items in
-    let left = left_at (goal.at.tell_all-requires c).In-Some p is places in
-    let next = next_at (goal.at.tell_all-requires c).In_ok-push_later p is places left in
-    let whole = weighed-records keep c.args.records.now c.requires.records in (
+    let keep = c.requires.0 in
+    let records = c.requires.1 in
+    let p = c.requires.2 in
+    let are = c.requires.3 in
+    let heard = c.rows.invariant.heard keep records p are in
+    let own = row_at (goal.at.tell_all-requires c).After-of keep records p are in
+    let next = next_at (goal.at.tell_all-requires c).In_ok-push_later keep records p are own in (
       heard.done,
       heard.told,
       subst (MayTellEach heard.done) (sym c.deref.ensures.value)
-          (rows-may keep records p c.args.marks.now _ heard.done more whole is places next),
+          (rows-may keep (weighed_of keep records) p c.args.held.now.marks.items _ heard.done c.push_later.new.held.marks.items
+          (weighed-records keep records are.are) are.reached are.places next),
     )
 
 pub rows-preserved : goal.rows-preserved
-rows-preserved c p is places =
-    let keep = keeps c.args.kept.now in
-    let records = weighed_of keep c.args.records.now in
+rows-preserved c =
+    let marks = c.args.held.now.marks.items in
+    let left = c.rows.left.now in
+    let first = c.in-Some.first.now in
     let others = c.in-Some.others.now in
-    let heard = c.rows.invariant p is places in
-    let done = heard.done in
-    let more = c.push_later.new.marks.items in
-    let left = left_at (goal.at.rows-preserved c).In-Some p is places in
-    let next = next_at (goal.at.rows-preserved c).In_ok-push_later p is places left in
-    let back = c.split_at.ensures.back ∙ ap (λ k. drop k others) c.row_len.ensures in
+    let n = c.row_len.result in
+    let split = c.in-Some.ensures.cases.0 in
+    let back = c.split_at.ensures.back in
+    let few : n ≤ length others = omega (arith, c.row_len.ensures, front-within first.row others) in
+    let size = ap length back ∙ length-drop n others in
+    let more = c.push_later.new.held.marks.items in
     record {
-      done = done ++ more;
-      rows = subst (λ (ms : List Mark). AreRowsLeft records keep p ms (done ++ more)) (sym back) next;
-      told = subst (λ ms. AreTold c.args.reaches.now c.tell_all.new.links c.tell_all.new.tells.items (done ++ ms)) c.deref.ensures.value
-          (c.in_ok-tell_all.ensures done heard.told);
+      few = omega (arith, size, ap length split, c.rows.invariant.few);
+      rest = next-rest c.requires.3 left others first (length marks - length left) c.rows.invariant.rest split n c.split_at.result.1.now back few;
+      heard = λ keep records p are.
+          let heard = c.rows.invariant.heard keep records p are in
+          let own = row_at (goal.at.rows-preserved c).After-of keep records p are in
+          record {
+            done = heard.done ++ more;
+            rows = next_at (goal.at.rows-preserved c).In_ok-push_later keep records p are own;
+            told = subst (λ ms. AreTold c.args.reaches.now c.tell_all.new.links c.tell_all.new.tells.items (heard.done ++ ms)) c.deref.ensures.value
+                (c.in_ok-tell_all.ensures heard.done heard.told);
+          };
     }
+
+-- all marks are told
+told_at : (c : After-deref-2) (keep : ℕ → Bool) (records : Records) (p : List (List ℕ)) (are : AreHeld keep records c.args.trail.now p c.args.held.now)
+    → AreTold c.args.reaches.now c.rows.links c.deref-2.result.now (all_grown AfterLast keep (weighed_of keep records) p)
+told_at c keep records p are =
+    let rs = weighed_of keep records in
+    let none = no-marks c.rows.left.now c.in_default.ensures.cases in
+    let heard = c.rows.invariant.heard keep records p are in
+    let left = subst (λ ms. AreRowsLeft rs keep p ms heard.done) none heard.rows in
+    let whole = rows-end rs keep p heard.done left in
+    subst (λ ts. AreTold c.args.reaches.now c.rows.links ts (all_grown AfterLast keep rs p)) (sym c.deref-2.ensures.value)
+    (subst (AreTold c.args.reaches.now c.rows.links c.rows.tells.items) whole heard.told)
 
 pub children_told-requires : goal.children_told-requires
 children_told-requires c =
-    let keep = keeps c.args.kept.now in
-    let records = weighed_of keep c.args.records.now in
-    let p = c.requires.places.0 in
-    let is = c.requires.places.1 in
-    let places = c.requires.places.2 in
-    let none = no-marks c.rows.left.now c.in_default.ensures.cases in
-    let heard = c.rows.invariant p is places in
-    let left = subst (λ (ms : List Mark). AreRowsLeft records keep p ms heard.done) none heard.rows in
-    let whole = rows-end records keep p heard.done left in
-    let told = subst (λ ts. AreTold c.args.reaches.now c.rows.links ts (all_grown AfterLast keep records p)) (sym c.deref-2.ensures.value)
-    (subst (AreTold c.args.reaches.now c.rows.links c.rows.tells.items) whole heard.told) in (
-      records,
+    let keep = c.requires.0 in
+    let records = c.requires.1 in
+    let p = c.requires.2 in
+    let are = c.requires.3 in
+    let rs = weighed_of keep records in (
+      rs,
       keep,
       p,
-      all_grown AfterLast keep records p,
+      all_grown AfterLast keep rs p,
       c.args.reaches.now,
-      all-gathered AfterLast keep records p c.args.marks.now (weighed-records keep c.args.records.now c.requires.records) is places,
-      told,
+      all-gathered AfterLast keep rs p c.args.held.now.marks.items (weighed-records keep records are.are) are.reached are.places,
+      told_at c keep records p are,
     )
 
 pub returns : goal.returns
-returns c p is places =
-    let keep = keeps c.args.kept.now in
-    let records = weighed_of keep c.args.records.now in
-    let none = no-marks c.rows.left.now c.in_default.ensures.cases in
-    let heard = c.rows.invariant p is places in
-    let left = subst (λ (ms : List Mark). AreRowsLeft records keep p ms heard.done) none heard.rows in
-    let whole = rows-end records keep p heard.done left in
-    let told = subst (λ ts. AreTold c.args.reaches.now c.rows.links ts (all_grown AfterLast keep records p)) (sym c.deref-2.ensures.value)
-    (subst (AreTold c.args.reaches.now c.rows.links c.rows.tells.items) whole heard.told) in
-    c.children_told.ensures.all records keep p (all_grown AfterLast keep records p) c.args.reaches.now
-    (all-gathered AfterLast keep records p c.args.marks.now (weighed-records keep c.args.records.now c.requires.records) is places) told
+returns c keep records p are =
+    let rs = weighed_of keep records in
+    c.children_told.ensures.all rs keep p (all_grown AfterLast keep rs p) c.args.reaches.now
+    (all-gathered AfterLast keep rs p c.args.held.now.marks.items (weighed-records keep records are.are) are.reached are.places)
+    (told_at (goal.at.returns c).After-deref-2 keep records p are)

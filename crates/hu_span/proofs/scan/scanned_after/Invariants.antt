@@ -1,8 +1,7 @@
-use Rattle.std.proofs.Common.{ℕ, List, length}
-use Rattle.hu_chain.specs.Pattern.{last_item}
-use Rattle.hu_span.specs.Child.{ArePlaces}
-use Rattle.hu_span.specs.Growing.{IsReached}
-use Rattle.hu_span.specs.Kept.{keeps, weighed_of}
+use Rattle.std.proofs.Common.{◌≡◌, ◌≤◌, ◌-◌, ℕ, Bool, List, length, drop}
+use Rattle.hu_span.specs.Growing.{Records}
+use Rattle.hu_span.specs.Kept.{weighed_of}
+use Rattle.hu_span.specs.Trail.{AreHeld}
 use Rattle.hu_span.proofs.ScanLemmas.{AreHeard}
 use Rattle.hu_span.proofs.scan.scanned_after.Given as goal
 
@@ -10,5 +9,9 @@ abbrev pub decreases-rows : goal.decreases-rows
 decreases-rows l = length l.left
 
 abbrev pub invariant-rows : goal.invariant-rows
-invariant-rows l = (p : List (List ℕ)) → IsReached p → ArePlaces (weighed_of (keeps l.kept) l.records) p (last_item p) l.marks
-    → AreHeard (weighed_of (keeps l.kept) l.records) (keeps l.kept) p l.reaches l.links l.tells.items l.left
+invariant-rows l = record {
+  few : length l.left ≤ length l.held.marks.items;
+  rest : l.left ≡ drop (length l.held.marks.items - length l.left) l.held.marks.items;
+  heard : (keep : ℕ → Bool) → (records : Records) → (p : List (List ℕ)) → AreHeld keep records l.trail p l.held
+      → AreHeard (weighed_of keep records) keep p l.reaches l.links l.tells.items l.left;
+}

@@ -1,16 +1,17 @@
-use Rattle.std.proofs.Common.{◌≡◌, ◌∙◌, ◌++◌, pos, take, get_or, flat_map, filter, sym, ap, subst, arith}
+use Rattle.std.proofs.Common.{◌≡◌, ◌∙◌, ◌<◌, ◌++◌, ℕ, Bool, Fits, List, pos, take, get_or, flat_map, length, reverse, rules, w64, sym, ap, subst, arith}
 use Rattle.std.proofs.lemmas.List.{take_all}
-use Rattle.hu_kind.proofs.lemmas.Each.{each-get}
 use Rattle.hu_chain.specs.declared.chain.Growth.TheVariants.{IntoLast}
 use Rattle.hu_chain.specs.Pattern.{last_item}
 use Rattle.hu_span.specs.declared.mark.Mark.{Mark}
 use Rattle.hu_span.specs.Child.{AreTold, MayTellEach}
-use Rattle.hu_span.specs.Gather.{beside_marks}
-use Rattle.hu_span.specs.Kept.{keeps, takes, weighed_of}
-use Rattle.hu_span.specs.Mark.{IsMark}
+use Rattle.hu_span.specs.Growing.{Records}
+use Rattle.hu_span.specs.Kept.{weighed_of}
+use Rattle.hu_span.specs.Trail.{AreHeld}
 use Rattle.hu_span.proofs.FamilyLemmas.{told-first}
-use Rattle.hu_span.proofs.RowsLemmas.{beside_kept, beside-all, seen-row}
+use Rattle.hu_span.proofs.GrownLemmas.{met, met-span, met-within}
+use Rattle.hu_span.proofs.RowsLemmas.{beside_kept, beside-all}
 use Rattle.hu_span.proofs.ScanLemmas.{all_grown, all-gathered, beside-may, map-next}
+use Rattle.hu_span.proofs.SpanLemmas.{span-size}
 use Rattle.hu_span.proofs.WeighedLemmas.{weighed-records}
 use Rattle.hu_span.proofs.scan.scanned_into.Goals.{After-deref, After-deref-2}
 use Rattle.hu_span.proofs.scan.scanned_into.Goals as goal
@@ -19,80 +20,101 @@ abbrev no_mark : Mark
 no_mark = record { item = record { 0 = 0 }; row = 0; place = record { element = 0; cell = 0; best = pos 0; rest = pos 0 } }
 
 pub marks-init : goal.marks-init
-marks-init c = let links = c.in_ok-links.ensures in told-first c.args.reaches.now _ _ links.rules links.none c.new-tells.ensures.items
+marks-init c keep records p are = let links = c.in_ok-links.ensures in told-first c.args.reaches.now _ _ links.rules links.none c.new-tells.ensures.items
 
--- the marks of a place's cells, of those that count
-own_at : (c : After-deref) → c.deref.result.now
-    ≡ beside_kept (keeps c.args.kept.now) (weighed_of (keeps c.args.kept.now) c.args.records.now)
-    (get_or c.args.marks.now c.marks.mark-index no_mark)
-own_at c =
-    let keep = keeps c.args.kept.now in
-    let records = c.args.records.now in
-    let mark = get_or c.args.marks.now c.marks.mark-index no_mark in
-    let places = c.requires.places.2 in
-    let is = each-get (IsMark (weighed_of keep records) (last_item c.requires.places.0)) c.args.marks.now c.marks.mark-index no_mark
-    places.each c.marks-test.true in
-    let seen = seen-row keep records mark.row c.elements.result.now c.index-records-mark.result is.within c.elements.ensures.value c.index-records-mark.is in
-    c.deref.ensures.value ∙ c.in_ok-push_beside.ensures.marks
-    ∙ (λ j. c.clear.ensures.items j ++ filter (takes keep) (beside_marks (seen j) mark.row mark.place))
+pub index-span-requires : goal.index-span-requires
+index-span-requires c =
+    let within = met-within c.requires.3 c.deref-mark-items.result.now c.marks.number c.deref-mark-items.ensures.value c.marks-test.true in
+    omega (arith, within)
+
+pub of-requires : goal.of-requires
+of-requires c =
+    let here = met-span c.requires.3 c.deref-mark-items.result.now c.marks.number no_mark c.index-span.result.now c.deref-mark-items.ensures.value
+    c.marks-test.true c.index-span.ensures in
+    here.stands
+
+pub push_beside-requires-clause-within : goal.push_beside-requires-clause-within
+push_beside-requires-clause-within c =
+    let span = c.index-span.result.now in
+    let here = met-span c.requires.3 c.deref-mark-items.result.now c.marks.number no_mark span c.deref-mark-items.ensures.value c.marks-test.true
+    c.index-span.ensures in
+    let size = span-size c.args.trail.now span c.of.result.now here.stands c.of.ensures in
+    let fits : Fits w64 span.high = search rules in
+    omega (arith, size, fits)
+
+pub push_beside-requires-clause-fit : goal.push_beside-requires-clause-fit
+push_beside-requires-clause-fit c =
+    let own = met c.requires.3 c.deref-mark-items.result.now c.marks.number no_mark c.index-span.result.now (reverse c.of.result.now)
+    c.deref-mark-items.ensures.value c.marks-test.true c.index-span.ensures c.of.ensures in
+    own.fit
+
+-- the marks of a place's cells
+own_at : (c : After-deref) (keep : ℕ → Bool) (records : Records) (p : List (List ℕ)) (are : AreHeld keep records c.args.trail.now p c.args.held.now)
+    → c.deref.result.now ≡ beside_kept keep (weighed_of keep records) (get_or c.args.held.now.marks.items c.marks.number no_mark)
+own_at c keep records p are =
+    let same = c.deref-mark-items.ensures.value in
+    let own = met are c.deref-mark-items.result.now c.marks.number no_mark c.index-span.result.now (reverse c.of.result.now) same c.marks-test.true
+    c.index-span.ensures c.of.ensures in
+    c.deref.ensures.value ∙ c.in_ok-push_beside.ensures.marks ∙ (λ j. c.clear.ensures.marks j ++ own.marks j)
+    ∙ ap (λ ms. beside_kept keep (weighed_of keep records) (get_or ms c.marks.number no_mark)) same
 
 pub tell_all-requires : goal.tell_all-requires
 tell_all-requires c =
-    let keep = keeps c.args.kept.now in
-    let records = c.args.records.now in
-    let rs = weighed_of keep records in
-    let i = c.marks.mark-index in
-    let before = flat_map (beside_kept keep rs) (take i c.args.marks.now) in (
+    let keep = c.requires.0 in
+    let records = c.requires.1 in
+    let are = c.requires.3 in
+    let i = c.marks.number in
+    let marks = c.args.held.now.marks.items in
+    let within : c.marks.number < length c.args.held.now.marks.items = omega (arith, c.marks-test.true, ap length c.deref-mark-items.ensures.value) in
+    let before = flat_map (beside_kept keep (weighed_of keep records)) (take i marks) in (
       before,
-      c.marks.invariant,
-      subst (MayTellEach before) (sym (own_at c))
-          (beside-may keep rs c.requires.places.0 c.args.marks.now i no_mark (weighed-records keep records c.requires.records)
-          c.requires.places.1 c.requires.places.2 c.marks-test.true),
+      c.marks.invariant keep records c.requires.2 are,
+      subst (MayTellEach before) (sym (own_at c keep records c.requires.2 are))
+          (beside-may keep (weighed_of keep records) c.requires.2 marks i no_mark (weighed-records keep records are.are) are.reached are.places within),
     )
 
 pub marks-preserved : goal.marks-preserved
-marks-preserved c =
-    let f = beside_kept (keeps c.args.kept.now) (weighed_of (keeps c.args.kept.now) c.args.records.now) in
-    let marks = c.args.marks.now in
-    let i = c.marks.mark-index in
+marks-preserved c keep records p are =
+    let f = beside_kept keep (weighed_of keep records) in
+    let marks = c.args.held.now.marks.items in
+    let i = c.marks.number in
     let before = flat_map f (take i marks) in
+    let within : c.marks.number < length c.args.held.now.marks.items = omega (arith, c.marks-test.true, ap length c.deref-mark-items.ensures.value) in
     subst (AreTold c.args.reaches.now c.tell_all.new.links c.tell_all.new.tells.items)
-    (ap (λ ms. before ++ ms) (own_at (goal.at.marks-preserved c).After-deref) ∙ map-next f marks i no_mark c.marks-test.true)
-    (c.in_ok-tell_all.ensures before c.marks.invariant)
+    (ap (λ ms. before ++ ms) (own_at (goal.at.marks-preserved c).After-deref keep records p are) ∙ map-next f marks i no_mark within)
+    (c.in_ok-tell_all.ensures before (c.marks.invariant keep records p are))
+
+-- all marks are told
+told_at : (c : After-deref-2) (keep : ℕ → Bool) (records : Records) (p : List (List ℕ)) (are : AreHeld keep records c.args.trail.now p c.args.held.now)
+    → AreTold c.args.reaches.now c.marks.links c.deref-2.result.now (all_grown IntoLast keep (weighed_of keep records) p)
+told_at c keep records p are =
+    let rs = weighed_of keep records in
+    let marks = c.args.held.now.marks.items in
+    let all = take_all c.marks.number marks (omega (arith, c.marks-test.false, ap length c.deref-mark-items.ensures.value)) in
+    let whole : flat_map (beside_kept keep rs) (take c.marks.number marks) ≡ all_grown IntoLast keep rs p =
+    ap (flat_map (beside_kept keep rs)) (all ∙ are.places.is) ∙ beside-all keep rs p (last_item p) in
+    subst (λ ts. AreTold c.args.reaches.now c.marks.links ts (all_grown IntoLast keep rs p)) (sym c.deref-2.ensures.value)
+    (subst (AreTold c.args.reaches.now c.marks.links c.marks.tells.items) whole (c.marks.invariant keep records p are))
 
 pub children_told-requires : goal.children_told-requires
 children_told-requires c =
-    let keep = keeps c.args.kept.now in
-    let records = c.args.records.now in
-    let rs = weighed_of keep records in
-    let marks = c.args.marks.now in
-    let p = c.requires.places.0 in
-    let is = c.requires.places.1 in
-    let places = c.requires.places.2 in
-    let all = take_all c.marks.mark-index marks (omega (arith, c.marks-test.false)) in
-    let whole : flat_map (beside_kept keep rs) (take c.marks.mark-index marks) ≡ all_grown IntoLast keep rs p =
-    ap (flat_map (beside_kept keep rs)) (all ∙ places.is) ∙ beside-all keep rs p (last_item p) in
-    let told = subst (λ ts. AreTold c.args.reaches.now c.marks.links ts (all_grown IntoLast keep rs p)) (sym c.deref-2.ensures.value)
-    (subst (AreTold c.args.reaches.now c.marks.links c.marks.tells.items) whole c.marks.invariant) in (
+    let keep = c.requires.0 in
+    let records = c.requires.1 in
+    let p = c.requires.2 in
+    let are = c.requires.3 in
+    let rs = weighed_of keep records in (
       rs,
       keep,
       p,
       all_grown IntoLast keep rs p,
       c.args.reaches.now,
-      all-gathered IntoLast keep rs p marks (weighed-records keep records c.requires.records) is places,
-      told,
+      all-gathered IntoLast keep rs p c.args.held.now.marks.items (weighed-records keep records are.are) are.reached are.places,
+      told_at c keep records p are,
     )
 
 pub returns : goal.returns
-returns c p is places =
-    let keep = keeps c.args.kept.now in
-    let records = c.args.records.now in
+returns c keep records p are =
     let rs = weighed_of keep records in
-    let marks = c.args.marks.now in
-    let all = take_all c.marks.mark-index marks (omega (arith, c.marks-test.false)) in
-    let whole : flat_map (beside_kept keep rs) (take c.marks.mark-index marks) ≡ all_grown IntoLast keep rs p =
-    ap (flat_map (beside_kept keep rs)) (all ∙ places.is) ∙ beside-all keep rs p (last_item p) in
-    let told = subst (λ ts. AreTold c.args.reaches.now c.marks.links ts (all_grown IntoLast keep rs p)) (sym c.deref-2.ensures.value)
-    (subst (AreTold c.args.reaches.now c.marks.links c.marks.tells.items) whole c.marks.invariant) in
     c.children_told.ensures.all rs keep p (all_grown IntoLast keep rs p) c.args.reaches.now
-    (all-gathered IntoLast keep rs p marks (weighed-records keep records c.requires.records) is places) told
+    (all-gathered IntoLast keep rs p c.args.held.now.marks.items (weighed-records keep records are.are) are.reached are.places)
+    (told_at (goal.at.returns c).After-deref-2 keep records p are)

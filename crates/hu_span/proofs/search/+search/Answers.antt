@@ -5,54 +5,62 @@ use Rattle.std.specs.Int.{w128}
 use Rattle.std.proofs.lemmas.Int.{ints, to_z-of_z}
 use Rattle.hu_collect.specs.State.{floor_in, IsInOrder, Reached, ReachedSome}
 use Rattle.hu_collect.proofs.lemmas.Searching.{reached-in_order, stopped}
-use Rattle.hu_chain.specs.Pattern.{last_item}
 use Rattle.hu_span.specs.declared.child.Branch.{Branch}
 use Rattle.hu_span.specs.Branch.{IsBranch}
-use Rattle.hu_span.specs.Child.{stepped, AreGathered, ArePlaces}
+use Rattle.hu_span.specs.Child.{stepped, AreGathered}
 use Rattle.hu_span.specs.Kept.{keeps, weighed_of, AreKept}
 use Rattle.hu_span.specs.Growing.{GrowsOn, GrowsOver, IsBegun}
-use Rattle.hu_span.specs.Search.{counting, AreKeptBest, GoesOn}
+use Rattle.hu_span.specs.Search.{counting, trail_of, AreBehind, AreKeptBest, GoesOn}
 use Rattle.hu_span.specs.Step.{pattern_of}
+use Rattle.hu_span.specs.Trail.{AreSpans}
+use Rattle.std.specs.List.{Contains}
 use Rattle.hu_span.proofs.SearchLemmas.{so_far-none, so_far-ordered, so_far-all, so_far-next, so_far-some}
 use Rattle.hu_span.proofs.SearchLemmas.{turn-branch}
 use Rattle.hu_span.proofs.WeighedLemmas.{weighed-records}
-use Rattle.hu_span.proofs.NodeLemmas.{node, node-all, node-some, node-stopped, can-gather}
+use Rattle.hu_span.proofs.NodeLemmas.{node, node-all, node-held, node-some, node-stopped, can-gather}
 use Rattle.hu_span.proofs.search.+search.Goals as goal
 
-pub deepen-best_branches-requires : goal.deepen-best_branches-requires
-deepen-best_branches-requires g t c =
-    let keep = keeps c.args.kept.now in
-    let records = weighed_of keep c.args.records.now in
+pub deepen-best_branches-requires-clause-grown : goal.deepen-best_branches-requires-clause-grown
+deepen-best_branches-requires-clause-grown g t c =
+    let keep = keeps c.args.level.kept.now in
+    let records = weighed_of keep c.args.level.records.now in
     let p = pattern_of c.args.steps.now.items in
-    let are = weighed-records keep c.args.records.now c.requires.records in
+    let are = weighed-records keep c.args.level.records.now c.requires.records in
     let begun = c.requires.grown.into.begun in
     (records, keep, p, c.requires.grown)
 
+pub deepen-best_branches-requires-clause-spans : goal.deepen-best_branches-requires-clause-spans
+deepen-best_branches-requires-clause-spans g t c =
+    (keeps c.args.level.kept.now, c.args.level.records.now, c.args.level.trail.now, c.requires.spans)
+
 pub deepen-branches-init : goal.deepen-branches-init
 deepen-branches-init g t c =
-    let keep = keeps c.args.kept.now in
-    let records = weighed_of keep c.args.records.now in
+    let keep = keeps c.args.level.kept.now in
+    let records = weighed_of keep c.args.level.records.now in
     let p = pattern_of c.args.steps.now.items in
-    let are = weighed-records keep c.args.records.now c.requires.records in
+    let are = weighed-records keep c.args.level.records.now c.requires.records in
     let begun = c.requires.grown.into.begun in
     let old = g.C.Collect.state c.args.collect.now in
-    let best = c.in_ok-branches.ensures records keep p c.requires.grown in
+    let best = c.in_ok-branches.ensures.best records keep p c.requires.grown in
     let fits : SFits w128 c.floor.result = search rules in
     let floor_is : to_z w128 (of_z w128 c.floor.result) ≡ floor_in old = to_z-of_z w128 c.floor.result fits ∙ c.floor.ensures.value in
     let best' = subst (λ f. AreKeptBest records keep p f c.in_ok-branches.branches.items) floor_is best in
     record {
       steps = refl;
       rows = c.requires.rows;
+      spans = subst (λ bs. (branch : Branch) → Contains bs branch → AreSpans keep c.args.level.records.now c.args.level.trail.now branch.held.marks.items
+          branch.held.spans.items) (sym c.deref-branch-items.ensures.value)
+          (c.in_ok-branches.ensures.spans keep c.args.level.records.now c.args.level.trail.now c.requires.spans);
       made = so_far-none records keep p are begun c.requires.ordered (subst (AreKeptBest records keep p (floor_in old))
           (sym c.deref-branch-items.ensures.value) best');
     }
 
 pub deepen-returns-then-branch-floor-clause-made : goal.deepen-returns-then-branch-floor-clause-made
 deepen-returns-then-branch-floor-clause-made g t c =
-    let keep = keeps c.args.kept.now in
-    let records = weighed_of keep c.args.records.now in
+    let keep = keeps c.args.level.kept.now in
+    let records = weighed_of keep c.args.level.records.now in
     let p = pattern_of c.args.steps.now.items in
-    let are = weighed-records keep c.args.records.now c.requires.records in
+    let are = weighed-records keep c.args.level.records.now c.requires.records in
     let begun = c.requires.grown.into.begun in
     let branch = c.branch-item.result in
     let steps = c.branches.invariant.steps in
@@ -64,19 +72,19 @@ deepen-returns-then-branch-floor-clause-made g t c =
 
 pub deepen-returns-clause-made : goal.deepen-returns-clause-made
 deepen-returns-clause-made g t c =
-    let keep = keeps c.args.kept.now in
-    let records = weighed_of keep c.args.records.now in
+    let keep = keeps c.args.level.kept.now in
+    let records = weighed_of keep c.args.level.records.now in
     let p = pattern_of c.args.steps.now.items in
-    let are = weighed-records keep c.args.records.now c.requires.records in
+    let are = weighed-records keep c.args.level.records.now c.requires.records in
     let begun = c.requires.grown.into.begun in
     so_far-all records keep p are begun c.requires.ordered c.branches.invariant.made (inl c.branches-test.false)
 
 pub deepen-branches-preserved : goal.deepen-branches-preserved
 deepen-branches-preserved g t c =
-    let keep = keeps c.args.kept.now in
-    let records = weighed_of keep c.args.records.now in
+    let keep = keeps c.args.level.kept.now in
+    let records = weighed_of keep c.args.level.records.now in
     let p = pattern_of c.args.steps.now.items in
-    let are = weighed-records keep c.args.records.now c.requires.records in
+    let are = weighed-records keep c.args.level.records.now c.requires.records in
     let begun = c.requires.grown.into.begun in
     let branch = c.branch-item.result in
     let steps = c.branches.invariant.steps in
@@ -84,6 +92,7 @@ deepen-branches-preserved g t c =
     record {
       steps = c.in_ok-enter.ensures.steps ∙ steps;
       rows = c.enter.auto.reaches ∙ c.branches.invariant.rows;
+      spans = c.branches.invariant.spans;
       made = so_far-next records keep p are begun c.requires.ordered so_far branch c.branches-test.true c.branch-item.is
           (subst (λ ss. Reached (g.C.Collect.state c.branches.collect) (GrowsOn records keep (stepped (pattern_of ss) branch.step))
           (g.C.Collect.state c.enter.new.collect)) steps c.in_ok-enter.ensures.made);
@@ -91,10 +100,10 @@ deepen-branches-preserved g t c =
 
 pub deepen-returns-in_err-enter-clause-made : goal.deepen-returns-in_err-enter-clause-made
 deepen-returns-in_err-enter-clause-made g t c =
-    let keep = keeps c.args.kept.now in
-    let records = weighed_of keep c.args.records.now in
+    let keep = keeps c.args.level.kept.now in
+    let records = weighed_of keep c.args.level.records.now in
     let p = pattern_of c.args.steps.now.items in
-    let are = weighed-records keep c.args.records.now c.requires.records in
+    let are = weighed-records keep c.args.level.records.now c.requires.records in
     let begun = c.requires.grown.into.begun in
     let branch = c.branch-item.result in
     let steps = c.branches.invariant.steps in
@@ -106,10 +115,10 @@ deepen-returns-in_err-enter-clause-made g t c =
 
 pub deepen-enter-requires : goal.deepen-enter-requires
 deepen-enter-requires g t c κs within =
-    let keep = keeps c.args.kept.now in
-    let records = weighed_of keep c.args.records.now in
+    let keep = keeps c.args.level.kept.now in
+    let records = weighed_of keep c.args.level.records.now in
     let p = pattern_of c.args.steps.now.items in
-    let are = weighed-records keep c.args.records.now c.requires.records in
+    let are = weighed-records keep c.args.level.records.now c.requires.records in
     let begun = c.requires.grown.into.begun in
     let branch = c.branch-item.result in
     let steps = c.branches.invariant.steps in
@@ -120,8 +129,10 @@ deepen-enter-requires g t c κs within =
     let own : AreKept keep (pattern_of seen) = subst (AreKept keep) (sym q) c.requires.pattern in
     let ordered : IsInOrder (g.C.Collect.state c.branches.collect) = so_far-ordered records keep p are begun c.requires.ordered so_far in
     let is : IsBranch records keep (pattern_of seen) branch =
-    subst (λ r. IsBranch records keep r branch) (sym q) (turn-branch records keep p are begun c.requires.ordered so_far branch c.branches-test.true c.branch-item.is) in
+    subst (λ r. IsBranch records keep r branch) (sym q) (turn-branch records keep p are begun c.requires.ordered so_far branch c.branches-test.true
+    c.branch-item.is) in
     let rows = c.branches.invariant.rows in
+    let spans = c.branches.invariant.spans branch (c.branches.branch-index, c.branches-test.true, sym c.branch-item.is) in
     let records' = c.requires.records in
     let smaller : 2 * (4097 - length c.branches.steps.items) < 2 * (4097 - length c.args.steps.now.items) + 1 = omega (arith, ap length steps) in
     search rules
@@ -131,25 +142,16 @@ enter-narrowed-requires-clause-pattern g t c =
     let n = node c.requires.records c.requires.begun c.requires.pattern c.requires.branch c.in_ok-push.ensures.items in
     n.own
 
-pub enter-narrowed-requires-clause-reached : goal.enter-narrowed-requires-clause-reached
-enter-narrowed-requires-clause-reached g t c =
+pub enter-narrowed-requires-clause-held : goal.enter-narrowed-requires-clause-held
+enter-narrowed-requires-clause-held g t c =
     let n = node c.requires.records c.requires.begun c.requires.pattern c.requires.branch c.in_ok-push.ensures.items in
-    n.reached
-
-pub enter-narrowed-requires-clause-places : goal.enter-narrowed-requires-clause-places
-enter-narrowed-requires-clause-places g t c =
-    let records = c.args.records.now in
-    let kept = c.args.kept.now in
-    let keep = keeps kept in
-    let pushed = c.push.new.self.items in
-    let n = node c.requires.records c.requires.begun c.requires.pattern c.requires.branch c.in_ok-push.ensures.items in
-    let q = pattern_of pushed in
-    subst (ArePlaces (weighed_of keep records) q (last_item q)) (sym c.deref.ensures.value) n.places
+    node-held c.args.level.records.now c.args.level.kept.now c.args.steps.now.items c.push.new.self.items c.args.branch.now c.args.level.trail.now
+    c.requires.records n c.requires.spans
 
 pub enter-returns-in_err-below-clause-made : goal.enter-returns-in_err-below-clause-made
 enter-returns-in_err-below-clause-made g t c =
-    let records = c.args.records.now in
-    let kept = c.args.kept.now in
+    let records = c.args.level.records.now in
+    let kept = c.args.level.kept.now in
     let keep = keeps kept in
     let branch = c.args.branch.now in
     let steps = c.args.steps.now.items in
@@ -161,8 +163,8 @@ enter-returns-in_err-below-clause-made g t c =
 
 pub enter-returns-in-Nothing-clause-made : goal.enter-returns-in-Nothing-clause-made
 enter-returns-in-Nothing-clause-made g t c =
-    let records = c.args.records.now in
-    let kept = c.args.kept.now in
+    let records = c.args.level.records.now in
+    let kept = c.args.level.kept.now in
     let keep = keeps kept in
     let pushed = c.push.new.self.items in
     let n = node c.requires.records c.requires.begun c.requires.pattern c.requires.branch c.in_ok-push.ensures.items in
@@ -171,22 +173,22 @@ enter-returns-in-Nothing-clause-made g t c =
     let new = g.C.Collect.state c.narrowed.new.collect in
     subst (λ q. Reached old (GrowsOn rs keep q) new) n.same (subst (GoesOn old new rs kept (pattern_of pushed)) c.in-Nothing.is c.in_ok-below.ensures.made)
 
-pub enter-grown_below-requires-clause-places : goal.enter-grown_below-requires-clause-places
-enter-grown_below-requires-clause-places g t c =
-    let records = c.args.records.now in
-    let kept = c.args.kept.now in
+pub enter-grown_below-requires : goal.enter-grown_below-requires
+enter-grown_below-requires g t c =
+    let records = c.args.level.records.now in
+    let kept = c.args.level.kept.now in
     let branch = c.args.branch.now in
     let steps = c.args.steps.now.items in
     let pushed = c.push.new.self.items in
     let n = node c.requires.records c.requires.begun c.requires.pattern c.requires.branch c.in_ok-push.ensures.items in
     let is = subst (GoesOn (g.C.Collect.state c.args.collect.now) (g.C.Collect.state c.narrowed.new.collect) (weighed_of (keeps kept) records) kept
     (pattern_of pushed)) c.in-Items.is c.in_ok-below.ensures.made in
-    (pattern_of pushed, can-gather records kept steps pushed branch c.in-Items.fewer _ n is c.deref-2.ensures.value)
+    (pattern_of pushed, can-gather records kept steps pushed branch c.in-Items.fewer c.args.level.trail.now c.requires.records n c.requires.spans is)
 
 pub enter-returns-in_err-fewer-clause-made : goal.enter-returns-in_err-fewer-clause-made
 enter-returns-in_err-fewer-clause-made g t c =
-    let records = c.args.records.now in
-    let kept = c.args.kept.now in
+    let records = c.args.level.records.now in
+    let kept = c.args.level.kept.now in
     let keep = keeps kept in
     let branch = c.args.branch.now in
     let steps = c.args.steps.now.items in
@@ -201,8 +203,8 @@ enter-returns-in_err-fewer-clause-made g t c =
 
 pub enter-deepen-requires : goal.enter-deepen-requires
 enter-deepen-requires g t c κs within =
-    let records = c.args.records.now in
-    let kept = c.args.kept.now in
+    let records = c.args.level.records.now in
+    let kept = c.args.level.kept.now in
     let branch = c.args.branch.now in
     let steps = c.args.steps.now.items in
     let pushed = c.push.new.self.items in
@@ -212,12 +214,18 @@ enter-deepen-requires g t c κs within =
     let is = subst (GoesOn (g.C.Collect.state c.args.collect.now) (g.C.Collect.state c.narrowed.new.collect) (weighed_of (keeps kept) records) kept
     (pattern_of pushed)) c.in-Items.is c.in_ok-below.ensures.made in
     let mid = g.C.Collect.state c.narrowed.new.collect in
-    let same : c.counting-kept.result.now ≡ fewer = c.counting-kept.ensures ∙ ap (λ f. counting f kept) c.in_ok-fewer.ensures.fewer in
+    let same : c.counting.result.now ≡ fewer = c.counting.ensures ∙ ap (λ f. counting f kept) c.in_ok-fewer.ensures.fewer in
     let stay = c.in_ok-below.ensures.steps in
-    let used = c.counting-kept.result.now in
+    let used = c.counting.result.now in
     let now = pattern_of c.narrowed.new.steps.items in
     let ordered : IsInOrder mid = reached-in_order is.offers in
-    let gathered = c.in_ok-fewer.ensures.grown (pattern_of pushed) (can-gather records kept steps pushed branch first _ n is c.deref-2.ensures.value) in
+    let can = can-gather records kept steps pushed branch first c.args.level.trail.now c.requires.records n c.requires.spans is in
+    let gathered = c.in_ok-fewer.ensures.grown (pattern_of pushed) can in
+    let trail = c.walked.result.now in
+    let spans : AreBehind (keeps used) records trail c.in_ok-fewer.field-0.grown =
+    subst (λ cs. AreBehind (keeps used) records cs c.in_ok-fewer.field-0.grown) (sym c.walked.ensures)
+    (subst (λ f. AreBehind (keeps f) records (trail_of c.in_ok-fewer.field-0.fewer c.args.level.trail.now) c.in_ok-fewer.field-0.grown) (sym same)
+    (c.in_ok-fewer.ensures.spans (pattern_of pushed) can)) in
     let grown : AreGathered (weighed_of (keeps used) records) (keeps used) now c.in_ok-fewer.field-0.grown =
     subst (λ q. AreGathered (weighed_of (keeps used) records) (keeps used) q c.in_ok-fewer.field-0.grown) (sym (ap pattern_of stay))
     (subst (λ f. AreGathered (weighed_of (keeps f) records) (keeps f) (pattern_of pushed) c.in_ok-fewer.field-0.grown) (sym same) gathered) in
@@ -231,8 +239,8 @@ enter-deepen-requires g t c κs within =
 
 pub enter-returns-in_err-deepen-clause-made : goal.enter-returns-in_err-deepen-clause-made
 enter-returns-in_err-deepen-clause-made g t c =
-    let records = c.args.records.now in
-    let kept = c.args.kept.now in
+    let records = c.args.level.records.now in
+    let kept = c.args.level.kept.now in
     let keep = keeps kept in
     let branch = c.args.branch.now in
     let steps = c.args.steps.now.items in
@@ -243,7 +251,7 @@ enter-returns-in_err-deepen-clause-made g t c =
     let is = subst (GoesOn (g.C.Collect.state c.args.collect.now) (g.C.Collect.state c.narrowed.new.collect) (weighed_of (keeps kept) records) kept
     (pattern_of pushed)) c.in-Items.is c.in_ok-below.ensures.made in
     let mid = g.C.Collect.state c.narrowed.new.collect in
-    let same : c.counting-kept.result.now ≡ fewer = c.counting-kept.ensures ∙ ap (λ f. counting f kept) c.in_ok-fewer.ensures.fewer in
+    let same : c.counting.result.now ≡ fewer = c.counting.ensures ∙ ap (λ f. counting f kept) c.in_ok-fewer.ensures.fewer in
     let stay = c.in_ok-below.ensures.steps in
     let new = g.C.Collect.state c.deepen.new.collect in
     let some = subst (λ ss. ReachedSome mid (GrowsOver (weighed_of (keeps fewer) records) (keeps fewer) (pattern_of ss)) new) stay
@@ -254,8 +262,8 @@ enter-returns-in_err-deepen-clause-made g t c =
 
 pub enter-returns-clause-made : goal.enter-returns-clause-made
 enter-returns-clause-made g t c =
-    let records = c.args.records.now in
-    let kept = c.args.kept.now in
+    let records = c.args.level.records.now in
+    let kept = c.args.level.kept.now in
     let branch = c.args.branch.now in
     let steps = c.args.steps.now.items in
     let pushed = c.push.new.self.items in
@@ -265,7 +273,7 @@ enter-returns-clause-made g t c =
     let is = subst (GoesOn (g.C.Collect.state c.args.collect.now) (g.C.Collect.state c.narrowed.new.collect) (weighed_of (keeps kept) records) kept
     (pattern_of pushed)) c.in-Items.is c.in_ok-below.ensures.made in
     let mid = g.C.Collect.state c.narrowed.new.collect in
-    let same : c.counting-kept.result.now ≡ fewer = c.counting-kept.ensures ∙ ap (λ f. counting f kept) c.in_ok-fewer.ensures.fewer in
+    let same : c.counting.result.now ≡ fewer = c.counting.ensures ∙ ap (λ f. counting f kept) c.in_ok-fewer.ensures.fewer in
     let stay = c.in_ok-below.ensures.steps in
     let new = g.C.Collect.state c.deepen.new.collect in
     let made = subst (λ ss. Reached mid (GrowsOver (weighed_of (keeps fewer) records) (keeps fewer) (pattern_of ss)) new) stay

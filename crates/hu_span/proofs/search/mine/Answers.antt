@@ -12,22 +12,23 @@ use Rattle.hu_span.proofs.RootLemmas.{root, IsRoot}
 use Rattle.hu_span.proofs.SearchLemmas.{opened-searches}
 use Rattle.hu_span.proofs.WeighedLemmas.{all-records}
 use Rattle.hu_span.proofs.search.mine.Given.{Over}
-use Rattle.hu_span.proofs.search.mine.Goals.{In_ok-grown}
+use Rattle.hu_span.proofs.search.mine.Goals.{In_ok-trail}
 use Rattle.hu_span.proofs.search.mine.Goals as goal
 
 -- the empty pattern, by which nothing is offered yet
-root_at : (g : Over) (c : In_ok-grown g)
-    → IsRoot (records_of c.args.base.now) c.records-records.result.now (keeps c.every-kept.result) c.new-steps.result.items c.in_ok-grown.grown
-root_at g c = root (keeps c.every-kept.result) c.in_ok-grown.grown c.records-records.ensures c.every-kept.ensures
+root_at : (g : Over) (c : In_ok-trail g)
+    → IsRoot (records_of c.args.base.now) c.records-records.result.now (keeps c.every-kept.result) c.new-steps.result.items c.in_ok-trail.field-0.grown
+root_at g c = root (keeps c.every-kept.result) c.in_ok-trail.field-0.grown c.records-records.ensures c.every-kept.ensures
     (omega (arith, c.sum-sum.ensures.fits))
-    c.in_ok-grown.ensures.rules c.new-steps.ensures.items c.in_ok-grown.ensures.into c.in_ok-grown.ensures.after
+    c.in_ok-trail.ensures.rules c.new-steps.ensures.items c.in_ok-trail.ensures.into
+    (c.in_ok-trail.ensures.after (keeps c.every-kept.result) c.every-kept.ensures).grown
 
 pub offer_grown-requires-clause-grown : goal.offer_grown-requires-clause-grown
 offer_grown-requires-clause-grown g c =
     let seen = c.records-records.result.now in
     let keep = keeps c.every-kept.result in
     let rs = weighed_of keep seen in
-    let r = root_at g (goal.at.offer_grown-requires-clause-grown g c).In_ok-grown in
+    let r = root_at g (goal.at.offer_grown-requires-clause-grown g c).In_ok-trail in
     (rs, keep, r.gathered)
 
 pub returns-in_err-offer_grown : goal.returns-in_err-offer_grown
@@ -39,7 +40,7 @@ returns-in_err-offer_grown g c =
     let every = c.every-kept.ensures in
     let rs = weighed_of keep seen in
     let steps = c.new-steps.result.items in
-    let r = root_at g (goal.at.returns-in_err-offer_grown g c).In_ok-grown in
+    let r = root_at g (goal.at.returns-in_err-offer_grown g c).In_ok-trail in
     let old = g.C.Collect.state c.args.collect.now in
     let new = g.C.Collect.state c.offer_grown.new.collect in
     let result = c.from_residual-in_err-offer_grown.result in
@@ -54,7 +55,7 @@ deepen-requires-clause-ordered g c =
     let seen = c.records-records.result.now in
     let keep = keeps c.every-kept.result in
     let rs = weighed_of keep seen in
-    let r = root_at g (goal.at.deepen-requires-clause-ordered g c).In_ok-grown in
+    let r = root_at g (goal.at.deepen-requires-clause-ordered g c).In_ok-trail in
     let made = c.in_ok-offer_grown.ensures.made rs keep r.own r.gathered in
     reached-in_order made.2
 
@@ -63,9 +64,9 @@ deepen-requires-clause-grown g c =
     let seen = c.records-records.result.now in
     let keep = keeps c.every-kept.result in
     let rs = weighed_of keep seen in
-    let r = root_at g (goal.at.deepen-requires-clause-grown g c).In_ok-grown in
+    let r = root_at g (goal.at.deepen-requires-clause-grown g c).In_ok-trail in
     let again = ap pattern_of c.in_ok-offer_grown.ensures.steps ∙ r.none in
-    subst (λ p. AreGathered rs keep p c.in_ok-grown.grown) (sym again) r.empty
+    subst (λ p. AreGathered rs keep p c.in_ok-trail.field-0.grown) (sym again) r.empty
 
 pub returns : goal.returns
 returns g c =
@@ -76,7 +77,7 @@ returns g c =
     let every = c.every-kept.ensures in
     let rs = weighed_of keep seen in
     let steps = c.new-steps.result.items in
-    let r = root_at g (goal.at.returns g c).In_ok-grown in
+    let r = root_at g (goal.at.returns g c).In_ok-trail in
     let old = g.C.Collect.state c.args.collect.now in
     let new = g.C.Collect.state c.deepen.new.collect in
     let result = c.deepen.result in

@@ -24,7 +24,8 @@ returns-then-self-mark c =
     let b : c.max-self.result ≡ int_max t.best place.best = omega (arith, ints, clamps, c.max-self.ensures.value, zb, best) in
     let r : c.max-self-then-self-mark.result ≡ int_max t.reach (reach place) = omega
     (arith, ints, clamps, c.max-self-then-self-mark.ensures.value, zr, best, rest, reach') in
-    let b' : to_z w128 (of_z w128 c.max-self.result) ≡ int_max t.best place.best = to_z-of_z w128 c.max-self.result (omega (arith, ints, c.max-self.type_inv)) ∙ b in
+    let b' : to_z w128 (of_z w128 c.max-self.result) ≡ int_max t.best place.best = to_z-of_z w128 c.max-self.result
+    (omega (arith, ints, c.max-self.type_inv)) ∙ b in
     let r' : to_z w128 (of_z w128 c.max-self-then-self-mark.result) ≡ int_max t.reach (reach place) = to_z-of_z w128 c.max-self-then-self-mark.result
     (omega (arith, ints, c.max-self-then-self-mark.type_inv)) ∙ r in
     (λ j. record { row = t.row; rows = t.rows; best = b' j; bests = t.bests; reach = r' j; reaches = t.reaches })
