@@ -64,9 +64,9 @@ module _ (s : Streams) where
   abbrev Fits : ℕ → Ending → Type 0
   Fits status e = (Unharmed s → (status ≡ status_of e) ⊎ (status ≡ 5)) × (Lacking e → (status ≡ 3) ⊎ (status ≡ 5))
 
-  -- it says nothing of what belongs to another
+  -- all that is promised of a status, which says its own fact and never another's
   runs-by : (status : ℕ) → SaidBy facts status → SaysWords s (job s.words) status → WhereTold s (Fits status) → Spares s status → Runs s status
-  runs-by status said words told kept = record {
+  runs-by status said words told spared = record {
     within = let within = said-within facts status said in omega (arith, within);
     done = said-at facts status said 0;
     refused = said-at facts status said 1;
@@ -80,13 +80,14 @@ module _ (s : Streams) where
     memory_told = said-at facts status said 5;
     complete = IfOk-weaker (job s.words) _ _ (λ asked p. if_some (comes_to asked) _ _ (λ e fits. fits.0) p) told;
     lacking = IfOk-weaker (job s.words) _ _ (λ asked p. if_some (comes_to asked) _ _ (λ e fits. fits.1) p) told;
-    spares = kept;
+    spares = spared;
   }
 
   -- an ending that is no missing file
   fits : (status : ℕ) (x : Ending) → (Unharmed s → status ≡ status_of x) → (Lacking x → ⊥) → (e : Ending) → e ≡ x → Fits status e
   fits status x at there e is = (λ unharmed. inl (at unharmed ∙ sym (ap status_of is)), λ lacking. absurd (there (subst Lacking is lacking)))
 
+  -- the job came to a text, of which this is so
   module _ (fact : List ℕ → Type 0) (ends : Puts s.words s.files s.files_after fact) where
     text-done : ComesTo s (Writing fact)
     text-done = and_ok (job s.words) _ _ (λ asked p. if_some (comes_to asked) _ _ (λ e is. subst (Writing fact) (sym is) p.2) p.1.ending) ends

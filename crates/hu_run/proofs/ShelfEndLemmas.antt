@@ -144,10 +144,10 @@ module _ (s : Streams) (keeper after : KeeperState) where
     later : (name : List ℕ) → keeper.faults name ≤ after.faults name
     plan : after.plan ≡ keeper.plan
 
-  -- it says nothing of what belongs to another
+  -- all that is promised of a status, which says its own fact and never another's
   runs-by : (status : ℕ) → SaidBy facts status → SaysWords s (shelf_job s.words) status → IfOk (shelf_job s.words) (Fits status) → Keeps status
       → Spares s status → RunsShelf s keeper after status
-  runs-by status said words fits keeps kept = record {
+  runs-by status said words fits keeps spared = record {
     within = let within = said-within facts status said in omega (arith, within);
     not_denied = said-at facts status said 6;
     done = said-at facts status said 0;
@@ -166,7 +166,7 @@ module _ (s : Streams) (keeper after : KeeperState) where
     texts_same = keeps.texts;
     keeper_later = keeps.later;
     keeper_plan = keeps.plan;
-    spares = kept;
+    spares = spared;
   }
 
   -- what is found is no missing file

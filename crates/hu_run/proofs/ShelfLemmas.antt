@@ -1,6 +1,6 @@
 -- What the calls on a store and the reading of the file come to.
 use Rattle.std.proofs.Common.{◌≡◌, ◌∙◌, ℕ, ◌+◌, ◌<◌, ◌≤◌, ◌^◌, nat_lt, nat_le, ℤ, pos, unsigned_abs, Bool, true, false, List, [], ◌∷◌}
-use Rattle.std.proofs.Common.{Result, Ok, Err, Option, Some, None, MatchOption, length, ap, sym, subst, refl, arith, if◌then◌else◌}
+use Rattle.std.proofs.Common.{Result, Ok, Err, Option, Some, None, MatchOption, length, ap, sym, subst, refl, if◌then◌else◌}
 use Rattle.std.specs.Prelude.{◌≢◌, IfSome, IsOkAnd, ⊤}
 use Rattle.std.specs.List.{Contains}
 use Rattle.std.proofs.lemmas.Bool.{lt-ltb, le-ltb, lt-leb, le-leb}
@@ -16,7 +16,7 @@ use Rattle.hu_base.specs.Base.{records_in, records_of}
 use Rattle.hu_kept.specs.Changes.{changes}
 use Rattle.hu_kept.specs.Kept.{Keeping, answer_of, with_batch}
 use Rattle.hu_report.specs.Text.{answer_text}
-use Rattle.hu_shelf.specs.Keeper.{KeeperState, Stays, Told, keeping_text}
+use Rattle.hu_shelf.specs.Keeper.{KeeperState, Told, keeping_text}
 use Rattle.hu_shelf.specs.Shelf.{IsFaultOf, Refuses, IsCause, absolute_sum, add_fault, create_fault, find_fault}
 use Rattle.hu_shelf.specs.Store.{IsStore, store_of, store_text}
 use Rattle.hu_shelf.specs.Worked.{empty_text}

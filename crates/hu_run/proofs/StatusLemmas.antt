@@ -1,4 +1,4 @@
--- What a status says, and never says of what belongs to another.
+-- What a status says alone, and of words that are no job.
 use Rattle.std.proofs.Common.{◌≡◌, ℕ, zero, suc, ◌<◌, List, [], ◌∷◌, Result, Err, length, sym, subst, refl, arith}
 use Rattle.std.specs.Prelude.{IsErr, IsOkAnd, IfErr}
 use Rattle.hu_run.specs.declared.words.WordFault.{WordFault}
@@ -6,7 +6,7 @@ use Rattle.hu_run.specs.Stop.{told_line, word_text}
 use Rattle.hu_run.specs.Run.{Streams, Tells}
 use Rattle.hu_run.proofs.ResultLemmas.{ok_no_err, if_err}
 
--- what a status says, of the facts of all from 0 on; there is no other
+-- the fact of a status, where each from 0 on has one, and no other has any
 abbrev pub SaidBy : List (Type 0) → ℕ → Type 0
 SaidBy [] status = ⊥
 SaidBy (fact ∷ facts) zero = fact
