@@ -9,10 +9,11 @@ ghost use Rattle.hu_trans.specs.Line.{numbers, bad_token, bad_total};
 
 use crate::fault::Fault;
 use hu_kind::{first_number, first_signed};
+use smallvec::SmallVec;
 use std::alloc::Global;
 
-/// The items of part 1, or its first token that is no number.
-pub fn read_items(alloc: Global, part: &[u8]) -> Result<Vec<u128>, Fault>
+/// The items of part 1, or its first token that is no number. Up to sixteen stand inline.
+pub fn read_items(alloc: Global, part: &[u8]) -> Result<SmallVec<u128, 16>, Fault>
     requires { length part.now ≤ 1048576 }
     ensures value { IfOk result (λ items. items.items ≡ map unsigned_abs (numbers number (tokens part.now))) }
     ensures few { IfOk result (λ items. length items.items ≤ 1048576) }
@@ -20,7 +21,7 @@ pub fn read_items(alloc: Global, part: &[u8]) -> Result<Vec<u128>, Fault>
     ensures bad { IfErr result (λ fault. (fault ≡ Fault.NoMemory)
         ⊎ (option_map (BadNumber 1) (bad_token number (tokens part.now)) ≡ Some fault)) }
 {
-    let mut items = Vec::new(alloc);
+    let mut items = SmallVec::new(alloc);
     let mut at = 0;
     let mut rest = part;
     while let Some((said, left)) = first_number(rest) {
@@ -49,8 +50,9 @@ pub fn read_total(part: &[u8]) -> Result<i128, Fault>
     }
 }
 
-/// The utilities of part 3, or its first token that is no number. There is room for so many from the start.
-pub fn read_utilities(alloc: Global, part: &[u8], room: usize) -> Result<Vec<i128>, Fault>
+/// The utilities of part 3, or its first token that is no number. There is room for so many from the start, and up to
+/// sixteen stand inline.
+pub fn read_utilities(alloc: Global, part: &[u8], room: usize) -> Result<SmallVec<i128, 16>, Fault>
     requires few { length part.now ≤ 1048576 }
     requires room { room ≤ 1048576 }
     ensures value { IfOk result (λ values. values.items ≡ numbers signed_number (tokens part.now)) }
@@ -59,7 +61,7 @@ pub fn read_utilities(alloc: Global, part: &[u8], room: usize) -> Result<Vec<i12
     ensures bad { IfErr result (λ fault. (fault ≡ Fault.NoMemory)
         ⊎ (option_map (BadNumber 3) (bad_token signed_number (tokens part.now)) ≡ Some fault)) }
 {
-    let mut utilities = Vec::with_capacity(alloc, room)?;
+    let mut utilities = SmallVec::with_capacity(alloc, room)?;
     let mut at = 0;
     let mut rest = part;
     while let Some((said, left)) = first_signed(rest) {

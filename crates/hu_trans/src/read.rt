@@ -23,5 +23,5 @@ pub fn read_record(alloc: Global, line: &[u8]) -> Result<Record, Fault>
     let items = read_items(alloc, parts.items)?;
     let stated = read_total(parts.total)?;
     let utilities = read_utilities(alloc, parts.utilities, items.len())?;
-    judge(alloc, &items, stated, &utilities)
+    judge(alloc, items.as_slice(), stated, utilities.as_slice())
 }
