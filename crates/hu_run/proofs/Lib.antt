@@ -9,6 +9,7 @@ mod SummaryLemmas
 mod CertifyLemmas
 mod ResultLemmas
 mod SparesLemmas
+mod StatusLemmas
 mod ShelfEndLemmas
 mod ShelfLemmas
 mod GrownLemmas

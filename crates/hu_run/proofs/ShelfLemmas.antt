@@ -1,6 +1,6 @@
 -- What the calls on a store and the reading of the file come to.
 use Rattle.std.proofs.Common.{◌≡◌, ◌∙◌, ℕ, ◌+◌, ◌<◌, ◌≤◌, ◌^◌, nat_lt, nat_le, ℤ, pos, unsigned_abs, Bool, true, false, List, [], ◌∷◌}
-use Rattle.std.proofs.Common.{Result, Ok, Err, Option, Some, None, MatchOption, length, ap, sym, subst, refl, arith, if◌then◌else◌}
+use Rattle.std.proofs.Common.{Result, Ok, Err, Option, Some, None, MatchOption, length, ap, sym, subst, refl, if◌then◌else◌}
 use Rattle.std.specs.Prelude.{◌≢◌, IfSome, IsOkAnd, ⊤}
 use Rattle.std.specs.List.{Contains}
 use Rattle.std.proofs.lemmas.Bool.{lt-ltb, le-ltb, lt-leb, le-leb}
@@ -16,7 +16,7 @@ use Rattle.hu_base.specs.Base.{records_in, records_of}
 use Rattle.hu_kept.specs.Changes.{changes}
 use Rattle.hu_kept.specs.Kept.{Keeping, answer_of, with_batch}
 use Rattle.hu_report.specs.Text.{answer_text}
-use Rattle.hu_shelf.specs.Keeper.{KeeperState, Stays, Told, keeping_text}
+use Rattle.hu_shelf.specs.Keeper.{KeeperState, Told, keeping_text}
 use Rattle.hu_shelf.specs.Shelf.{IsFaultOf, Refuses, IsCause, absolute_sum, add_fault, create_fault, find_fault}
 use Rattle.hu_shelf.specs.Store.{IsStore, store_of, store_text}
 use Rattle.hu_shelf.specs.Worked.{empty_text}
@@ -34,7 +34,7 @@ use Rattle.hu_run.specs.ShelfEnding.{ShelfEnding, leaves, declines, refuses, Giv
 use Rattle.hu_run.specs.ShelfRun.{Finds, HasLeft}
 use Rattle.hu_run.specs.ShelfAttempt.{Scene, scene, shelf_fault, IsStopOf, StopsCall, IfRead, HasRead, StopsRead, Untouched, Leaves, HasFault, HasRefusal}
 use Rattle.hu_run.specs.ShelfAttempt.{HasMissed, StopsShelf, ShelfEnds, Attempts}
-use Rattle.hu_run.proofs.ShelfEndLemmas.{finds-map}
+use Rattle.hu_run.proofs.ShelfEndLemmas.{stays-same}
 
 -- ---- stops of calls
 
@@ -353,29 +353,22 @@ module _ (name file : List ℕ) (s : Keeping) (store : IsStore s) (files read : 
       (λ fault is. add-finds old files name file s (Ok records) (λ e. e ≡ declines fault) store told has.read (adding-declines s records fault has.fits is))
       stops
 
-  stays : (after : KeeperState) → after ≡ old → Stays old after
-  stays after same = record {
-    texts = ap (λ k. k.texts) same;
-    later = λ n. omega (arith, ap (λ k. k.faults n) same);
-    plan = ap (λ k. k.plan) same;
-  }
-
   pub unread_batch : (out : SinkState) (after : KeeperState) (stop : Stop) → StopsRead (absolute_sum s.records) files read (file ∷ []) stop
       → after ≡ old → ShelfEnds (add name file) (scene files read out out old after) (Err (Job stop))
   unread_batch out after (Refused n number reason) stops same = record {
     named = stops.1;
     finds = add-finds old files name file s (Err (refused_line n.now (record { number = number; reason = reason })))
         (λ e. e ≡ refuses n.now (record { number = number; reason = reason })) store told stops.2 refl;
-    untouched = record { files = stops.0; out = refl; keeper = stays after same };
+    untouched = record { files = stops.0; out = refl; keeper = stays-same old after same };
   }
   unread_batch out after (ReadFailed n) stops same = record {
     named = stops.1;
     there = told-map old files name _ _ (λ t is. found_no_fault t s is) told;
     missed = stops.0;
     out = refl;
-    keeper = stays after same;
+    keeper = stays-same old after same;
   }
-  unread_batch out after NoMemory stops same = record { files = stops; out = refl; keeper = stays after same }
+  unread_batch out after NoMemory stops same = record { files = stops; out = refl; keeper = stays-same old after same }
   unread_batch out after (Words f) stops same = absurd stops
   unread_batch out after (Denied cert f) stops same = absurd stops
   unread_batch out after TooLong stops same = absurd stops

@@ -29,9 +29,12 @@ sink-same old new same = record { later = omega (arith, ap (λ s. s.faults) same
 pub sink-put : {old new : SinkState} {text : List ℕ} → Appended old new text → KeepsSink old new
 sink-put put = record { later = omega (arith, put.faults); plan = put.plan }
 
+pub sink-broke : {old new : SinkState} {text : List ℕ} → Broke old new text → KeepsSink old new
+sink-broke broke = record { later = broke.later; plan = broke.plan }
+
 pub sink-told : (s : Streams) (line : List ℕ) → Tells s line → KeepsSink s.err s.err_after
 sink-told s line (inl put) = sink-put put
-sink-told s line (inr broke) = record { later = broke.later; plan = broke.plan }
+sink-told s line (inr broke) = sink-broke broke
 
 module _ (s : Streams) where
   spares : (status : ℕ) → KeepsFiles s.files s.files_after → (status ≢ 3 → s.files_after ≡ s.files) → KeepsSink s.out s.out_after

@@ -1,13 +1,33 @@
 -- The parts of a line.
-use Rattle.std.proofs.Common.{◌≡◌, ℕ, ◌+◌, ◌-◌, ◌<◌, ◌≤◌, ◌==◌, false, None, Some, List, [], ◌∷◌, length, take, drop, position, ap, ◌∙◌, arith, refl}
+use Rattle.std.proofs.Common.{◌≡◌, ℕ, ◌+◌, ◌-◌, ◌<◌, ◌≤◌, ◌==◌, inl, inr, false, Option, None, Some, List, [], ◌∷◌, length, take, drop, position, ap, sym, ◌∙◌, arith, refl}
 use Rattle.std.specs.List.{position_or_len}
+use Rattle.std.proofs.lemmas.Bool.{cases_lt, false≢true}
 use Rattle.std.proofs.lemmas.Bool.Decides.{nat_tests}
 use Rattle.std.proofs.lemmas.List.{take_all, length-drop}
 use Rattle.std.proofs.lemmas.List.Sums.{fails_before_first}
+use Rattle.std.proofs.lemmas.List.Quantifiers.{position-Some}
 use Rattle.std.proofs.lemmas.List.Splits.{slice_split_first, slice_split_none, length-slice_split}
+use Rattle.memchr.specs.Find.{IsFirstByte, is_byte}
 use Rattle.hu_trans.specs.declared.fault.Fault.TheVariants.{NotThreeParts}
 use Rattle.hu_trans.specs.Line.{parts}
 use Rattle.hu_trans.specs.Reading.{not_three_parts}
+
+-- what a search for a byte finds is the first place of that byte
+pub first_place : (a : ℕ) (text : List ℕ) (place first : Option ℕ) → IsFirstByte (is_byte a) text place
+    → position (λ byte. byte == a) text ≡ first → place ≡ first
+first_place a text None None found is = refl
+first_place a text None (Some i) found is =
+    let at = position-Some (λ byte. byte == a) text i 0 is in
+    absurd (found i (omega arith) at.0 at.1)
+first_place a text (Some k) None found is =
+    let end : length text ≤ position_or_len (λ byte. byte == a) text = grind (arith, nat_tests) in
+    let fails = fails_before_first (λ byte. byte == a) text k 0 (omega (arith, end, found.0.high)) in
+    absurd (false≢true (sym fails ∙ found.1))
+first_place a text (Some k) (Some i) found is =
+    let at = position-Some (λ byte. byte == a) text i 0 is in
+    let low : i ≤ k = elim (cases_lt k i) [ inl before ↦ absurd (false≢true (sym (at.2 k before) ∙ found.1)) | inr low ↦ low ] in
+    let high : k ≤ i = elim (cases_lt i k) [ inl after ↦ absurd (found.0.before i (omega arith) after at.1) | inr high ↦ high ] in
+    ap Some (omega (arith, low, high))
 
 -- the first part ends at the first `:`
 pub parts-first : (text : List ℕ) (place : ℕ) → position (λ byte. byte == 58) text ≡ Some place

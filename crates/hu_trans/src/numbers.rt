@@ -9,18 +9,18 @@ ghost use Rattle.hu_trans.specs.Line.{numbers, bad_token, bad_total};
 
 use crate::fault::Fault;
 use hu_kind::{first_number, first_signed};
-use std::alloc::Global;
+use smallvec::SmallVec;
 
-/// The items of part 1, or its first token that is no number.
-pub fn read_items(alloc: Global, part: &[u8]) -> Result<Vec<u128>, Fault>
-    requires { length part.now ≤ 1048576 }
-    ensures value { IfOk result (λ items. items.items ≡ map unsigned_abs (numbers number (tokens part.now))) }
-    ensures few { IfOk result (λ items. length items.items ≤ 1048576) }
+/// Puts the items of part 1 in an empty list, or says its first token that is no number.
+pub fn read_items(part: &[u8], items: &mut SmallVec<u128, 16>) -> Result<(), Fault>
+    requires short { length part.now ≤ 1048576 }
+    requires empty { items.old.items ≡ [] }
+    ensures value { OnOk result (items.new.items ≡ map unsigned_abs (numbers number (tokens part.now))) }
+    ensures few { OnOk result (length items.new.items ≤ 1048576) }
     ensures good { OnOk result (bad_token number (tokens part.now) ≡ None) }
     ensures bad { IfErr result (λ fault. (fault ≡ Fault.NoMemory)
         ⊎ (option_map (BadNumber 1) (bad_token number (tokens part.now)) ≡ Some fault)) }
 {
-    let mut items = Vec::new(alloc);
     let mut at = 0;
     let mut rest = part;
     while let Some((said, left)) = first_number(rest) {
@@ -31,7 +31,7 @@ pub fn read_items(alloc: Global, part: &[u8]) -> Result<Vec<u128>, Fault>
         }
         rest = left;
     }
-    Ok(items)
+    Ok(())
 }
 
 /// The one number of part 2.
@@ -49,17 +49,16 @@ pub fn read_total(part: &[u8]) -> Result<i128, Fault>
     }
 }
 
-/// The utilities of part 3, or its first token that is no number. There is room for so many from the start.
-pub fn read_utilities(alloc: Global, part: &[u8], room: usize) -> Result<Vec<i128>, Fault>
-    requires few { length part.now ≤ 1048576 }
-    requires room { room ≤ 1048576 }
-    ensures value { IfOk result (λ values. values.items ≡ numbers signed_number (tokens part.now)) }
-    ensures few { IfOk result (λ values. length values.items ≤ 1048576) }
+/// Puts the utilities of part 3 in an empty list, or says its first token that is no number.
+pub fn read_utilities(part: &[u8], utilities: &mut SmallVec<i128, 16>) -> Result<(), Fault>
+    requires short { length part.now ≤ 1048576 }
+    requires empty { utilities.old.items ≡ [] }
+    ensures value { OnOk result (utilities.new.items ≡ numbers signed_number (tokens part.now)) }
+    ensures few { OnOk result (length utilities.new.items ≤ 1048576) }
     ensures good { OnOk result (bad_token signed_number (tokens part.now) ≡ None) }
     ensures bad { IfErr result (λ fault. (fault ≡ Fault.NoMemory)
         ⊎ (option_map (BadNumber 3) (bad_token signed_number (tokens part.now)) ≡ Some fault)) }
 {
-    let mut utilities = Vec::with_capacity(alloc, room)?;
     let mut at = 0;
     let mut rest = part;
     while let Some((said, left)) = first_signed(rest) {
@@ -70,5 +69,5 @@ pub fn read_utilities(alloc: Global, part: &[u8], room: usize) -> Result<Vec<i12
         }
         rest = left;
     }
-    Ok(utilities)
+    Ok(())
 }

@@ -5,6 +5,7 @@ ghost use Rattle.hu_trans.specs.Line.{parts};
 ghost use Rattle.hu_trans.specs.Reading.{not_three_parts};
 
 use crate::fault::Fault;
+use memchr::memchr;
 
 /// The parts of a line: what stands before, between and after its two `:`.
 #[derive(Clone, Copy)]
@@ -50,5 +51,5 @@ fn cut(text: &[u8]) -> Option<(&[u8], &[u8])>
 fn colon_place(text: &[u8]) -> Option<usize>
     ensures { result ≡ position (λ byte. byte == 58) text.now }
 {
-    text.iter().position(|byte| *byte == b':')
+    memchr(b':', text)
 }

@@ -28,7 +28,7 @@ loop-said-preserved c =
     let found = c.in-Some.ensures.found in
     let said = found.value ∙ c.in-Ok.is in
     let fits : FitsSigned w128 c.in-Ok.value = search rules in
-    let push = c.in_ok-push-in-Ok.ensures.items in
+    let push = c.in_ok-push-in-Ok.ensures.ok in
     record {
       so_far =
           numbers-more signed_number c.loop-said.utilities.items c.push.new.self.items (tokens c.loop-said.rest.now)
