@@ -29,16 +29,18 @@ use hu_kind::{Entry, NoMemory, SeqRecord};
 use std::alloc::Global;
 
 /// Offers the sequences that can change what the collector holds, with their utility and their support, so that it holds
-/// what all sequences that occur would make. The places of all patterns with one item more than a pattern are gathered in
-/// one pass over its places, record by record: what those of a record tell of each item is summed at once, and they are let
-/// go. All these patterns are offered before any is entered, and where no bound of theirs reaches the floor none is. The bound
-/// is the sum over the records of the greatest utility with all that is left after it. Then those items are dropped that reach
-/// the floor in no pattern below: the sum over the records in which an item makes a child, each with the greatest utility and
-/// all that is left after it. Where some are dropped, what is left of a record is summed anew without them, in one walk from
-/// its end. Then the places are gathered once more and held, summed again and linked item by item, so that they are taken
-/// apart for the patterns that are entered alone. The patterns are entered best bound first, up to the first whose bound is
-/// below the floor of the moment. The memory of a level is the places of those patterns whose bound reaches the floor, and the
-/// items that still count, where they are fewer than above. After want of memory some of the sequences have been offered.
+/// what all sequences that occur would make. Each place of a pattern tells where the cells behind it stand in one list, its
+/// trail, which has those of items that count alone. The places of all patterns with one item more are gathered in one pass
+/// over these, record by record: what those of a record tell of each item is summed at once, and they are let go. All these
+/// patterns are offered before any is entered, and where no bound of theirs reaches the floor none is. The bound is the sum
+/// over the records of the greatest utility with all that is left after it. Then those items are dropped that reach the floor
+/// in no pattern below: the sum over the records in which an item makes a child, each with the greatest utility and all that
+/// is left after it. Where some are dropped, the cells behind the pattern's places are copied to a shorter trail without them,
+/// and what is left of a record is summed anew, in one walk from its end. Then the places are gathered once more and held,
+/// summed again and linked item by item, so that they are taken apart for the patterns that are entered alone. The patterns
+/// are entered best bound first, up to the first whose bound is below the floor of the moment. The memory of a level is the
+/// places of those patterns whose bound reaches the floor, and the items that still count with their trail, where they are
+/// fewer than above; the first trail has all cells of the base. After want of memory some of the sequences have been offered.
 /// After USpan (Yin, Zheng and Cao, 2012) and HUS-Span (Wang, Huang and Chen, 2016).
 pub fn mine<C: Collect>(
     alloc: Global,
@@ -68,6 +70,7 @@ pub fn mine<C: Collect>(
 /// What a level of the search stands on.
 #[derive(Clone, Copy)]
 struct Level<'a> {
+    /// What the contracts speak of; the search itself walks over the trail alone.
     records: &'a [SeqRecord],
     /// The items that count.
     kept: &'a Kept,
