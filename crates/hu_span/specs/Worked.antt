@@ -1,5 +1,6 @@
 -- Worked rows: steps, and the marks by which a pattern can grow, by computation.
-use Rattle.std.specs.Prelude.{◌≡◌, ℕ, false, pos, negsuc, List, [], ◌∷◌, refl}
+use Rattle.std.specs.Prelude.{◌≡◌, ℕ, ℤ, false, pos, negsuc, List, [], ◌∷◌, refl}
+use Rattle.std.specs.List.{filter}
 use Rattle.hu_kind.specs.Sequence.{sequence_key}
 use Rattle.hu_chain.specs.declared.chain.Growth.{Growth}
 use Rattle.hu_chain.specs.declared.chain.Growth.TheVariants.{IntoLast, AfterLast}
@@ -12,6 +13,8 @@ use Rattle.hu_span.specs.Kept.{keeps, weighed_in}
 use Rattle.hu_span.specs.Mark.{mark_at, marks_of}
 use Rattle.hu_span.specs.Step.{closed, open_key, pattern_of}
 use Rattle.hu_span.specs.Tally.{bests_of, reaches_of, told}
+use Rattle.hu_span.specs.declared.trail.TrailCell.{TrailCell}
+use Rattle.hu_span.specs.Trail.{cells_at, cells_past, is_held, trail_later, values_in}
 
 -- a step
 abbrev pub step_of : Growth → ℕ → Step
@@ -63,3 +66,26 @@ weighed_places = refl
 pub spread_of_rows : spread (pos 20 ∷ pos 40 ∷ [])
     (mark_at 1 4 (place_of 0 1 13 27) ∷ mark_at 1 4 (place_of 2 0 5 3) ∷ []) ≡ pos 40
 spread_of_rows = refl
+
+-- a cell of a trail
+abbrev pub cell_of : ℕ → ℕ → ℕ → ℤ → TrailCell
+cell_of item element cell value = record { item = record { 0 = item }; element = element; cell = cell; value = value }
+
+-- behind the first place of `1 -1` there stand the cells of 2, 1 and 3
+pub cells_behind : cells_past several_places 0 0 ≡ cell_of 2 1 0 (pos 1) ∷ cell_of 1 2 0 (pos 2) ∷ cell_of 3 3 0 (pos 8) ∷ []
+cells_behind = refl
+
+-- a trail has them from the last one on
+pub cells_at_span : cells_at (cell_of 3 3 0 (pos 8) ∷ cell_of 1 2 0 (pos 2) ∷ cell_of 2 1 0 (pos 1) ∷ [])
+    (record { low = 0; high = 2 }) ≡ cell_of 1 2 0 (pos 2) ∷ cell_of 3 3 0 (pos 8) ∷ []
+cells_at_span = refl
+
+-- a walk over them meets the marks by which `1 -1` grows after its first place
+pub walk_of_cells : trail_later 0 (chain_of one several_places) (cells_past several_places 0 0)
+    ≡ row_marks AfterLast several_places 0 (chain_of one several_places)
+walk_of_cells = refl
+
+-- and where 2 is dropped, they sum to 10
+pub rest_of_cells : values_in (filter (is_held (keeps (false, record { 0 = 1 } ∷ record { 0 = 3 } ∷ []))) (cells_past several_places 0 0))
+    ≡ pos 10
+rest_of_cells = refl
