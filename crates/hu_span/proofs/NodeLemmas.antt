@@ -16,7 +16,9 @@ use Rattle.hu_span.specs.Child.{stepped, AreGathered, ArePlaces}
 use Rattle.hu_span.specs.Gather.{AreGrown}
 use Rattle.hu_collect.specs.State.{State, IsInOrder, Reached, ReachedSome}
 use Rattle.hu_collect.proofs.lemmas.Searching.{reached-in_order, some-none}
-use Rattle.hu_span.specs.Search.{counting, CanGather, IsNarrowed}
+use Rattle.hu_span.specs.Search.{counting, CanGather, GoesOn, IsNarrowed}
+use Rattle.hu_span.specs.declared.search.Below.{Below}
+use Rattle.hu_span.specs.declared.search.Below.TheVariants.{Items}
 use Rattle.hu_span.proofs.SearchLemmas.{opened-all, opened-some, wider-all, wider-some}
 use Rattle.hu_span.specs.Growing.{AreRecords, GrowsOn, GrowsOver, IsBegun, IsReached, Records}
 use Rattle.hu_span.specs.Kept.{keeps, weighed_of, AreKept}
@@ -84,9 +86,33 @@ module _ (records : Records) (kept fewer : Bool × List Item) (found : Option (B
 
 -- ---- a branch that is opened
 
-module _ {old mid : State} (records : Records) (kept fewer : Bool × List Item) (steps pushed : List Step) (branch : Branch)
-    (n : IsNode (weighed_of (keeps kept) records) (keeps kept) steps pushed branch)
-    (narrowed : IsNarrowed old mid (weighed_of (keeps kept) records) (keeps kept) (pattern_of pushed) fewer) where
+-- its children were offered, and items are kept
+pub record IsOpened (old mid : State) (records : Records) (kept : Bool × List Item) (first : Option (Bool × List Item)) (steps pushed : List Step)
+    (branch : Branch) : Type 0 where
+  pub n : IsNode (weighed_of (keeps kept) records) (keeps kept) steps pushed branch
+  pub is : IsNarrowed old mid (weighed_of (keeps kept) records) (keeps kept) (pattern_of pushed) (counting first kept)
+
+pub opened : {old mid : State} {records : Records} {kept : Bool × List Item} {first : Option (Bool × List Item)} {steps pushed : List Step}
+    {branch : Branch} {below : Below} → AreRecords records → IsBegun (pattern_of steps) → AreKept (keeps kept) (pattern_of steps)
+    → IsBranch (weighed_of (keeps kept) records) (keeps kept) (pattern_of steps) branch → pushed ≡ steps ++ branch.step ∷ []
+    → GoesOn old mid (weighed_of (keeps kept) records) kept (pattern_of pushed) below → below ≡ Items first
+    → IsOpened old mid records kept first steps pushed branch
+opened {old} {mid} {records} {kept} {first} {steps} {pushed} are begun own is to goes items = record {
+  n = node are begun own is to;
+  is = subst (GoesOn old mid (weighed_of (keeps kept) records) kept (pattern_of pushed)) items goes;
+}
+
+module _ {old mid : State} {records : Records} {kept : Bool × List Item} {first : Option (Bool × List Item)} {steps pushed : List Step}
+    {branch : Branch} (o : IsOpened old mid records kept first steps pushed branch) where
+  abbrev fewer : Bool × List Item
+  fewer = counting first kept
+
+  abbrev n : IsNode (weighed_of (keeps kept) records) (keeps kept) steps pushed branch
+  n = o.n
+
+  abbrev narrowed : IsNarrowed old mid (weighed_of (keeps kept) records) (keeps kept) (pattern_of pushed) fewer
+  narrowed = o.is
+
   abbrev whole : Records
   whole = weighed_of (keeps kept) records
 
@@ -117,15 +143,11 @@ module _ {old mid : State} (records : Records) (kept fewer : Bool × List Item) 
       (wider-all records (keeps kept) (keeps fewer) (pattern_of pushed) (inr n.reached) narrowed.fewer (reached-in_order narrowed.offers)
       narrowed.enough n.reached made))
 
-pub can-gather : {old mid : State} (records : Records) (kept : Bool × List Item) (steps pushed : List Step) (branch : Branch)
-    (fewer : Option (Bool × List Item)) (trail : List TrailCell) → AreRecords records
-    → IsNode (weighed_of (keeps kept) records) (keeps kept) steps pushed branch
+pub can-gather : {old mid : State} {records : Records} {kept : Bool × List Item} {first : Option (Bool × List Item)} {steps pushed : List Step}
+    {branch : Branch} (trail : List TrailCell) → AreRecords records → IsOpened old mid records kept first steps pushed branch
     → AreSpans (keeps kept) records trail branch.held.marks.items branch.held.spans.items
-    → IsNarrowed old mid (weighed_of (keeps kept) records) (keeps kept) (pattern_of pushed) (counting fewer kept)
-    → CanGather records kept fewer trail branch.held (pattern_of pushed)
-can-gather records kept steps pushed branch fewer trail are n spans is = record {
-  are = node-held records kept steps pushed branch trail are n spans;
-  own = n.own;
-  still = is.own;
-  less = is.fewer;
-}
+    → CanGather records kept first trail branch.held (pattern_of pushed)
+can-gather {records = records} {kept = kept} {steps = steps} {pushed = pushed} {branch = branch} trail are o spans =
+    let n = o.n in
+    let is = o.is in
+    record { are = node-held records kept steps pushed branch trail are n spans; own = n.own; still = is.own; less = is.fewer }

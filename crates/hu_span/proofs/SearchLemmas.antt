@@ -331,12 +331,14 @@ module _ (records : Records) (keep fewer : ℕ → Bool) (pattern : List (List �
       each-less [] a = tt
       each-less (x ∷ xs) a = (less x a.0, each-less xs a.1)
 
-  wider : ((item : ℕ) → fewer item ≡ true → keep item ≡ true) → (e : Entry) → GrowsOver (weighed_of fewer records) fewer pattern e
-      → GrowsOver (weighed_of keep records) keep pattern e
-  wider less e over =
+  -- the same growths, where others count
+  counted-so : (old new : ℕ → Bool) (e : Entry) (over : GrowsOver (weighed_of old records) old pattern e) → AreKept new over.on.grows.other
+      → sequence_support (weighed_of old records) over.on.grows.other ≡ sequence_support (weighed_of new records) over.on.grows.other
+      → sequence_entry (weighed_of old records) over.on.grows.other ≡ sequence_entry (weighed_of new records) over.on.grows.other
+      → GrowsOver (weighed_of new records) new pattern e
+  counted-so old new e over kept support entry =
       let on = over.on in
       let g = on.grows in
-      let kept = all-less less g.other g.kept in
       record {
         growth = over.growth;
         item = over.item;
@@ -345,15 +347,16 @@ module _ (records : Records) (keep fewer : ℕ → Bool) (pattern : List (List �
           growth = on.growth;
           item = on.item;
           may = on.may;
-          grows = record {
-            other = g.other;
-            from = g.from;
-            kept = kept;
-            occurs = subst (λ n. 0 < n) (same-support g.other kept g.kept) g.occurs;
-            is = g.is ∙ same-entry g.other kept g.kept;
-          };
+          grows = record { other = g.other; from = g.from; kept = kept; occurs = subst (λ n. 0 < n) support g.occurs; is = g.is ∙ entry };
         };
       }
+
+  wider : ((item : ℕ) → fewer item ≡ true → keep item ≡ true) → (e : Entry) → GrowsOver (weighed_of fewer records) fewer pattern e
+      → GrowsOver (weighed_of keep records) keep pattern e
+  wider less e over =
+      let g = over.on.grows in
+      let kept = all-less less g.other g.kept in
+      counted-so fewer keep e over kept (same-support g.other kept g.kept) (same-entry g.other kept g.kept)
 
   module _ (begun : IsBegun pattern) (less : (item : ℕ) → fewer item ≡ true → keep item ≡ true) where
     pub wider-some : {mid new : State} → ReachedSome mid (GrowsOver (weighed_of fewer records) fewer pattern) new
@@ -379,23 +382,7 @@ module _ (records : Records) (keep fewer : ℕ → Bool) (pattern : List (List �
         let rises = reached-floor ordered made in
         let same = ap (λ (x : Entry). x.utility) g.is in
         let still = enough g.other from g.kept g.occurs (omega (arith, ints, rises, high, same)) in
-        record {
-          growth = over.growth;
-          item = over.item;
-          may = over.may;
-          on = record {
-            growth = on.growth;
-            item = on.item;
-            may = on.may;
-            grows = record {
-              other = g.other;
-              from = g.from;
-              kept = still;
-              occurs = subst (λ n. 0 < n) (sym (same-support g.other g.kept still)) g.occurs;
-              is = g.is ∙ sym (same-entry g.other g.kept still);
-            };
-          };
-        })
+        counted-so keep fewer e over still (sym (same-support g.other g.kept still)) (sym (same-entry g.other g.kept still)))
         made
 
 -- ---- what is opened

@@ -98,19 +98,11 @@ told_at c keep records p are =
 
 pub children_told-requires : goal.children_told-requires
 children_told-requires c =
-    let keep = c.requires.0 in
-    let records = c.requires.1 in
-    let p = c.requires.2 in
-    let are = c.requires.3 in
-    let rs = weighed_of keep records in (
-      rs,
-      keep,
-      p,
-      all_grown IntoLast keep rs p,
-      c.args.reaches.now,
-      all-gathered IntoLast keep rs p c.args.held.now.marks.items (weighed-records keep records are.are) are.reached are.places,
-      told_at c keep records p are,
-    )
+    let r = c.requires in
+    let are = r.3 in
+    let rs = weighed_of r.0 r.1 in
+    let gathered = all-gathered IntoLast r.0 rs r.2 c.args.held.now.marks.items (weighed-records r.0 r.1 are.are) are.reached are.places in
+    (rs, r.0, r.2, all_grown IntoLast r.0 rs r.2, c.args.reaches.now, gathered, told_at c r.0 r.1 r.2 are)
 
 pub returns : goal.returns
 returns c keep records p are =

@@ -17,7 +17,7 @@ use Rattle.std.specs.List.{Contains}
 use Rattle.hu_span.proofs.SearchLemmas.{so_far-none, so_far-ordered, so_far-all, so_far-next, so_far-some}
 use Rattle.hu_span.proofs.SearchLemmas.{turn-branch}
 use Rattle.hu_span.proofs.WeighedLemmas.{weighed-records}
-use Rattle.hu_span.proofs.NodeLemmas.{node, node-all, node-held, node-some, node-stopped, can-gather}
+use Rattle.hu_span.proofs.NodeLemmas.{opened, node, node-all, node-held, node-some, node-stopped, can-gather}
 use Rattle.hu_span.proofs.search.+search.Goals as goal
 
 pub deepen-best_branches-requires-clause-grown : goal.deepen-best_branches-requires-clause-grown
@@ -175,108 +175,73 @@ enter-returns-in-Nothing-clause-made g t c =
 
 pub enter-grown_below-requires : goal.enter-grown_below-requires
 enter-grown_below-requires g t c =
-    let records = c.args.level.records.now in
-    let kept = c.args.level.kept.now in
-    let branch = c.args.branch.now in
-    let steps = c.args.steps.now.items in
-    let pushed = c.push.new.self.items in
-    let n = node c.requires.records c.requires.begun c.requires.pattern c.requires.branch c.in_ok-push.ensures.items in
-    let is = subst (GoesOn (g.C.Collect.state c.args.collect.now) (g.C.Collect.state c.narrowed.new.collect) (weighed_of (keeps kept) records) kept
-    (pattern_of pushed)) c.in-Items.is c.in_ok-below.ensures.made in
-    (pattern_of pushed, can-gather records kept steps pushed branch c.in-Items.fewer c.args.level.trail.now c.requires.records n c.requires.spans is)
+    let o = opened c.requires.records c.requires.begun c.requires.pattern c.requires.branch c.in_ok-push.ensures.items c.in_ok-below.ensures.made
+    c.in-Items.is in
+    (pattern_of c.push.new.self.items, can-gather c.args.level.trail.now c.requires.records o c.requires.spans)
 
 pub enter-returns-in_err-fewer-clause-made : goal.enter-returns-in_err-fewer-clause-made
 enter-returns-in_err-fewer-clause-made g t c =
-    let records = c.args.level.records.now in
-    let kept = c.args.level.kept.now in
-    let keep = keeps kept in
-    let branch = c.args.branch.now in
-    let steps = c.args.steps.now.items in
-    let pushed = c.push.new.self.items in
-    let n = node c.requires.records c.requires.begun c.requires.pattern c.requires.branch c.in_ok-push.ensures.items in
-    let first = c.in-Items.fewer in
-    let fewer = counting first kept in
-    let is = subst (GoesOn (g.C.Collect.state c.args.collect.now) (g.C.Collect.state c.narrowed.new.collect) (weighed_of (keeps kept) records) kept
-    (pattern_of pushed)) c.in-Items.is c.in_ok-below.ensures.made in
-    stopped {P = GrowsOn (weighed_of keep records) keep (stepped (pattern_of steps) branch.step)} c.from_residual-in_err-fewer.result
-    c.from_residual-in_err-fewer.ensures.0 (node-stopped records kept fewer steps pushed branch n is)
+    let keep = keeps c.args.level.kept.now in
+    let o = opened c.requires.records c.requires.begun c.requires.pattern c.requires.branch c.in_ok-push.ensures.items c.in_ok-below.ensures.made
+    c.in-Items.is in
+    stopped {P = GrowsOn (weighed_of keep c.args.level.records.now) keep (stepped (pattern_of c.args.steps.now.items) c.args.branch.now.step)}
+    c.from_residual-in_err-fewer.result c.from_residual-in_err-fewer.ensures.0 (node-stopped o)
 
 pub enter-deepen-requires : goal.enter-deepen-requires
 enter-deepen-requires g t c κs within =
     let records = c.args.level.records.now in
     let kept = c.args.level.kept.now in
-    let branch = c.args.branch.now in
-    let steps = c.args.steps.now.items in
-    let pushed = c.push.new.self.items in
-    let n = node c.requires.records c.requires.begun c.requires.pattern c.requires.branch c.in_ok-push.ensures.items in
-    let first = c.in-Items.fewer in
-    let fewer = counting first kept in
-    let is = subst (GoesOn (g.C.Collect.state c.args.collect.now) (g.C.Collect.state c.narrowed.new.collect) (weighed_of (keeps kept) records) kept
-    (pattern_of pushed)) c.in-Items.is c.in_ok-below.ensures.made in
-    let mid = g.C.Collect.state c.narrowed.new.collect in
-    let same : c.counting.result.now ≡ fewer = c.counting.ensures ∙ ap (λ f. counting f kept) c.in_ok-fewer.ensures.fewer in
+    let p = pattern_of c.push.new.self.items in
+    let o = opened c.requires.records c.requires.begun c.requires.pattern c.requires.branch c.in_ok-push.ensures.items c.in_ok-below.ensures.made
+    c.in-Items.is in
+    let is = o.is in
+    let made = c.in_ok-fewer.field-0 in
+    let same = c.counting.ensures ∙ ap (λ f. counting f kept) c.in_ok-fewer.ensures.fewer in
     let stay = c.in_ok-below.ensures.steps in
     let used = c.counting.result.now in
     let now = pattern_of c.narrowed.new.steps.items in
-    let ordered : IsInOrder mid = reached-in_order is.offers in
-    let can = can-gather records kept steps pushed branch first c.args.level.trail.now c.requires.records n c.requires.spans is in
-    let gathered = c.in_ok-fewer.ensures.grown (pattern_of pushed) can in
-    let trail = c.walked.result.now in
-    let spans : AreBehind (keeps used) records trail c.in_ok-fewer.field-0.grown =
-    subst (λ cs. AreBehind (keeps used) records cs c.in_ok-fewer.field-0.grown) (sym c.walked.ensures)
-    (subst (λ f. AreBehind (keeps f) records (trail_of c.in_ok-fewer.field-0.fewer c.args.level.trail.now) c.in_ok-fewer.field-0.grown) (sym same)
-    (c.in_ok-fewer.ensures.spans (pattern_of pushed) can)) in
-    let grown : AreGathered (weighed_of (keeps used) records) (keeps used) now c.in_ok-fewer.field-0.grown =
-    subst (λ q. AreGathered (weighed_of (keeps used) records) (keeps used) q c.in_ok-fewer.field-0.grown) (sym (ap pattern_of stay))
-    (subst (λ f. AreGathered (weighed_of (keeps f) records) (keeps f) (pattern_of pushed) c.in_ok-fewer.field-0.grown) (sym same) gathered) in
-    let own : AreKept (keeps used) now = subst (λ q. AreKept (keeps used) q) (sym (ap pattern_of stay))
-    (subst (λ f. AreKept (keeps f) (pattern_of pushed)) (sym same) is.own) in
+    let ordered : IsInOrder (g.C.Collect.state c.narrowed.new.collect) = reached-in_order is.offers in
+    let can = can-gather c.args.level.trail.now c.requires.records o c.requires.spans in
+    let spans : AreBehind (keeps used) records c.walked.result.now made.grown =
+    subst (λ cs. AreBehind (keeps used) records cs made.grown) (sym c.walked.ensures)
+    (subst (λ f. AreBehind (keeps f) records (trail_of made.fewer c.args.level.trail.now) made.grown) (sym same) (c.in_ok-fewer.ensures.spans p can)) in
+    let grown : AreGathered (weighed_of (keeps used) records) (keeps used) now made.grown =
+    subst (λ q. AreGathered (weighed_of (keeps used) records) (keeps used) q made.grown) (sym (ap pattern_of stay))
+    (subst (λ f. AreGathered (weighed_of (keeps f) records) (keeps f) p made.grown) (sym same) (c.in_ok-fewer.ensures.grown p can)) in
+    let own : AreKept (keeps used) now = subst (λ q. AreKept (keeps used) q) (sym (ap pattern_of stay)) (subst (λ f. AreKept (keeps f) p) (sym same) is.own) in
     let rows : length c.narrowed.new.reaches ≡ length records = c.narrowed.auto.reaches ∙ c.requires.rows in
     let all = c.requires.records in
-    let nearer = n.nearer in
-    let smaller : 2 * (4097 - length c.narrowed.new.steps.items) + 1 < 2 * (4097 - length steps) = omega (arith, nearer, ap length stay) in
+    let nearer = o.n.nearer in
+    let smaller : 2 * (4097 - length c.narrowed.new.steps.items) + 1 < 2 * (4097 - length c.args.steps.now.items) = omega (arith, nearer, ap length stay) in
     search rules
 
 pub enter-returns-in_err-deepen-clause-made : goal.enter-returns-in_err-deepen-clause-made
 enter-returns-in_err-deepen-clause-made g t c =
     let records = c.args.level.records.now in
     let kept = c.args.level.kept.now in
-    let keep = keeps kept in
-    let branch = c.args.branch.now in
-    let steps = c.args.steps.now.items in
-    let pushed = c.push.new.self.items in
-    let n = node c.requires.records c.requires.begun c.requires.pattern c.requires.branch c.in_ok-push.ensures.items in
-    let first = c.in-Items.fewer in
-    let fewer = counting first kept in
-    let is = subst (GoesOn (g.C.Collect.state c.args.collect.now) (g.C.Collect.state c.narrowed.new.collect) (weighed_of (keeps kept) records) kept
-    (pattern_of pushed)) c.in-Items.is c.in_ok-below.ensures.made in
+    let o = opened c.requires.records c.requires.begun c.requires.pattern c.requires.branch c.in_ok-push.ensures.items c.in_ok-below.ensures.made
+    c.in-Items.is in
+    let fewer = counting c.in-Items.fewer kept in
     let mid = g.C.Collect.state c.narrowed.new.collect in
-    let same : c.counting.result.now ≡ fewer = c.counting.ensures ∙ ap (λ f. counting f kept) c.in_ok-fewer.ensures.fewer in
-    let stay = c.in_ok-below.ensures.steps in
     let new = g.C.Collect.state c.deepen.new.collect in
-    let some = subst (λ ss. ReachedSome mid (GrowsOver (weighed_of (keeps fewer) records) (keeps fewer) (pattern_of ss)) new) stay
+    let same = c.counting.ensures ∙ ap (λ f. counting f kept) c.in_ok-fewer.ensures.fewer in
+    let some = subst (λ ss. ReachedSome mid (GrowsOver (weighed_of (keeps fewer) records) (keeps fewer) (pattern_of ss)) new) c.in_ok-below.ensures.steps
     (subst (λ f. ReachedSome mid (GrowsOver (weighed_of (keeps f) records) (keeps f) (pattern_of c.narrowed.new.steps.items)) new) same
     c.in_err-deepen.ensures.made) in
-    stopped {P = GrowsOn (weighed_of keep records) keep (stepped (pattern_of steps) branch.step)} c.from_residual-in_err-deepen.result
-    c.from_residual-in_err-deepen.ensures.0 (node-some records kept fewer steps pushed branch n is some)
+    stopped {P = GrowsOn (weighed_of (keeps kept) records) (keeps kept) (stepped (pattern_of c.args.steps.now.items) c.args.branch.now.step)}
+    c.from_residual-in_err-deepen.result c.from_residual-in_err-deepen.ensures.0 (node-some o some)
 
 pub enter-returns-clause-made : goal.enter-returns-clause-made
 enter-returns-clause-made g t c =
     let records = c.args.level.records.now in
     let kept = c.args.level.kept.now in
-    let branch = c.args.branch.now in
-    let steps = c.args.steps.now.items in
-    let pushed = c.push.new.self.items in
-    let n = node c.requires.records c.requires.begun c.requires.pattern c.requires.branch c.in_ok-push.ensures.items in
-    let first = c.in-Items.fewer in
-    let fewer = counting first kept in
-    let is = subst (GoesOn (g.C.Collect.state c.args.collect.now) (g.C.Collect.state c.narrowed.new.collect) (weighed_of (keeps kept) records) kept
-    (pattern_of pushed)) c.in-Items.is c.in_ok-below.ensures.made in
+    let o = opened c.requires.records c.requires.begun c.requires.pattern c.requires.branch c.in_ok-push.ensures.items c.in_ok-below.ensures.made
+    c.in-Items.is in
+    let fewer = counting c.in-Items.fewer kept in
     let mid = g.C.Collect.state c.narrowed.new.collect in
-    let same : c.counting.result.now ≡ fewer = c.counting.ensures ∙ ap (λ f. counting f kept) c.in_ok-fewer.ensures.fewer in
-    let stay = c.in_ok-below.ensures.steps in
     let new = g.C.Collect.state c.deepen.new.collect in
-    let made = subst (λ ss. Reached mid (GrowsOver (weighed_of (keeps fewer) records) (keeps fewer) (pattern_of ss)) new) stay
+    let same = c.counting.ensures ∙ ap (λ f. counting f kept) c.in_ok-fewer.ensures.fewer in
+    let made = subst (λ ss. Reached mid (GrowsOver (weighed_of (keeps fewer) records) (keeps fewer) (pattern_of ss)) new) c.in_ok-below.ensures.steps
     (subst (λ f. Reached mid (GrowsOver (weighed_of (keeps f) records) (keeps f) (pattern_of c.narrowed.new.steps.items)) new) same
     c.in_ok-deepen.ensures.made) in
-    node-all records kept fewer steps pushed branch n is c.requires.ordered made
+    node-all o c.requires.ordered made
