@@ -1,5 +1,5 @@
 -- What a pattern grows by at its marks, by the cells behind them.
-use Rattle.std.proofs.Common.{◌≡◌, ◌∙◌, ℕ, suc, get_or, ◌+◌, ◌-◌, ◌<◌, ◌≤◌, Bool, List, ◌∷◌, filter, length, drop, take, length-drop, refl, sym, ap, subst}
+use Rattle.std.proofs.Common.{◌≡◌, ◌∙◌, ℕ, suc, get_or, ◌+◌, ◌-◌, ◌<◌, ◌≤◌, Bool, List, ◌∷◌, filter, length, drop, take, length-drop, sym, ap, subst}
 use Rattle.std.proofs.Common.{arith}
 use Rattle.std.specs.List.{AllByRecursion}
 use Rattle.std.proofs.lemmas.List.{drop-drop, get_or-drop, length-map}
@@ -19,7 +19,7 @@ use Rattle.hu_span.specs.Mark.{places_of, record_at, IsMark}
 use Rattle.hu_span.specs.Trail.{behind_element, cells_at, in_element, trail_beside, trail_later, trail_spans, AreHeld, AreSpans, IsSpan}
 use Rattle.hu_span.proofs.ReachLemmas.{Ends-reached}
 use Rattle.hu_span.proofs.RowsLemmas.{beside_kept, rows-fit, rows-from, rows-places, AreRowsLeft}
-use Rattle.hu_span.proofs.SpanLemmas.{span-get, spans-beside, spans-later, spans-length}
+use Rattle.hu_span.proofs.SpanLemmas.{spans-beside, spans-later}
 use Rattle.hu_span.proofs.TrailLemmas.{beside-trail, later-trail, AreFrom}
 use Rattle.hu_span.proofs.TurnLemmas.{AreFit}
 use Rattle.hu_span.proofs.WalkLemmas.{beside-fit, fit-taken, later-fit, rule-at}
@@ -90,59 +90,42 @@ module _ (keep : ℕ → Bool) (records : Records) (trail : List TrailCell) (rul
 
 module _ {keep : ℕ → Bool} {records : Records} {trail : List TrailCell} {pattern : List (List ℕ)} {held : Held}
     (are : AreHeld keep records trail pattern held) where
-  -- each mark has a span
-  pub met-within : (marks : List Mark) (i : ℕ) → marks ≡ held.marks.items → i < length marks → i < length held.spans.items
-  met-within marks i same within =
-      let size = spans-length keep records trail held.marks.items held.spans.items are.spans in
-      omega (arith, within, ap length same, size)
-
-  pub met-span : (marks : List Mark) (i : ℕ) (m : Mark) (span : Span) → marks ≡ held.marks.items → i < length marks → span ≡ get_or held.spans.items i span
-      → IsSpan keep records trail (get_or marks i m) span
-  met-span marks i m span same within at =
-      let here = span-get keep records trail held.marks.items held.spans.items i m span are.spans (omega (arith, within, ap length same)) in
-      subst (IsSpan keep records trail (get_or marks i m)) (sym at)
-      (subst (λ ms. IsSpan keep records trail (get_or ms i m) (get_or held.spans.items i span)) (sym same) here.1)
-
   pub met : (marks : List Mark) (i : ℕ) (m : Mark) (span : Span) (cells : List TrailCell) → marks ≡ held.marks.items → i < length marks
-      → span ≡ get_or held.spans.items i span → cells ≡ cells_at trail span → IsBeside keep records trail are.are.rules (get_or marks i m) span cells
-  met marks i m span cells same within at here =
-      let is = each-get (IsMark (weighed_of keep records) (last_item pattern)) marks i m
-      (subst (AllByRecursion (IsMark (weighed_of keep records) (last_item pattern))) (sym same) are.places.each) within in
-      beside-at keep records trail are.are.rules (last_item pattern) (get_or marks i m) span cells is (met-span marks i m span same within at) here
+      → IsSpan keep records trail (get_or held.marks.items i m) span → cells ≡ cells_at trail span
+      → IsBeside keep records trail are.are.rules (get_or marks i m) span cells
+  met marks i m span cells same within own here =
+      let is = each-get (IsMark (weighed_of keep records) (last_item pattern)) held.marks.items i m are.places.each (omega (arith, within, ap length same)) in
+      subst (λ ms. IsBeside keep records trail are.are.rules (get_or ms i m) span cells) (sym same)
+      (beside-at keep records trail are.are.rules (last_item pattern) (get_or held.marks.items i m) span cells is own here)
 
   -- the first of those that are left
   module _ (left later : List Mark) (first : Mark) (k : ℕ) (rest : left ≡ drop k held.marks.items) (split : left ≡ first ∷ later) where
     here : (first ∷ later ≡ drop k held.marks.items)
     here = sym split ∙ rest
 
-    pub first-within : k < length held.spans.items
+    pub first-within : k < length held.marks.items
     first-within =
-        let size = spans-length keep records trail held.marks.items held.spans.items are.spans in
         let some = ap length here in
         let all = length-drop k held.marks.items in
-        omega (arith, size, some, all)
+        omega (arith, some, all)
 
-    pub first-span : (span : Span) → span ≡ get_or held.spans.items k span → IsSpan keep records trail first span
-    first-span span at =
-        let some = ap length here in
-        let all = length-drop k held.marks.items in
-        let found = met-span held.marks.items k first span refl (omega (arith, some, all)) at in
-        let same = sym (get_or-drop k held.marks.items 0 first) ∙ ap (λ ms. get_or ms 0 first) (sym here) in
+    first-is : get_or held.marks.items k first ≡ first
+    first-is =
         let n : k + 0 ≡ k = omega arith in
-        subst (λ m. IsSpan keep records trail m span) (ap (λ i. get_or held.marks.items i first) (sym n) ∙ same) found
+        ap (λ i. get_or held.marks.items i first) (sym n) ∙ sym (get_or-drop k held.marks.items 0 first) ∙ ap (λ ms. get_or ms 0 first) (sym here)
 
     pub met-row : (grown row : List Mark) (span : Span) (cells : List TrailCell) → AreRowsLeft (weighed_of keep records) keep pattern left grown
-        → row ≡ take (front_of first.row later) later → span ≡ get_or held.spans.items k span → cells ≡ cells_at trail span
+        → row ≡ take (front_of first.row later) later → IsSpan keep records trail (get_or held.marks.items k first) span → cells ≡ cells_at trail span
         → IsLater keep records trail are.are.rules first row span cells
-    met-row grown row span cells rows is at same =
+    met-row grown row span cells rows is own same =
         let rs = weighed_of keep records in
         let last = last_item pattern in
-        let own = subst (λ ms. AreRowsLeft rs keep pattern ms grown) split rows in
-        let marks = own.each in
+        let others = subst (λ ms. AreRowsLeft rs keep pattern ms grown) split rows in
+        let marks = others.each in
         subst (λ ms. IsLater keep records trail are.are.rules first ms span cells) (sym is)
         (later-at keep records trail are.are.rules last first (take (front_of first.row later) later) span cells marks.0
-        (rows-places rs keep pattern first later grown own (Ends-reached pattern are.reached)) (rows-fit rs keep pattern first later grown own)
-        (rows-from rs keep pattern first later grown own) (first-span span at) same)
+        (rows-places rs keep pattern first later grown others (Ends-reached pattern are.reached)) (rows-fit rs keep pattern first later grown others)
+        (rows-from rs keep pattern first later grown others) (subst (λ m. IsSpan keep records trail m span) first-is own) same)
 
     -- those behind its row
     pub next-rest : (n : ℕ) (next : List Mark) → next ≡ drop n later → n ≤ length later

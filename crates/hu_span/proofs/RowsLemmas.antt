@@ -3,7 +3,6 @@ use Rattle.std.proofs.Common.{◌≡◌, ℕ, zero, suc, ◌+◌, ◌<◌, ◌�
 use Rattle.std.proofs.Common.{length-append, filter, get_or, pos, ◌-ℤ◌, drop, take, refl, sym, ap, ◌∙◌, subst, arith}
 use Rattle.std.specs.List.{flat_map, AllByRecursion}
 use Rattle.std.proofs.lemmas.Bool.{eq-eqb, eqb-true, ne_eqb}
-use Rattle.std.proofs.lemmas.List.{length-map}
 use Rattle.std.proofs.lemmas.List.Concat.{flat_map-append}
 use Rattle.hu_kind.specs.Order.{Ascend}
 use Rattle.hu_kind.specs.Record.{has, items_in}
@@ -23,11 +22,10 @@ use Rattle.hu_span.specs.declared.mark.Mark.{Mark}
 use Rattle.hu_span.specs.Child.{ArePlaces}
 use Rattle.hu_span.specs.Gather.{beside_marks, front_of, later_marks, row_marks, tail_marks, walk_marks, AreGrown, IsGrowth, MayTake}
 use Rattle.hu_span.specs.Growing.{IsReached, Records}
-use Rattle.hu_span.specs.Kept.{takes, weighed_in, weighed_of}
+use Rattle.hu_span.specs.Kept.{takes}
 use Rattle.hu_span.specs.Mark.{mark_at, marks_from, marks_of, marks_with, places_of, record_at, IsMark}
 use Rattle.hu_span.proofs.GatherLemmas.{first-found, first_from, grown-found, grown_from}
 use Rattle.hu_span.proofs.TrailLemmas.{chain-from, AreFrom}
-use Rattle.hu_span.proofs.WeighedLemmas.{weighed-record}
 use Rattle.hu_span.proofs.MarkLemmas.{each-filter, filter-append, taken-flat_map, taken-kept, taken-with}
 use Rattle.hu_span.proofs.ReachLemmas.{can-reached, may-reached, Ends-reached}
 

@@ -1,6 +1,6 @@
 -- The rules of tails and walks, and of the marks that they give.
 use Rattle.std.proofs.Common.{◌≡◌, ℕ, zero, suc, ◌<◌, ◌≤◌, ◌^◌, Bool, true, false, cond, eqb, ℤ, pos, ◌+ℤ◌, ◌-ℤ◌, ◌≤ℤ◌, ◌<ℤ◌, List, [], ◌∷◌, ◌++◌}
-use Rattle.std.proofs.Common.{filter, length, length-drop, get_or, take, drop, refl, sym, ap, ◌∙◌, subst}
+use Rattle.std.proofs.Common.{filter, length, length-drop, take, drop, refl, sym, ap, ◌∙◌, subst}
 use Rattle.std.proofs.Common.{arith, sum_by}
 use Rattle.std.specs.Int.{int_max}
 use Rattle.std.specs.List.{AllByRecursion}
@@ -22,7 +22,7 @@ use Rattle.hu_span.specs.declared.mark.Mark.{Mark}
 use Rattle.hu_span.specs.Gather.{beside_marks, cells_after, later_marks, tail_marks, walk_marks, IsInside, StaysFit}
 use Rattle.hu_span.specs.Kept.{weighed, weighed_in}
 use Rattle.hu_span.specs.Mark.{places_of, record_at}
-use Rattle.hu_span.proofs.WeighedLemmas.{weigh, weighed-after, weighed-element, weighed-inside}
+use Rattle.hu_span.proofs.WeighedLemmas.{weigh, weighed-element, weighed-inside}
 
 -- ---- the marks of a tail
 

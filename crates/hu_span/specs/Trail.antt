@@ -31,6 +31,7 @@ use Rattle.hu_chain.specs.Place.{element_at}
 use Rattle.hu_span.specs.declared.mark.Mark.{Mark}
 use Rattle.hu_span.specs.declared.trail.Held.{Held}
 use Rattle.hu_span.specs.declared.trail.Span.{Span}
+use Rattle.hu_span.specs.declared.trail.Stretch.{Stretch}
 use Rattle.hu_span.specs.declared.trail.TrailCell.{TrailCell}
 use Rattle.hu_chain.specs.declared.chain.Growth.{Growth}
 use Rattle.hu_span.specs.Child.{ArePlaces}
@@ -67,6 +68,10 @@ values_in (cell ∷ cells) = cell.value +ℤ values_in cells
 -- the cells at a span: a trail has those of a row from the last one on
 abbrev pub cells_at : List TrailCell → Span → List TrailCell
 cells_at trail span = reverse (take (span.high - span.low) (drop span.low trail))
+
+-- where a stretch stands
+abbrev pub span_of : Stretch → Span
+span_of stretch = record { low = stretch.low; high = stretch.low + length stretch.cells.now }
 
 -- a span stands in a trail
 pub record IsWithin (trail : List TrailCell) (span : Span) : Type 0 where

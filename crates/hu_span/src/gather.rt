@@ -101,8 +101,8 @@ fn held_into(alloc: Global, trail: &[TrailCell], held: &Held) -> Result<Held, No
 {
     let mut grown = Held::new(alloc);
     'marks: for (number, mark) in held.marks.iter().enumerate() {
-        let span = held.spans[number];
-        push_beside(&mut grown, span.of(trail), span.low, mark)?;
+        let stretch = held.behind(number, trail);
+        push_beside(&mut grown, stretch.cells, stretch.low, mark)?;
     }
     Ok(grown)
 }
@@ -118,9 +118,9 @@ fn held_after(alloc: Global, trail: &[TrailCell], held: &Held) -> Result<Held, N
     let mut grown = Held::new(alloc);
     let mut left = held.marks.as_slice();
     'rows: while let Some((first, later)) = left.split_first() {
-        let span = held.spans[held.marks.len() - left.len()];
+        let stretch = held.behind(held.marks.len() - left.len(), trail);
         let (row, next) = later.split_at(row_len(later, first.row));
-        push_later(&mut grown, span.of(trail), span.low, first, row)?;
+        push_later(&mut grown, stretch.cells, stretch.low, first, row)?;
         left = next;
     }
     Ok(grown)

@@ -73,9 +73,9 @@ fn scanned_into(
     let mut tells = Vec::new(alloc);
     let mut beside = Held::new(alloc);
     'marks: for (number, mark) in held.marks.iter().enumerate() {
-        let span = held.spans[number];
+        let stretch = held.behind(number, trail);
         beside.clear();
-        push_beside(&mut beside, span.of(trail), span.low, mark)?;
+        push_beside(&mut beside, stretch.cells, stretch.low, mark)?;
         tell_all(&mut links, &mut tells, &beside.marks, reaches)?;
     }
     children_told(alloc, &links, &tells, Growth::IntoLast)
@@ -101,10 +101,10 @@ fn scanned_after(
     let mut later = Held::new(alloc);
     let mut left = held.marks.as_slice();
     'rows: while let Some((first, others)) = left.split_first() {
-        let span = held.spans[held.marks.len() - left.len()];
+        let stretch = held.behind(held.marks.len() - left.len(), trail);
         let (row, next) = others.split_at(row_len(others, first.row));
         later.clear();
-        push_later(&mut later, span.of(trail), span.low, first, row)?;
+        push_later(&mut later, stretch.cells, stretch.low, first, row)?;
         tell_all(&mut links, &mut tells, &later.marks, reaches)?;
         left = next;
     }

@@ -1,9 +1,11 @@
 //! Trails: the cells that a level of the search walks over, and where those behind its marks stand.
 
-ghost use Rattle.std.specs.Prelude.{◌≡◌, ◌++◌, ◌≤◌, [], ◌∷◌, length, reverse, OnOk};
+ghost use Rattle.std.specs.Prelude.{◌≡◌, ◌++◌, ◌+◌, ◌<◌, ◌≤◌, ◌^◌, ℕ, Bool, [], ◌∷◌, length, reverse, slice_index_or, OnOk};
 ghost use Rattle.hu_kind.specs.Cell.{pairs_of};
 ghost use Rattle.hu_kind.specs.Sequence.{IsSequence};
-ghost use Rattle.hu_span.specs.Trail.{cells_at, cells_from, numbered, IsWithin};
+ghost use Rattle.hu_span.specs.declared.mark.Mark.{Mark};
+ghost use Rattle.hu_span.specs.Growing.{Records};
+ghost use Rattle.hu_span.specs.Trail.{cells_at, cells_from, numbered, span_of, AreSpans, IsSpan, IsWithin};
 
 use crate::mark::Mark;
 use hu_kind::{Cell, Element, Item, NoMemory};
@@ -27,12 +29,19 @@ pub(crate) struct Span {
 
 impl Span {
     /// The cells at a span.
-    pub(crate) fn of(self, trail: &[TrailCell]) -> &[TrailCell]
+    fn of(self, trail: &[TrailCell]) -> &[TrailCell]
         requires { IsWithin trail.now self }
         ensures { reverse result.now ≡ cells_at trail.now self }
     {
         &trail[self.low..self.high]
     }
+}
+
+/// Cells of a row, the last one first, and where they begin in a trail.
+#[derive(Clone, Copy)]
+pub(crate) struct Stretch<'a> {
+    pub cells: &'a [TrailCell],
+    pub low: usize,
 }
 
 /// Marks, each with the span of the cells behind it.
@@ -63,6 +72,25 @@ impl Held {
         self.marks.push(mark)?;
         self.spans.push(span)?;
         Ok(())
+    }
+
+    /// The cells behind a mark.
+    pub(crate) fn behind<'a>(&self, number: usize, trail: &'a [TrailCell]) -> Stretch<'a>
+        requires number { number < length self.now.marks.items }
+        requires spans { (keep : ℕ → Bool) × (records : Records)
+            × AreSpans keep records trail.now self.now.marks.items self.now.spans.items }
+        ensures within { result.low + length result.cells.now < 2 ^ 64 }
+        ensures cells { reverse result.cells.now ≡ cells_at trail.now (span_of result) }
+        ensures span { (keep : ℕ → Bool) → (records : Records) → (none : Mark)
+            → AreSpans keep records trail.now self.now.marks.items self.now.spans.items
+            → IsSpan keep records trail.now (slice_index_or self.now.marks.items number none)
+            (span_of result) }
+    {
+        let span = self.spans[number];
+        Stretch {
+            cells: span.of(trail),
+            low: span.low,
+        }
     }
 
     /// Takes all marks away. The memory stays.

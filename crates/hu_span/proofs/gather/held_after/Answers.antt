@@ -1,4 +1,4 @@
-use Rattle.std.proofs.Common.{◌≡◌, ◌∙◌, ◌-◌, ◌≤◌, ◌++◌, ◌∷◌, ℕ, Bool, Fits, [], List, drop, filter, get_or, length-drop, length, reverse, rules, take, w64}
+use Rattle.std.proofs.Common.{◌≡◌, ◌∙◌, ◌-◌, ◌≤◌, ◌++◌, ◌∷◌, ℕ, Bool, [], List, drop, filter, get_or, length-drop, length, reverse, take}
 use Rattle.std.proofs.Common.{sym, ap, subst, arith}
 use Rattle.hu_chain.specs.declared.chain.Growth.TheVariants.{AfterLast}
 use Rattle.hu_chain.specs.Pattern.{last_item}
@@ -7,13 +7,13 @@ use Rattle.hu_span.specs.Gather.{later_marks}
 use Rattle.hu_span.specs.Growing.{Records}
 use Rattle.hu_span.specs.Kept.{takes, weighed_of}
 use Rattle.hu_span.specs.Mark.{places_of, record_at}
-use Rattle.hu_span.specs.Trail.{AreHeld, AreSpans}
-use Rattle.hu_span.proofs.GrownLemmas.{first-span, first-within, met-row, next-rest, IsLater}
+use Rattle.hu_span.specs.Trail.{span_of, AreHeld, AreSpans, IsSpan}
+use Rattle.hu_span.proofs.GrownLemmas.{first-within, met-row, next-rest, IsLater}
 use Rattle.hu_span.proofs.RowsLemmas.{front-within, grown-kept, no-marks, rows-end, rows-first, rows-next, AreRowsLeft}
-use Rattle.hu_span.proofs.SpanLemmas.{span-size, spans-append}
+use Rattle.hu_span.proofs.SpanLemmas.{spans-append}
 use Rattle.hu_span.proofs.WalkLemmas.{stays-fit}
 use Rattle.hu_span.proofs.WeighedLemmas.{weighed-rules}
-use Rattle.hu_span.proofs.gather.held_after.Goals.{After-index-span, After-of}
+use Rattle.hu_span.proofs.gather.held_after.Goals.{After-split_at}
 use Rattle.hu_span.proofs.gather.held_after.Goals as goal
 
 pub rows-init : goal.rows-init
@@ -33,57 +33,41 @@ rows-init c =
       );
     }
 
-pub index-span-requires : goal.index-span-requires
-index-span-requires c =
+pub behind-stretch-requires-clause-number : goal.behind-stretch-requires-clause-number
+behind-stretch-requires-clause-number c =
     let k = length c.args.held.now.marks.items - length c.rows.left.now in
     let within = first-within c.requires.3 c.rows.left.now c.in-Some.later.now c.in-Some.first.now k c.rows.invariant.rest c.in-Some.ensures.cases.0 in
     omega (arith, within, c.len.ensures)
 
--- the span of the first mark that is left
-span_at : (c : After-index-span) → c.index-span.result.now
-    ≡ get_or c.args.held.now.spans.items (length c.args.held.now.marks.items - length c.rows.left.now) c.index-span.result.now
-span_at c =
-    let n : c.len.result ≡ length c.args.held.now.marks.items = omega (arith, c.len.ensures) in
-    c.index-span.ensures ∙ ap (λ k. get_or c.args.held.now.spans.items (k - length c.rows.left.now) c.index-span.result.now) n
-
-pub of-requires : goal.of-requires
-of-requires c =
-    let k = length c.args.held.now.marks.items - length c.rows.left.now in
-    let here = first-span c.requires.3 c.rows.left.now c.in-Some.later.now c.in-Some.first.now k c.rows.invariant.rest c.in-Some.ensures.cases.0
-    c.index-span.result.now (span_at (goal.at.of-requires c).After-index-span) in
-    here.stands
+pub behind-stretch-requires-clause-spans : goal.behind-stretch-requires-clause-spans
+behind-stretch-requires-clause-spans c = (c.requires.0, c.requires.1, c.requires.3.spans)
 
 pub split_at-requires : goal.split_at-requires
 split_at-requires c = omega (arith, c.row_len.ensures, front-within c.in-Some.first.now.row c.in-Some.later.now)
 
-pub push_later-requires-clause-within : goal.push_later-requires-clause-within
-push_later-requires-clause-within c =
-    let span = c.index-span.result.now in
-    let k = length c.args.held.now.marks.items - length c.rows.left.now in
-    let here = first-span c.requires.3 c.rows.left.now c.in-Some.later.now c.in-Some.first.now k c.rows.invariant.rest c.in-Some.ensures.cases.0 span
-    (span_at (goal.at.push_later-requires-clause-within c).After-index-span) in
-    let size = span-size c.args.trail.now span c.of.result.now here.stands c.of.ensures in
-    let fits : Fits w64 span.high = search rules in
-    omega (arith, size, fits)
-
--- what the pattern grows by behind the element of that mark
-row_at : (c : After-of) (keep : ℕ → Bool) (records : Records) (p : List (List ℕ)) (are : AreHeld keep records c.args.trail.now p c.args.held.now)
-    → IsLater keep records c.args.trail.now are.are.rules c.in-Some.first.now c.split_at.result.0.now c.index-span.result.now (reverse c.of.result.now)
+-- what the pattern grows by behind the element of the first mark that is left
+row_at : (c : After-split_at) (keep : ℕ → Bool) (records : Records) (p : List (List ℕ)) (are : AreHeld keep records c.args.trail.now p c.args.held.now)
+    → IsLater keep records c.args.trail.now are.are.rules c.in-Some.first.now c.split_at.result.0.now (span_of c.behind-stretch.result)
+    (reverse c.behind-stretch.result.cells.now)
 row_at c keep records p are =
-    let k = length c.args.held.now.marks.items - length c.rows.left.now in
-    met-row are c.rows.left.now c.in-Some.later.now c.in-Some.first.now k c.rows.invariant.rest c.in-Some.ensures.cases.0 c.rows.grown.marks.items
-    c.split_at.result.0.now c.index-span.result.now (reverse c.of.result.now) (c.rows.invariant.rows keep records p are).0
-    (c.split_at.ensures.front ∙ ap (λ n. take n c.in-Some.later.now) c.row_len.ensures)
-    (span_at (goal.at.push_later-requires-clause-fit c).After-index-span) c.of.ensures
+    let marks = c.args.held.now.marks.items in
+    let k = length marks - length c.rows.left.now in
+    let first = c.in-Some.first.now in
+    let n : c.len.result ≡ length marks = omega (arith, c.len.ensures) in
+    let own = subst (λ size. IsSpan keep records c.args.trail.now (get_or marks (size - length c.rows.left.now) first) (span_of c.behind-stretch.result)) n
+    (c.behind-stretch.ensures.span keep records first are.spans) in
+    met-row are c.rows.left.now c.in-Some.later.now first k c.rows.invariant.rest c.in-Some.ensures.cases.0 c.rows.grown.marks.items
+    c.split_at.result.0.now (span_of c.behind-stretch.result) (reverse c.behind-stretch.result.cells.now) (c.rows.invariant.rows keep records p are).0
+    (c.split_at.ensures.front ∙ ap (λ m. take m c.in-Some.later.now) c.row_len.ensures) own c.behind-stretch.ensures.cells
 
 pub push_later-requires-clause-beside : goal.push_later-requires-clause-beside
 push_later-requires-clause-beside c =
-    let own = row_at c c.requires.0 c.requires.1 c.requires.2 c.requires.3 in
+    let own = row_at (goal.at.push_later-requires-clause-beside c).After-split_at c.requires.0 c.requires.1 c.requires.2 c.requires.3 in
     own.beside
 
 pub push_later-requires-clause-fit : goal.push_later-requires-clause-fit
 push_later-requires-clause-fit c =
-    let own = row_at c c.requires.0 c.requires.1 c.requires.2 c.requires.3 in
+    let own = row_at (goal.at.push_later-requires-clause-fit c).After-split_at c.requires.0 c.requires.1 c.requires.2 c.requires.3 in
     own.fit
 
 pub rows-preserved : goal.rows-preserved
@@ -106,7 +90,7 @@ rows-preserved c =
       rows = λ keep records p are.
           let rs = weighed_of keep records in
           let so_far = c.rows.invariant.rows keep records p are in
-          let own = row_at (goal.at.rows-preserved c).After-of keep records p are in
+          let own = row_at (goal.at.rows-preserved c).After-split_at keep records p are in
           let rows = subst (λ ms. AreRowsLeft rs keep p ms old.marks.items) split so_far.0 in
           let row = c.split_at.ensures.front ∙ ap (λ m. take m later) c.row_len.ensures in
           let made = c.in_ok-push_later.ensures.marks ∙ ap (λ ms. old.marks.items ++ ms) own.marks

@@ -1,49 +1,40 @@
-use Rattle.std.proofs.Common.{◌∙◌, ◌++◌, Fits, pos, flat_map, get_or, length, reverse, rules, take, w64, sym, ap, subst, arith}
+use Rattle.std.proofs.Common.{◌∙◌, ◌++◌, ℕ, Bool, List, pos, flat_map, get_or, length, reverse, take, sym, ap, subst, arith}
 use Rattle.std.proofs.lemmas.List.{take_all}
 use Rattle.hu_chain.specs.declared.chain.Growth.TheVariants.{IntoLast}
 use Rattle.hu_chain.specs.Pattern.{last_item}
 use Rattle.hu_span.specs.declared.mark.Mark.{Mark}
-use Rattle.hu_span.specs.declared.trail.Span.{Span}
+use Rattle.hu_span.specs.Growing.{Records}
 use Rattle.hu_span.specs.Kept.{weighed_of}
-use Rattle.hu_span.specs.Trail.{AreSpans}
-use Rattle.hu_span.proofs.GrownLemmas.{met, met-span, met-within}
+use Rattle.hu_span.specs.Trail.{span_of, AreHeld, AreSpans}
+use Rattle.hu_span.proofs.GrownLemmas.{met, IsBeside}
 use Rattle.hu_span.proofs.RowsLemmas.{beside_kept, beside-all, grown-kept}
 use Rattle.hu_span.proofs.ScanLemmas.{map-next}
-use Rattle.hu_span.proofs.SpanLemmas.{span-size, spans-append}
+use Rattle.hu_span.proofs.SpanLemmas.{spans-append}
 use Rattle.hu_span.proofs.WalkLemmas.{stays-fit}
 use Rattle.hu_span.proofs.WeighedLemmas.{weighed-rules}
+use Rattle.hu_span.proofs.gather.held_into.Goals.{After-behind-stretch}
 use Rattle.hu_span.proofs.gather.held_into.Goals as goal
 
 abbrev no_mark : Mark
 no_mark = record { item = record { 0 = 0 }; row = 0; place = record { element = 0; cell = 0; best = pos 0; rest = pos 0 } }
 
-abbrev no_span : Span
-no_span = record { low = 0; high = 0 }
+pub behind-stretch-requires-clause-number : goal.behind-stretch-requires-clause-number
+behind-stretch-requires-clause-number c = omega (arith, c.marks-test.true, ap length c.deref-mark-items.ensures.value)
 
-pub index-span-requires : goal.index-span-requires
-index-span-requires c =
-    let within = met-within c.requires.3 c.deref-mark-items.result.now c.marks.number c.deref-mark-items.ensures.value c.marks-test.true in
-    omega (arith, within)
+pub behind-stretch-requires-clause-spans : goal.behind-stretch-requires-clause-spans
+behind-stretch-requires-clause-spans c = (c.requires.0, c.requires.1, c.requires.3.spans)
 
-pub of-requires : goal.of-requires
-of-requires c =
-    let here = met-span c.requires.3 c.deref-mark-items.result.now c.marks.number no_mark c.index-span.result.now c.deref-mark-items.ensures.value
-    c.marks-test.true c.index-span.ensures in
-    here.stands
-
-pub push_beside-requires-clause-within : goal.push_beside-requires-clause-within
-push_beside-requires-clause-within c =
-    let span = c.index-span.result.now in
-    let here = met-span c.requires.3 c.deref-mark-items.result.now c.marks.number no_mark span c.deref-mark-items.ensures.value c.marks-test.true
-    c.index-span.ensures in
-    let size = span-size c.args.trail.now span c.of.result.now here.stands c.of.ensures in
-    let fits : Fits w64 span.high = search rules in
-    omega (arith, size, fits)
+-- what the pattern grows by beside the mark
+own_at : (c : After-behind-stretch) (keep : ℕ → Bool) (records : Records) (p : List (List ℕ)) (are : AreHeld keep records c.args.trail.now p c.args.held.now)
+    → IsBeside keep records c.args.trail.now are.are.rules (get_or c.deref-mark-items.result.now c.marks.number no_mark) (span_of c.behind-stretch.result)
+    (reverse c.behind-stretch.result.cells.now)
+own_at c keep records p are =
+    met are c.deref-mark-items.result.now c.marks.number no_mark (span_of c.behind-stretch.result) (reverse c.behind-stretch.result.cells.now)
+    c.deref-mark-items.ensures.value c.marks-test.true (c.behind-stretch.ensures.span keep records no_mark are.spans) c.behind-stretch.ensures.cells
 
 pub push_beside-requires-clause-fit : goal.push_beside-requires-clause-fit
 push_beside-requires-clause-fit c =
-    let own = met c.requires.3 c.deref-mark-items.result.now c.marks.number no_mark c.index-span.result.now (reverse c.of.result.now)
-    c.deref-mark-items.ensures.value c.marks-test.true c.index-span.ensures c.of.ensures in
+    let own = own_at (goal.at.push_beside-requires-clause-fit c).After-behind-stretch c.requires.0 c.requires.1 c.requires.2 c.requires.3 in
     own.fit
 
 pub marks-preserved : goal.marks-preserved
@@ -52,7 +43,7 @@ marks-preserved c keep records p are =
     let i = c.marks.number in
     let f = beside_kept keep (weighed_of keep records) in
     let same = c.deref-mark-items.ensures.value in
-    let own = met are marks i no_mark c.index-span.result.now (reverse c.of.result.now) same c.marks-test.true c.index-span.ensures c.of.ensures in
+    let own = own_at (goal.at.marks-preserved c).After-behind-stretch keep records p are in
     let so_far = c.marks.invariant keep records p are in
     let old = c.marks.grown in
     let pushed = c.in_ok-push_beside.ensures.marks ∙ ap (λ ms. old.marks.items ++ ms) own.marks in

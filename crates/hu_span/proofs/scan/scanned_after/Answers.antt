@@ -1,4 +1,4 @@
-use Rattle.std.proofs.Common.{◌≡◌, ◌∙◌, ◌-◌, ◌≤◌, ◌++◌, ◌∷◌, ℕ, Bool, Fits, [], List, drop, filter, get_or, length, length-drop, reverse, rules, take, w64}
+use Rattle.std.proofs.Common.{◌≡◌, ◌∙◌, ◌-◌, ◌≤◌, ◌++◌, ◌∷◌, ℕ, Bool, [], List, drop, filter, get_or, length, length-drop, reverse, take}
 use Rattle.std.proofs.Common.{refl, sym, ap, subst, arith}
 use Rattle.hu_chain.specs.declared.chain.Growth.TheVariants.{AfterLast}
 use Rattle.hu_chain.specs.Pattern.{last_item}
@@ -7,16 +7,15 @@ use Rattle.hu_span.specs.Gather.{later_marks}
 use Rattle.hu_span.specs.Growing.{Records}
 use Rattle.hu_span.specs.Kept.{takes, weighed_of}
 use Rattle.hu_span.specs.Mark.{places_of, record_at}
-use Rattle.hu_span.specs.Trail.{trail_later, AreHeld}
+use Rattle.hu_span.specs.Trail.{span_of, trail_later, AreHeld, IsSpan}
 use Rattle.hu_span.proofs.FamilyLemmas.{told-first}
-use Rattle.hu_span.proofs.GrownLemmas.{first-span, first-within, met-row, next-rest, IsLater}
+use Rattle.hu_span.proofs.GrownLemmas.{first-within, met-row, next-rest, IsLater}
 use Rattle.hu_span.proofs.RowsLemmas.{front-within, no-marks, rows-end, rows-first, rows-next, AreRowsLeft}
 use Rattle.hu_span.proofs.ScanLemmas.{all_grown, all-gathered, rows-may}
-use Rattle.hu_span.proofs.SpanLemmas.{span-size}
 use Rattle.hu_span.proofs.TurnLemmas.{AreFit}
 use Rattle.hu_span.proofs.WalkLemmas.{stays-fit}
 use Rattle.hu_span.proofs.WeighedLemmas.{weighed-records}
-use Rattle.hu_span.proofs.scan.scanned_after.Goals.{After-deref-2, After-index-span, After-of, In_ok-push_later}
+use Rattle.hu_span.proofs.scan.scanned_after.Goals.{After-deref-2, After-split_at, In_ok-push_later}
 use Rattle.hu_span.proofs.scan.scanned_after.Goals as goal
 
 pub rows-init : goal.rows-init
@@ -37,63 +36,46 @@ rows-init c =
       };
     }
 
-pub index-span-requires : goal.index-span-requires
-index-span-requires c =
+pub behind-stretch-requires-clause-number : goal.behind-stretch-requires-clause-number
+behind-stretch-requires-clause-number c =
     let k = length c.args.held.now.marks.items - length c.rows.left.now in
     let within = first-within c.requires.3 c.rows.left.now c.in-Some.others.now c.in-Some.first.now k c.rows.invariant.rest c.in-Some.ensures.cases.0 in
     omega (arith, within, c.len.ensures)
 
--- the span of the first mark that is left
-span_at : (c : After-index-span) → c.index-span.result.now
-    ≡ get_or c.args.held.now.spans.items (length c.args.held.now.marks.items - length c.rows.left.now) c.index-span.result.now
-span_at c =
-    let n : c.len.result ≡ length c.args.held.now.marks.items = omega (arith, c.len.ensures) in
-    c.index-span.ensures ∙ ap (λ k. get_or c.args.held.now.spans.items (k - length c.rows.left.now) c.index-span.result.now) n
-
-pub of-requires : goal.of-requires
-of-requires c =
-    let k = length c.args.held.now.marks.items - length c.rows.left.now in
-    let here = first-span c.requires.3 c.rows.left.now c.in-Some.others.now c.in-Some.first.now k c.rows.invariant.rest c.in-Some.ensures.cases.0
-    c.index-span.result.now (span_at (goal.at.of-requires c).After-index-span) in
-    here.stands
+pub behind-stretch-requires-clause-spans : goal.behind-stretch-requires-clause-spans
+behind-stretch-requires-clause-spans c = (c.requires.0, c.requires.1, c.requires.3.spans)
 
 pub split_at-requires : goal.split_at-requires
 split_at-requires c = omega (arith, c.row_len.ensures, front-within c.in-Some.first.now.row c.in-Some.others.now)
 
-pub push_later-requires-clause-within : goal.push_later-requires-clause-within
-push_later-requires-clause-within c =
-    let span = c.index-span.result.now in
-    let k = length c.args.held.now.marks.items - length c.rows.left.now in
-    let here = first-span c.requires.3 c.rows.left.now c.in-Some.others.now c.in-Some.first.now k c.rows.invariant.rest c.in-Some.ensures.cases.0 span
-    (span_at (goal.at.push_later-requires-clause-within c).After-index-span) in
-    let size = span-size c.args.trail.now span c.of.result.now here.stands c.of.ensures in
-    let fits : Fits w64 span.high = search rules in
-    omega (arith, size, fits)
-
--- what the pattern grows by behind the element of that mark
-row_at : (c : After-of) (keep : ℕ → Bool) (records : Records) (p : List (List ℕ)) (are : AreHeld keep records c.args.trail.now p c.args.held.now)
-    → IsLater keep records c.args.trail.now are.are.rules c.in-Some.first.now c.split_at.result.0.now c.index-span.result.now (reverse c.of.result.now)
+-- what the pattern grows by behind the element of the first mark that is left
+row_at : (c : After-split_at) (keep : ℕ → Bool) (records : Records) (p : List (List ℕ)) (are : AreHeld keep records c.args.trail.now p c.args.held.now)
+    → IsLater keep records c.args.trail.now are.are.rules c.in-Some.first.now c.split_at.result.0.now (span_of c.behind-stretch.result)
+    (reverse c.behind-stretch.result.cells.now)
 row_at c keep records p are =
-    let k = length c.args.held.now.marks.items - length c.rows.left.now in
-    met-row are c.rows.left.now c.in-Some.others.now c.in-Some.first.now k c.rows.invariant.rest c.in-Some.ensures.cases.0
-    (c.rows.invariant.heard keep records p are).done
-    c.split_at.result.0.now c.index-span.result.now (reverse c.of.result.now) (c.rows.invariant.heard keep records p are).rows
-    (c.split_at.ensures.front ∙ ap (λ n. take n c.in-Some.others.now) c.row_len.ensures)
-    (span_at (goal.at.push_later-requires-clause-fit c).After-index-span) c.of.ensures
+    let marks = c.args.held.now.marks.items in
+    let k = length marks - length c.rows.left.now in
+    let first = c.in-Some.first.now in
+    let n : c.len.result ≡ length marks = omega (arith, c.len.ensures) in
+    let own = subst (λ size. IsSpan keep records c.args.trail.now (get_or marks (size - length c.rows.left.now) first) (span_of c.behind-stretch.result)) n
+    (c.behind-stretch.ensures.span keep records first are.spans) in
+    met-row are c.rows.left.now c.in-Some.others.now first k c.rows.invariant.rest c.in-Some.ensures.cases.0 (c.rows.invariant.heard keep records p are).done
+    c.split_at.result.0.now (span_of c.behind-stretch.result) (reverse c.behind-stretch.result.cells.now) (c.rows.invariant.heard keep records p are).rows
+    (c.split_at.ensures.front ∙ ap (λ m. take m c.in-Some.others.now) c.row_len.ensures) own c.behind-stretch.ensures.cells
 
 pub push_later-requires-clause-beside : goal.push_later-requires-clause-beside
 push_later-requires-clause-beside c =
-    let own = row_at c c.requires.0 c.requires.1 c.requires.2 c.requires.3 in
+    let own = row_at (goal.at.push_later-requires-clause-beside c).After-split_at c.requires.0 c.requires.1 c.requires.2 c.requires.3 in
     own.beside
 
 pub push_later-requires-clause-fit : goal.push_later-requires-clause-fit
 push_later-requires-clause-fit c =
-    let own = row_at c c.requires.0 c.requires.1 c.requires.2 c.requires.3 in
+    let own = row_at (goal.at.push_later-requires-clause-fit c).After-split_at c.requires.0 c.requires.1 c.requires.2 c.requires.3 in
     own.fit
 
 -- the rows that are left after the row of that mark
 next_at : (c : In_ok-push_later) (keep : ℕ → Bool) (records : Records) (p : List (List ℕ)) (are : AreHeld keep records c.args.trail.now p c.args.held.now)
-    → IsLater keep records c.args.trail.now are.are.rules c.in-Some.first.now c.split_at.result.0.now c.index-span.result.now (reverse c.of.result.now)
+    → IsLater keep records c.args.trail.now are.are.rules c.in-Some.first.now c.split_at.result.0.now (span_of c.behind-stretch.result) (reverse c.behind-stretch.result.cells.now)
     → AreRowsLeft (weighed_of keep records) keep p c.split_at.result.1.now ((c.rows.invariant.heard keep records p are).done
     ++ c.push_later.new.held.marks.items)
 next_at c keep records p are own =
@@ -108,7 +90,7 @@ next_at c keep records p are own =
     let here = c.in_ok-push_later.ensures.marks ∙ (λ j. c.clear.ensures.marks j ++ own.marks j) in
     let made = ap (λ ms. done ++ ms) (here ∙ ap (λ ms. filter (takes keep) (later_marks (record_at rs first.row) first.row (places_of (first ∷ ms)))) row) in
     let fit = stays-fit done (done ++ more) more refl (subst AreFit (sym (c.in_ok-push_later.ensures.marks
-    ∙ ap (λ ms. ms ++ trail_later first.row (places_of (first ∷ c.split_at.result.0.now)) (reverse c.of.result.now)) c.clear.ensures.marks)) own.fit)
+    ∙ ap (λ ms. ms ++ trail_later first.row (places_of (first ∷ c.split_at.result.0.now)) (reverse c.behind-stretch.result.cells.now)) c.clear.ensures.marks)) own.fit)
     rows.fit in
     subst (λ ms. AreRowsLeft rs keep p ms (done ++ more)) (sym (c.split_at.ensures.back ∙ ap (λ m. drop m others) c.row_len.ensures))
     (rows-next rs keep p first others done rows (done ++ more) made fit)
@@ -120,7 +102,7 @@ tell_all-requires c =
     let p = c.requires.2 in
     let are = c.requires.3 in
     let heard = c.rows.invariant.heard keep records p are in
-    let own = row_at (goal.at.tell_all-requires c).After-of keep records p are in
+    let own = row_at (goal.at.tell_all-requires c).After-split_at keep records p are in
     let next = next_at (goal.at.tell_all-requires c).In_ok-push_later keep records p are own in (
       heard.done,
       heard.told,
@@ -146,7 +128,7 @@ rows-preserved c =
       rest = next-rest c.requires.3 left others first (length marks - length left) c.rows.invariant.rest split n c.split_at.result.1.now back few;
       heard = λ keep records p are.
           let heard = c.rows.invariant.heard keep records p are in
-          let own = row_at (goal.at.rows-preserved c).After-of keep records p are in
+          let own = row_at (goal.at.rows-preserved c).After-split_at keep records p are in
           record {
             done = heard.done ++ more;
             rows = next_at (goal.at.rows-preserved c).In_ok-push_later keep records p are own;

@@ -1,4 +1,4 @@
-use Rattle.std.proofs.Common.{◌≡◌, ◌∙◌, ◌<◌, ◌++◌, ℕ, Bool, Fits, List, pos, take, get_or, flat_map, length, reverse, rules, w64, sym, ap, subst, arith}
+use Rattle.std.proofs.Common.{◌≡◌, ◌∙◌, ◌<◌, ◌++◌, ℕ, Bool, List, pos, take, get_or, flat_map, length, reverse, sym, ap, subst, arith}
 use Rattle.std.proofs.lemmas.List.{take_all}
 use Rattle.hu_chain.specs.declared.chain.Growth.TheVariants.{IntoLast}
 use Rattle.hu_chain.specs.Pattern.{last_item}
@@ -6,14 +6,13 @@ use Rattle.hu_span.specs.declared.mark.Mark.{Mark}
 use Rattle.hu_span.specs.Child.{AreTold, MayTellEach}
 use Rattle.hu_span.specs.Growing.{Records}
 use Rattle.hu_span.specs.Kept.{weighed_of}
-use Rattle.hu_span.specs.Trail.{AreHeld}
+use Rattle.hu_span.specs.Trail.{span_of, AreHeld}
 use Rattle.hu_span.proofs.FamilyLemmas.{told-first}
-use Rattle.hu_span.proofs.GrownLemmas.{met, met-span, met-within}
+use Rattle.hu_span.proofs.GrownLemmas.{met, IsBeside}
 use Rattle.hu_span.proofs.RowsLemmas.{beside_kept, beside-all}
 use Rattle.hu_span.proofs.ScanLemmas.{all_grown, all-gathered, beside-may, map-next}
-use Rattle.hu_span.proofs.SpanLemmas.{span-size}
 use Rattle.hu_span.proofs.WeighedLemmas.{weighed-records}
-use Rattle.hu_span.proofs.scan.scanned_into.Goals.{After-deref, After-deref-2}
+use Rattle.hu_span.proofs.scan.scanned_into.Goals.{After-behind-stretch, After-deref, After-deref-2}
 use Rattle.hu_span.proofs.scan.scanned_into.Goals as goal
 
 abbrev no_mark : Mark
@@ -22,41 +21,32 @@ no_mark = record { item = record { 0 = 0 }; row = 0; place = record { element = 
 pub marks-init : goal.marks-init
 marks-init c keep records p are = let links = c.in_ok-links.ensures in told-first c.args.reaches.now _ _ links.rules links.none c.new-tells.ensures.items
 
-pub index-span-requires : goal.index-span-requires
-index-span-requires c =
-    let within = met-within c.requires.3 c.deref-mark-items.result.now c.marks.number c.deref-mark-items.ensures.value c.marks-test.true in
-    omega (arith, within)
+pub behind-stretch-requires-clause-number : goal.behind-stretch-requires-clause-number
+behind-stretch-requires-clause-number c = omega (arith, c.marks-test.true, ap length c.deref-mark-items.ensures.value)
 
-pub of-requires : goal.of-requires
-of-requires c =
-    let here = met-span c.requires.3 c.deref-mark-items.result.now c.marks.number no_mark c.index-span.result.now c.deref-mark-items.ensures.value
-    c.marks-test.true c.index-span.ensures in
-    here.stands
+pub behind-stretch-requires-clause-spans : goal.behind-stretch-requires-clause-spans
+behind-stretch-requires-clause-spans c = (c.requires.0, c.requires.1, c.requires.3.spans)
 
-pub push_beside-requires-clause-within : goal.push_beside-requires-clause-within
-push_beside-requires-clause-within c =
-    let span = c.index-span.result.now in
-    let here = met-span c.requires.3 c.deref-mark-items.result.now c.marks.number no_mark span c.deref-mark-items.ensures.value c.marks-test.true
-    c.index-span.ensures in
-    let size = span-size c.args.trail.now span c.of.result.now here.stands c.of.ensures in
-    let fits : Fits w64 span.high = search rules in
-    omega (arith, size, fits)
+-- what the pattern grows by beside the mark
+beside_at : (c : After-behind-stretch) (keep : ℕ → Bool) (records : Records) (p : List (List ℕ)) (are : AreHeld keep records c.args.trail.now p c.args.held.now)
+    → IsBeside keep records c.args.trail.now are.are.rules (get_or c.deref-mark-items.result.now c.marks.number no_mark) (span_of c.behind-stretch.result)
+    (reverse c.behind-stretch.result.cells.now)
+beside_at c keep records p are =
+    met are c.deref-mark-items.result.now c.marks.number no_mark (span_of c.behind-stretch.result) (reverse c.behind-stretch.result.cells.now)
+    c.deref-mark-items.ensures.value c.marks-test.true (c.behind-stretch.ensures.span keep records no_mark are.spans) c.behind-stretch.ensures.cells
 
 pub push_beside-requires-clause-fit : goal.push_beside-requires-clause-fit
 push_beside-requires-clause-fit c =
-    let own = met c.requires.3 c.deref-mark-items.result.now c.marks.number no_mark c.index-span.result.now (reverse c.of.result.now)
-    c.deref-mark-items.ensures.value c.marks-test.true c.index-span.ensures c.of.ensures in
+    let own = beside_at (goal.at.push_beside-requires-clause-fit c).After-behind-stretch c.requires.0 c.requires.1 c.requires.2 c.requires.3 in
     own.fit
 
 -- the marks of a place's cells
 own_at : (c : After-deref) (keep : ℕ → Bool) (records : Records) (p : List (List ℕ)) (are : AreHeld keep records c.args.trail.now p c.args.held.now)
     → c.deref.result.now ≡ beside_kept keep (weighed_of keep records) (get_or c.args.held.now.marks.items c.marks.number no_mark)
 own_at c keep records p are =
-    let same = c.deref-mark-items.ensures.value in
-    let own = met are c.deref-mark-items.result.now c.marks.number no_mark c.index-span.result.now (reverse c.of.result.now) same c.marks-test.true
-    c.index-span.ensures c.of.ensures in
+    let own = beside_at (goal.at.tell_all-requires c).After-behind-stretch keep records p are in
     c.deref.ensures.value ∙ c.in_ok-push_beside.ensures.marks ∙ (λ j. c.clear.ensures.marks j ++ own.marks j)
-    ∙ ap (λ ms. beside_kept keep (weighed_of keep records) (get_or ms c.marks.number no_mark)) same
+    ∙ ap (λ ms. beside_kept keep (weighed_of keep records) (get_or ms c.marks.number no_mark)) c.deref-mark-items.ensures.value
 
 pub tell_all-requires : goal.tell_all-requires
 tell_all-requires c =
