@@ -71,21 +71,21 @@ fn push_first(
     trail: &mut Vec<TrailCell>,
     held: &mut Held,
     row: usize,
-    record: &SeqRecord,
+    one: &SeqRecord,
 ) -> Result<(), NoMemory>
     ensures cells { OnOk result (trail.new.items
-        ≡ trail.old.items ++ reverse (cells_from 0 record.now)) }
+        ≡ trail.old.items ++ reverse (cells_from 0 one.now)) }
     ensures marks { OnOk result (held.new.marks.items
-        ≡ held.old.marks.items ++ trail_marks row (pos 0) (totals record.now) [] (cells_from 0 record.now)) }
+        ≡ held.old.marks.items ++ trail_marks row (pos 0) (totals one.now) [] (cells_from 0 one.now)) }
     ensures spans { OnOk result (held.new.spans.items
-        ≡ held.old.spans.items ++ trail_spans (length trail.old.items) 0 (cells_from 0 record.now)) }
-    ensures rules { IsSequence record.now }
+        ≡ held.old.spans.items ++ trail_spans (length trail.old.items) 0 (cells_from 0 one.now)) }
+    ensures rules { IsSequence one.now }
 {
     let low = trail.len();
-    push_record(trail, record.elements())?;
+    push_record(trail, one.elements())?;
     let walk = Walk {
         best: 0,
-        ahead: record.absolute(),
+        ahead: one.absolute(),
         left: &[],
     };
     push_walk(held, &trail[low..], low, row, walk)
