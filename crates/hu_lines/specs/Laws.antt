@@ -1,9 +1,11 @@
 -- What holds of pieces, of lines and of refusals, whatever the bytes.
-use Rattle.std.specs.Prelude.{◌≡◌, ℕ, ◌<◌, true, false, Some, List, [], ◌∷◌, ◌++◌, length, drop}
+use Rattle.std.specs.Prelude.{◌≡◌, ℕ, ◌<◌, true, false, Some, List, [], ◌∷◌, ◌++◌, length, drop, flat_map}
+use Rattle.std.specs.List.{concat}
 use Rattle.hu_lines.specs.declared.limits.LineFault.{LineFault}
 use Rattle.hu_lines.specs.Pieces.{has_line_feed, first_piece, pieces}
 use Rattle.hu_lines.specs.Limits.{refusal}
-use Rattle.hu_lines.specs.Lines.{State, begun, grown, ended_piece, IsHeld}
+use Rattle.hu_lines.specs.Lines.{State, begun, grown, ended_piece, refusal_of, IsHeld}
+use Rattle.hu_lines.specs.Cuts.{at_file, lines_of_feeds, lines_of_cuts, lines_within}
 
 -- bytes that end with their only line feed are a piece, and what follows them has its own
 abbrev pub WholePieceComesFirst : Type 0
@@ -42,3 +44,15 @@ FedComesFirst = (old now : State) (piece rest : List ℕ) → now
     → pieces ((begun old).bytes ++ (piece ++ rest))
     ≡ ended_piece now ++ pieces ((begun now).bytes
     ++ (drop (length (first_piece piece)) piece ++ rest))
+
+-- a file that is fed gives the lines of its bytes, or the refusal of the first line that passes a limit
+pub record FedGivesLines : Type 0 where
+  -- whatever the calls of `feed` are given: of the bytes that they take
+  pub feeds : (before : ℕ) (feeds : List (List ℕ)) → lines_of_feeds refusal_of (at_file before) feeds
+      ≡ lines_within before (flat_map first_piece feeds)
+  -- in whatever cuts it comes: of all its bytes
+  pub cuts : (before : ℕ) (cuts : List (List ℕ)) → lines_of_cuts refusal_of before cuts
+      ≡ lines_within before (concat cuts)
+  -- so two cuts of the same bytes give the same
+  pub same : (before : ℕ) (one other : List (List ℕ)) → concat one ≡ concat other
+      → lines_of_cuts refusal_of before one ≡ lines_of_cuts refusal_of before other

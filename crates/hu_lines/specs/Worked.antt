@@ -1,8 +1,12 @@
 -- Worked rows: small texts with their pieces, lines and refusals, by computation.
-use Rattle.std.specs.Prelude.{◌≡◌, true, false, None, Some, [], ◌∷◌, refl}
+use Rattle.std.specs.Prelude.{◌≡◌, ℕ, true, false, Option, None, Some, Ok, Err, List, [], ◌∷◌, ◌++◌, refl}
+use Rattle.std.specs.Option.{option_or}
+use Rattle.hu_lines.specs.declared.limits.LineFault.{LineFault}
 use Rattle.hu_lines.specs.declared.limits.LineFault.TheVariants.{LineTooLong, InputTooLarge}
 use Rattle.hu_lines.specs.Pieces.{pieces, lines}
 use Rattle.hu_lines.specs.Limits.{refusal_under}
+use Rattle.hu_lines.specs.Lines.{State}
+use Rattle.hu_lines.specs.Cuts.{lines_of_cuts}
 use Rattle.hu_lines.specs.Skipped.{is_skipped_line}
 
 -- a line feed ends its piece, and bytes after the last one are a piece
@@ -49,3 +53,23 @@ skips_spaces = refl
 -- a mark after a space skips nothing
 pub mark_after_a_space : is_skipped_line (32 ∷ 35 ∷ []) ≡ false
 mark_after_a_space = refl
+
+-- the answer to more bytes of a line under limits of 3 bytes a line and 10 a run
+abbrev small : State → List ℕ → Option LineFault
+small s taken = option_or s.refused (refusal_under 3 10 s.number s.before (s.bytes ++ taken))
+
+-- a line that is cut in the middle is one line, and the next begins in the same cut
+pub cut_in_the_middle : lines_of_cuts small 0 ((97 ∷ 13 ∷ []) ∷ (10 ∷ 98 ∷ []) ∷ []) ≡ Ok ((97 ∷ []) ∷ (98 ∷ []) ∷ [])
+cut_in_the_middle = refl
+
+-- a line of 3 bytes is taken, whose line feed comes in a later cut
+pub longest_in_cuts : lines_of_cuts small 0 ((97 ∷ 97 ∷ []) ∷ (97 ∷ []) ∷ (10 ∷ []) ∷ []) ≡ Ok ((97 ∷ 97 ∷ 97 ∷ []) ∷ [])
+longest_in_cuts = refl
+
+-- a fourth byte is refused in one cut
+pub too_long_in_one_cut : lines_of_cuts small 0 ((10 ∷ 97 ∷ 97 ∷ 97 ∷ 97 ∷ 10 ∷ []) ∷ []) ≡ Err (LineTooLong 2)
+too_long_in_one_cut = refl
+
+-- so it is where the same bytes come in three
+pub too_long_in_three_cuts : lines_of_cuts small 0 ((10 ∷ 97 ∷ []) ∷ (97 ∷ 97 ∷ []) ∷ (97 ∷ 10 ∷ []) ∷ []) ≡ Err (LineTooLong 2)
+too_long_in_three_cuts = refl

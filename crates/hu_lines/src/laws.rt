@@ -1,6 +1,6 @@
 //! What holds of lines and refusals, whatever the bytes. These calls do nothing: their contracts are the laws.
 
-ghost use Rattle.hu_lines.specs.Laws.{WholePieceComesFirst, RestIsOnePiece, FirstPieceComesFirst, RefusalStands, FirstRefusalStands, HeldComesFirst, FedComesFirst};
+ghost use Rattle.hu_lines.specs.Laws.{WholePieceComesFirst, RestIsOnePiece, FirstPieceComesFirst, RefusalStands, FirstRefusalStands, HeldComesFirst, FedComesFirst, FedGivesLines};
 
 /// Bytes that end with their only line feed are the first piece, and the pieces of what follows come after it.
 #[tactic(auto, using(crate::proofs::lemmas::PieceLemmas::whole_piece_first))]
@@ -43,4 +43,11 @@ pub fn held_comes_first()
 #[tactic(auto, using(crate::proofs::lemmas::HeldLemmas::fed_first))]
 pub fn fed_comes_first()
     ensures { FedComesFirst }
+{}
+
+/// A file that is fed in any cuts, and then ended, gives the lines of its bytes, or the refusal of the first line that
+/// passes a limit. So two cuts of the same bytes give the same.
+#[tactic(auto, using(crate::proofs::lemmas::CutLemmas::fed_lines))]
+pub fn fed_gives_lines()
+    ensures { FedGivesLines }
 {}
