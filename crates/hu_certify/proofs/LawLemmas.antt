@@ -28,7 +28,7 @@ use Rattle.hu_kind.proofs.lemmas.Written.{Lacks}
 use Rattle.hu_totals.specs.Ranked.{by_twu, cells_from}
 use Rattle.hu_totals.proofs.lemmas.SortedLists.{Once, Member-from_ranking, Member-to_ranking, ranking-members}
 use Rattle.hu_totals.proofs.lemmas.WeightLemmas.{by_twu_exact}
-use Rattle.hu_certify.specs.Laws.{CertificateIsAccepted}
+use Rattle.hu_certify.specs.Laws.{CertificateIsAccepted, CertificateIsFaultless}
 use Rattle.hu_certify.specs.Spots.{SpotOf, most, earned, size_of, HasRoom}
 use Rattle.hu_certify.specs.Text.{certificate_order, certificate_text, children_of, is_opened, line_of, lines_below, minimum_line, order_line}
 use Rattle.hu_certify.proofs.SpotLemmas.{HasRoom-narrowed}
@@ -226,11 +226,10 @@ from-lines records least order (line ∷ lines) first second right some walked =
     ∙ ap (λ b. cond b (walk records least 3 (root order ∷ []) (line ∷ lines)) (Some WrongOrder)) right
     ∙ walked
 
-pub accepted : CertificateIsAccepted
-accepted records least is =
+pub faultless : CertificateIsFaultless
+faultless records least is =
     let order = certificate_order records in
     let fine = root-fine records is.lawful is.sum_fits in
-    let short : nat_lt 268435456 (length (certificate_text records least)) ≡ false = le-ltb 268435456 (length (certificate_text records least)) is.short in
     let below = line_of records least [] order ∷ lines_below records least [] order in
     let feeds : AllByRecursion (Lacks 10) (minimum_line least ∷ order_line order ∷ below) =
     (minimum-no_feed least is.fits, (order-no_feed order fine.laters, (feedless records least [] order fine, below-feedless records least [] order fine))) in
@@ -238,4 +237,9 @@ accepted records least is =
     let walked = walk-all records least (IsFine records) (reads records least) (λ prefix later f. f.once) (deeper records) (further records) 3 order fine in
     let judged = from-lines records least order (below ++ [] ∷ []) (minimum-read least is.positive is.fits) (order-read order fine.laters)
     (right-order records) (omega arith) walked in
-    rw short (ap (from_minimum records least) cut ∙ judged)
+    ap (from_minimum records least) cut ∙ judged
+
+pub accepted : CertificateIsAccepted
+accepted records least is few =
+    let short : nat_lt 268435456 (length (certificate_text records least)) ≡ false = le-ltb 268435456 (length (certificate_text records least)) few in
+    rw short (faultless records least is)
