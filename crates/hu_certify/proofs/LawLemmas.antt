@@ -1,5 +1,5 @@
 -- The certificate of a base is accepted.
-use Rattle.std.proofs.Common.{◌≡◌, ℕ, suc, ◌+◌, ◌<◌, ◌≤◌, ◌^◌, Bool, true, false, cond, eqb, nat_lt, ℤ, pos, ◌+ℤ◌, ◌≤ℤ◌}
+use Rattle.std.proofs.Common.{◌≡◌, ℕ, suc, ◌+◌, ◌<◌, ◌≤◌, ◌^◌, Bool, true, false, cond, eqb, nat_lt, ℤ, pos, ◌≤ℤ◌}
 use Rattle.std.proofs.Common.{int_eq, unsigned_abs, None, Some, List, [], ◌∷◌, ◌++◌, length, sum_by, refl, sym, ap, ◌∙◌}
 use Rattle.std.proofs.Common.{subst, inl, inr, arith, nat_cmp, flat_map, Ordering, Less, Equal, Greater}
 use Rattle.std.specs.List.{AllByRecursion}
@@ -15,9 +15,8 @@ use Rattle.std.proofs.lemmas.List.Sums.{sum_by-cons}
 use Rattle.std.proofs.lemmas.Slice.Eq.{bytes_eq-Decides}
 use Rattle.hu_kind.specs.Database.{utility, items_of}
 use Rattle.hu_kind.specs.Order.{ranking, Ascend}
-use Rattle.hu_kind.specs.Record.{has, holds, value_of, values_of, absolute_of, gain, items_in, IsRecord}
+use Rattle.hu_kind.specs.Record.{has, holds, value_of, values_of, absolute_of, items_in, IsRecord}
 use Rattle.hu_kind.proofs.lemmas.Each.{each-append, each-from_all}
-use Rattle.hu_kind.proofs.lemmas.Earned.{gain-within, positive_part-within, positive_part-upper}
 use Rattle.hu_kind.proofs.lemmas.Occurring.{by_members, at_member}
 use Rattle.hu_kind.proofs.lemmas.Members.{Member}
 use Rattle.hu_proof.specs.Bounds.{cut_bound, stands_with}
@@ -29,9 +28,9 @@ use Rattle.hu_totals.specs.Ranked.{by_twu, cells_from}
 use Rattle.hu_totals.proofs.lemmas.SortedLists.{Once, Member-from_ranking, Member-to_ranking, ranking-members}
 use Rattle.hu_totals.proofs.lemmas.WeightLemmas.{by_twu_exact}
 use Rattle.hu_certify.specs.Laws.{CertificateIsAccepted, CertificateIsFaultless}
-use Rattle.hu_certify.specs.Spots.{SpotOf, most, earned, size_of, HasRoom}
+use Rattle.hu_certify.specs.Spots.{SpotOf, earned, size_of, HasRoom}
 use Rattle.hu_certify.specs.Text.{certificate_order, certificate_text, children_of, is_opened, line_of, lines_below, minimum_line, order_line}
-use Rattle.hu_certify.proofs.SpotLemmas.{HasRoom-narrowed}
+use Rattle.hu_certify.proofs.SpotLemmas.{HasRoom-narrowed, most-size}
 use Rattle.hu_certify.proofs.NodeLemmas.{spots_with, narrowed-first, earned-with, most-with}
 use Rattle.hu_certify.proofs.RootLemmas.{first_spots-at, sizes, ascending}
 use Rattle.hu_certify.proofs.RankLemmas.{Once-certificate_order}
@@ -43,15 +42,6 @@ use Rattle.hu_certify.proofs.ReadLemmas.{IsItem, IsChild, line-read, line-no_fee
 earned-size : (spots : List SpotOf) → unsigned_abs (earned spots) ≤ sum_by size_of spots
 earned-size [] = omega arith
 earned-size (s ∷ ss) = omega (arith, ints, earned-size ss, sum_by-cons size_of s ss)
-
-most-size : (spots : List SpotOf) → (pos 0 ≤ℤ most spots) × (unsigned_abs (most spots) ≤ sum_by size_of spots)
-most-size [] = (omega (arith, ints), omega arith)
-most-size (s ∷ ss) =
-    let ih = most-size ss in
-    let least = (positive_part-upper (s.1 +ℤ gain s.0)).1 in
-    let within = positive_part-within (s.1 +ℤ gain s.0) in
-    let gained = gain-within s.0 in
-    (omega (arith, ints, ih.0, least), omega (arith, ints, ih.0, ih.1, least, within, gained, sum_by-cons size_of s ss))
 
 fewer-cells : (from item : ℕ) (later : List ℕ) (cells : List (ℕ × ℤ))
     → absolute_of (cells_from (from + 1) later cells) ≤ absolute_of (cells_from from (item ∷ later) cells)

@@ -1,4 +1,5 @@
 mod SpotLemmas
+mod SlotLemmas
 mod OrderLemmas
 mod RankLemmas
 mod TextLemmas

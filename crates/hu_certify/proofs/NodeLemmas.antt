@@ -29,7 +29,7 @@ spots_with records later from prefix = map (λ r. (cells_from from later r, valu
 
 -- ---- a record's cells by rank
 
-ranks_above : (from : ℕ) (later : List ℕ) (cells : List (ℕ × ℤ)) (rank : ℕ) → rank < from
+pub ranks_above : (from : ℕ) (later : List ℕ) (cells : List (ℕ × ℤ)) (rank : ℕ) → rank < from
     → AllByRecursion (λ other. rank < other) (items_in (cells_from from later cells))
 ranks_above from later cells rank low = each (cells_from from later cells) (ranks_from from later cells)
   where

@@ -1,14 +1,15 @@
 -- The empty prefix, and the whole text.
 use Rattle.std.proofs.Common.{◌≡◌, ℕ, ◌+◌, ◌<◌, ◌≤◌, ◌^◌, ℤ, pos, Result, Ok, Err, List, [], ◌∷◌, ◌++◌, map, length}
-use Rattle.std.proofs.Common.{drop, sum_by, refl, sym, ap, ◌∙◌, subst, arith, append_assoc}
+use Rattle.std.proofs.Common.{drop, sum_by, refl, sym, ap, ◌∙◌, subst, inl, inr, arith, append_assoc}
 use Rattle.std.specs.List.{AllByRecursion}
 use Rattle.std.specs.declared.vec.Vec.{Vec}
 use Rattle.std.specs.declared.alloc.Global.{Global}
+use Rattle.std.proofs.lemmas.Bool.{cases_Bool}
 use Rattle.std.proofs.lemmas.List.Sums.{sum_by-cons}
 use Rattle.std.specs.Result.{IsErrAnd}
 use Rattle.hu_kind.specs.declared.item.Item.{Item}
 use Rattle.hu_kind.specs.Order.{Ascend}
-use Rattle.hu_kind.specs.Record.{absolute_of, items_in, IsRecord}
+use Rattle.hu_kind.specs.Record.{absolute_of, has, items_in, IsRecord}
 use Rattle.hu_kind.proofs.lemmas.Each.{each-weaker}
 use Rattle.hu_totals.specs.declared.ranked.Dense.{Dense}
 use Rattle.hu_totals.specs.declared.totals.ItemTotal.{ItemTotal}
@@ -23,8 +24,9 @@ use Rattle.hu_totals.proofs.lemmas.SortedLists.{Once, IsDistinct-from_once}
 use Rattle.hu_certify.specs.declared.fault.CertFault.{CertFault}
 use Rattle.hu_certify.specs.declared.fault.CertFault.TheVariants.{TooLong}
 use Rattle.hu_certify.specs.declared.place.Place.{Place}
-use Rattle.hu_certify.specs.Spots.{SpotOf, spots_of, spots_at, size_of, HasRoom, AreRanks, IsNode, lines_from}
+use Rattle.hu_certify.specs.Spots.{SpotOf, spots_of, spots_at, size_of, HasRoom, AreAscending, AreRanks, IsNode, lines_from}
 use Rattle.hu_certify.specs.Text.{certificate_order, certificate_text, lines_text, minimum_line, order_line, prefix_lines}
+use Rattle.hu_certify.proofs.NodeLemmas.{ranks_above}
 use Rattle.hu_certify.proofs.RankLemmas.{Once-certificate_order, by_weight-certificate_order}
 
 -- the spots of the empty prefix
@@ -58,6 +60,17 @@ ranks order (r ∷ rs) = (
   ranks order rs,
 )
 
+cells-ascend : (from : ℕ) (order : List ℕ) (cells : List (ℕ × ℤ)) → Ascend (items_in (cells_from from order cells))
+cells-ascend from [] cells = tt
+cells-ascend from (item ∷ order) cells =
+    let ih = cells-ascend (from + 1) order cells in
+    let above = ranks_above (from + 1) order cells from (omega arith) in
+    elim (cases_Bool (has item cells)) [ inl h ↦ simp h (above, ih) | inr h ↦ simp h ih ]
+
+spots-ascend : (order : List ℕ) (records : List (List (ℕ × ℤ))) → AreAscending (first_spots order records)
+spots-ascend order [] = tt
+spots-ascend order (r ∷ rs) = (cells-ascend 0 order r, spots-ascend order rs)
+
 -- what the text begins with
 pub record Begins (records : List (List (ℕ × ℤ))) (order : List ℕ) (ranked : List (Vec Dense Global)) (spots : List SpotOf) : Type 0 where
   pub ordered : order ≡ certificate_order records
@@ -83,6 +96,9 @@ module _ (records : List (List (ℕ × ℤ))) (order : List ℕ) (dense : List (
 
   pub root-ranks : AreRanks (length order) spots
   root-ranks = subst (AreRanks (length order)) (sym spots-first) (ranks order records)
+
+  pub root-ascending : AreAscending spots
+  root-ascending = subst AreAscending (sym spots-first) (spots-ascend order records)
 
   pub root-node : (written : List ℕ) → written ≡ [] → IsNode records order 0 [] written spots
   root-node written none = record {

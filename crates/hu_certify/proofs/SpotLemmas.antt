@@ -1,6 +1,6 @@
 -- Steps over the places of a prefix, and that their sums fit.
 use Rattle.std.proofs.Common.{◌≡◌, ℕ, zero, suc, ◌+◌, ◌-◌, ◌<◌, ◌≤◌, Bool, true, false, cond, eqb, nat_lt, ℤ, ◌+ℤ◌}
-use Rattle.std.proofs.Common.{unsigned_abs, Option, None, Some, List, [], ◌∷◌, ◌++◌, map, length, take, drop, get_or}
+use Rattle.std.proofs.Common.{pos, ◌≤ℤ◌, unsigned_abs, Option, None, Some, List, [], ◌∷◌, ◌++◌, map, length, take, drop, get_or}
 use Rattle.std.proofs.Common.{position, option_map, refl, sym, ap, ◌∙◌, subst, inl, inr, arith, sum_by, append_assoc}
 use Rattle.std.proofs.Common.{one-add}
 use Rattle.std.specs.List.{position_or_len}
@@ -10,10 +10,11 @@ use Rattle.std.proofs.lemmas.Int.{ints}
 use Rattle.std.proofs.lemmas.List.{drop_more, take_more, take_all, map-append, length-drop}
 use Rattle.std.proofs.lemmas.List.Sums.{sum_by-cons}
 use Rattle.hu_kind.specs.Record.{has, value_of, absolute_of, positive_part, gain}
+use Rattle.hu_kind.proofs.lemmas.Earned.{gain-within, positive_part-within, positive_part-upper}
 use Rattle.hu_totals.specs.declared.ranked.Dense.{Dense}
 use Rattle.hu_totals.specs.View.{dense_pair}
 use Rattle.hu_certify.specs.declared.place.Place.{Place}
-use Rattle.hu_certify.specs.Spots.{SpotOf, spot_of, spots_of, past, grown, narrowed, size_of, HasRoom}
+use Rattle.hu_certify.specs.Spots.{SpotOf, spot_of, spots_of, past, grown, narrowed, size_of, HasRoom, most}
 
 -- ---- the cell of a rank
 
@@ -154,17 +155,28 @@ grown-size rank spot =
     let one = sum_by-cons size_of (past rank spot.0, spot.1 +ℤ value_of rank spot.0) [] in
     elim (cases_Bool (has rank spot.0)) [ inl h ↦ simp h (omega (arith, ints, less, one)) | inr h ↦ simp h (omega arith) ]
 
-sizes-append : (ps qs : List SpotOf) → sum_by size_of (ps ++ qs) ≡ sum_by size_of ps + sum_by size_of qs
+pub sizes-append : (ps qs : List SpotOf) → sum_by size_of (ps ++ qs) ≡ sum_by size_of ps + sum_by size_of qs
 sizes-append [] qs = omega arith
 sizes-append (p ∷ ps) qs = omega (arith, sum_by-cons size_of p (ps ++ qs), sum_by-cons size_of p ps, sizes-append ps qs)
 
-narrowed-size : (rank : ℕ) (spots : List SpotOf) → sum_by size_of (narrowed rank spots) ≤ sum_by size_of spots
+pub narrowed-size : (rank : ℕ) (spots : List SpotOf) → sum_by size_of (narrowed rank spots) ≤ sum_by size_of spots
 narrowed-size rank [] = omega arith
 narrowed-size rank (spot ∷ spots) =
     omega (arith, sizes-append (grown rank spot) (narrowed rank spots), sum_by-cons size_of spot spots, grown-size rank spot, narrowed-size rank spots)
 
 pub HasRoom-narrowed : (rank : ℕ) (spots : List SpotOf) → HasRoom spots → HasRoom (narrowed rank spots)
 HasRoom-narrowed rank spots room = omega (arith, narrowed-size rank spots, room)
+
+-- ---- sums over spots fit
+
+pub most-size : (spots : List SpotOf) → (pos 0 ≤ℤ most spots) × (unsigned_abs (most spots) ≤ sum_by size_of spots)
+most-size [] = (omega (arith, ints), omega arith)
+most-size (s ∷ ss) =
+    let ih = most-size ss in
+    let least = (positive_part-upper (s.1 +ℤ gain s.0)).1 in
+    let within = positive_part-within (s.1 +ℤ gain s.0) in
+    let gained = gain-within s.0 in
+    (omega (arith, ints, ih.0, least), omega (arith, ints, ih.0, ih.1, least, within, gained, sum_by-cons size_of s ss))
 
 -- what stands from a place on, taken as a range
 pub range_left : {A : Type 0} (xs : List A) (from : ℕ) → take (length xs - from) (drop from xs) ≡ drop from xs

@@ -5,7 +5,7 @@ use Rattle.std.proofs.lemmas.List.{length-map, length-take-le, map-append, take_
 use Rattle.hu_kind.specs.declared.item.Item.{Item}
 use Rattle.hu_totals.specs.Ranked.{item_at}
 use Rattle.hu_totals.specs.Weights.{numbers_of}
-use Rattle.hu_certify.specs.declared.place.Child.{Child}
+use Rattle.hu_certify.specs.declared.slots.Child.{Child}
 use Rattle.hu_certify.specs.Spots.{named, rank_pair}
 use Rattle.hu_certify.specs.Text.{token_text, tokens_text}
 use Rattle.hu_certify.specs.Written.{gap}

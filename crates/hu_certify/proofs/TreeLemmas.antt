@@ -19,7 +19,7 @@ use Rattle.hu_totals.proofs.lemmas.DenseLemmas.{ranks_from}
 use Rattle.hu_totals.proofs.lemmas.SortedLists.{Once, Once-from_distinct, Member-from_ranking}
 use Rattle.hu_certify.specs.declared.fault.CertFault.{CertFault}
 use Rattle.hu_certify.specs.declared.fault.CertFault.TheVariants.{TooLong}
-use Rattle.hu_certify.specs.declared.place.Child.{Child}
+use Rattle.hu_certify.specs.declared.slots.Child.{Child}
 use Rattle.hu_certify.specs.Spots.{SpotOf, past, narrowed, earned, ranks_in, standing, child_at, children_at, named}
 use Rattle.hu_certify.specs.Spots.{rank_pair, AreRanks, IsNode, lines_from, opened_lines}
 use Rattle.hu_certify.specs.Text.{line_of, lines_below, lines_text, prefix_text, spaced, tokens_text}

@@ -1,5 +1,6 @@
 pub mod Text
 pub mod Spots
+pub mod Slots
 pub mod Written
 pub mod Worked
 pub mod Laws

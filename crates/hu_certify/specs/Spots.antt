@@ -29,7 +29,7 @@ use Rattle.hu_kind.specs.Record.{has, holds, value_of, values_of, gain, positive
 use Rattle.hu_totals.specs.Ranked.{cells_from, item_at}
 use Rattle.hu_totals.specs.View.{dense_pair}
 use Rattle.hu_totals.specs.Weights.{numbers_of}
-use Rattle.hu_certify.specs.declared.place.Child.{Child}
+use Rattle.hu_certify.specs.declared.slots.Child.{Child}
 use Rattle.hu_certify.specs.declared.place.Place.{Place}
 use Rattle.hu_certify.specs.Text.{line_of, lines_below, spaced}
 
@@ -106,6 +106,10 @@ HasRoom spots = sum_by size_of spots < 2 ^ 127
 abbrev pub AreRanks : ℕ → List SpotOf → Type 0
 AreRanks count spots = AllByRecursion
     (λ spot. AllByRecursion (λ cell. cell.0 < count) spot.0) spots
+
+-- the ranks of each ascend
+abbrev pub AreAscending : List SpotOf → Type 0
+AreAscending spots = AllByRecursion (λ spot. Ascend (items_in spot.0)) spots
 
 -- the spots of a prefix, where the items after it have the ranks from one on
 abbrev pub spot_at : List ℕ → ℕ → List ℕ → List (ℕ × ℤ) → SpotOf

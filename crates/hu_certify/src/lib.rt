@@ -9,6 +9,7 @@ mod fault;
 pub mod laws;
 mod place;
 mod records;
+mod slots;
 mod text;
 
 pub use certificate::certify;

@@ -9,7 +9,7 @@ ghost use Rattle.hu_certify.specs.Text.{bound_text, line_text, minimum_line, ord
 ghost use Rattle.hu_certify.specs.Written.{gap, Writes};
 
 use crate::fault::CertFault;
-use crate::place::Child;
+use crate::slots::Child;
 use hu_kind::{Item, NoMemory};
 use itoa::Buffer;
 

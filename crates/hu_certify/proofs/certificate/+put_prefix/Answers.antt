@@ -8,9 +8,11 @@ use Rattle.hu_kind.specs.declared.item.Item.{Item}
 use Rattle.hu_totals.specs.Ranked.{item_at}
 use Rattle.hu_totals.specs.Weights.{numbers_of}
 use Rattle.hu_certify.specs.declared.fault.CertFault.TheVariants.{TooLong}
-use Rattle.hu_certify.specs.declared.place.Child.{Child}
-use Rattle.hu_certify.specs.Spots.{earned, narrowed, children_at, rank_pair, spots_of, AreRanks, HasRoom, IsNode, lines_from}
+use Rattle.hu_certify.specs.declared.slots.Child.{Child}
+use Rattle.hu_certify.specs.Spots.{earned, narrowed, children_at, rank_pair, spots_of, AreAscending, AreRanks, HasRoom, IsNode, lines_from}
+use Rattle.hu_certify.specs.Slots.{AreEmpty}
 use Rattle.hu_certify.specs.Text.{line_of, lines_below, lines_text, spaced}
+use Rattle.hu_certify.proofs.SlotLemmas.{AreAscending-narrowed}
 use Rattle.hu_certify.proofs.SpotLemmas.{HasRoom-narrowed}
 use Rattle.hu_certify.proofs.TreeLemmas.{rank-stands, standing-below, children-below, AreRanks-narrowed, cells_left}
 use Rattle.hu_certify.proofs.TreeLemmas.{fewer, line-long, line-written, node-of_child, so_far-opened, so_far-cut}
@@ -32,13 +34,13 @@ no_child = record { rank = 0; bound = pos 0 }
 pub put_line-requires : goal.put_line-requires
 put_line-requires t c =
     subst (AllByRecursion (λ (child : Child). child.rank < length c.args.items.now)) (sym c.deref-2.ensures.value)
-    (children-below (length c.args.items.now) c.in_ok-children.children.items (spots_of c.args.places.now) c.requires.ranks c.in_ok-children.ensures)
+    (children-below (length c.args.items.now) c.in_ok-children.children.items (spots_of c.args.places.now) c.requires.ranks c.in_ok-children.ensures.children)
 
 pub returns-in_err-put_line-clause-text : goal.returns-in_err-put_line-clause-text
 returns-in_err-put_line-clause-text t c = λ records from path is.
     let spots = spots_of c.args.places.now in
     let sum : to_z w128 (of_z w128 c.earned.result) ≡ earned spots = omega (arith, ints, c.earned.ensures) in
-    let told : map rank_pair c.deref-2.result.now ≡ children_at spots = ap (map rank_pair) c.deref-2.ensures.value ∙ c.in_ok-children.ensures in
+    let told : map rank_pair c.deref-2.result.now ≡ children_at spots = ap (map rank_pair) c.deref-2.ensures.value ∙ c.in_ok-children.ensures.children in
     let line = line-written records (numbers_of c.args.items.now) from path c.args.prefix.now.items spots c.args.least _ c.deref.result.now
     c.deref-2.result.now is c.deref.ensures.value sum told in
     let long = rw (to_z-of_z w128 c.args.least c.ranges.least) at c.in_err-put_line.ensures in
@@ -52,11 +54,12 @@ returns-in_err-put_line-clause-text t c = λ records from path is.
 pub children-init : goal.children-init
 children-init t c = record {
   prefix = search rules;
+  slots = c.in_ok-children.ensures.slots;
   short = c.in_ok-put_line.ensures.1;
   text = λ records from path is.
       let spots = spots_of c.args.places.now in
       let sum : to_z w128 (of_z w128 c.earned.result) ≡ earned spots = omega (arith, ints, c.earned.ensures) in
-      let told : map rank_pair c.deref-2.result.now ≡ children_at spots = ap (map rank_pair) c.deref-2.ensures.value ∙ c.in_ok-children.ensures in
+      let told : map rank_pair c.deref-2.result.now ≡ children_at spots = ap (map rank_pair) c.deref-2.ensures.value ∙ c.in_ok-children.ensures.children in
       let line = line-written records (numbers_of c.args.items.now) from path c.args.prefix.now.items spots
       (to_z w128 (of_z w128 c.args.least)) _ c.deref.result.now c.deref-2.result.now is c.deref.ensures.value sum told in
       c.in_ok-put_line.ensures.0 ∙ ap (λ text. c.args.text.now.items ++ (text ++ 10 ∷ [])) line
@@ -66,7 +69,7 @@ children-init t c = record {
 pub bounds-items-child : goal.bounds-items-child
 bounds-items-child t c =
     let told : map rank_pair c.deref-child-items.result.now ≡ children_at (spots_of c.args.places.now) = ap (map rank_pair) c.deref-child-items.ensures.value
-    ∙ c.in_ok-children.ensures in
+    ∙ c.in_ok-children.ensures.children in
     standing-below (length c.args.items.now) (spots_of c.args.places.now) _ c.requires.ranks
     (rank-stands c.deref-child-items.result.now (spots_of c.args.places.now) c.children.child-index no_child told c.children-test.true)
 
@@ -75,7 +78,7 @@ put_prefix-requires t c =
     let spots = spots_of c.args.places.now in
     let child = get_or c.deref-child-items.result.now c.children.child-index no_child in
     let told : map rank_pair c.deref-child-items.result.now ≡ children_at spots = ap (map rank_pair) c.deref-child-items.ensures.value
-    ∙ c.in_ok-children.ensures in
+    ∙ c.in_ok-children.ensures.children in
     let stands = rank-stands c.deref-child-items.result.now spots c.children.child-index no_child told c.children-test.true in
     let narrow : spots_of c.deref-then-child-least.result.now ≡ narrowed child.rank spots = ap spots_of c.deref-then-child-least.ensures.value
     ∙ c.in_ok-narrow.ensures in
@@ -84,6 +87,10 @@ put_prefix-requires t c =
     let room : HasRoom (spots_of c.deref-then-child-least.result.now) = subst HasRoom (sym narrow) (HasRoom-narrowed child.rank spots c.requires.room) in
     let ranks : AreRanks (length c.args.items.now) (spots_of c.deref-then-child-least.result.now) =
     subst (AreRanks (length c.args.items.now)) (sym narrow) (AreRanks-narrowed (length c.args.items.now) child.rank spots c.requires.ranks) in
+    let ascending : AreAscending (spots_of c.deref-then-child-least.result.now) = subst AreAscending (sym narrow)
+    (AreAscending-narrowed child.rank spots c.requires.ascending) in
+    let count : length c.children.slots.items ≡ length c.args.items.now = ap length c.children.invariant.slots ∙ c.requires.slots in
+    let empty : AreEmpty c.children.slots.items = subst AreEmpty (sym c.children.invariant.slots) c.requires.empty in
     search rules
 
 pub returns-in_err-put_prefix-clause-text : goal.returns-in_err-put_prefix-clause-text
@@ -95,7 +102,7 @@ returns-in_err-put_prefix-clause-text t c = λ records from path is.
     let children = c.deref-child-items.result.now in
     let i = c.children.child-index in
     let child = get_or children i no_child in
-    let told : map rank_pair children ≡ children_at spots = ap (map rank_pair) c.deref-child-items.ensures.value ∙ c.in_ok-children.ensures in
+    let told : map rank_pair children ≡ children_at spots = ap (map rank_pair) c.deref-child-items.ensures.value ∙ c.in_ok-children.ensures.children in
     let so_far : SoFar records least order from path (take i children) old c.children.text.items = c.children.invariant.text records from path is in
     let stands = rank-stands children spots i no_child told c.children-test.true in
     let below = standing-below (length c.args.items.now) spots child.rank c.requires.ranks stands in
@@ -129,7 +136,7 @@ children-preserved t c =
     let child = get_or children i no_child in
     let fits : FitsSigned w128 child.bound = search rules in
     let bound : int_le least child.bound ≡ int_le least (to_z w128 (of_z w128 child.bound)) = ap (int_le least) (sym (to_z-of_z w128 child.bound fits)) in
-    let told : map rank_pair children ≡ children_at spots = ap (map rank_pair) c.deref-child-items.ensures.value ∙ c.in_ok-children.ensures in
+    let told : map rank_pair children ≡ children_at spots = ap (map rank_pair) c.deref-child-items.ensures.value ∙ c.in_ok-children.ensures.children in
     let stands = rank-stands children spots i no_child told c.children-test.true in
     let below = standing-below (length c.args.items.now) spots child.rank c.requires.ranks stands in
     elim c.if-child-least.branch [
@@ -141,6 +148,7 @@ children-preserved t c =
             (omega (arith, c.len-length.ensures, c.args.prefix.now.ok, ap length c.children.invariant.prefix)) w.in_ok-push_spaced.ensures
             w.in_ok-put_prefix.ensures.prefix w.truncate.ensures.items
             ∙ c.children.invariant.prefix;
+        slots = ap (λ v. v.items) w.slots-is ∙ w.in_ok-put_prefix.ensures.slots ∙ c.children.invariant.slots;
         short = subst (λ v. length v.items ≤ 268435456) (sym w.text-is) w.in_ok-put_prefix.ensures.short;
         text = λ records from path is.
             let so_far : SoFar records least order from path (take i children) old c.children.text.items = c.children.invariant.text records from path is in
@@ -160,6 +168,7 @@ children-preserved t c =
       }
       | else-child-least w ↦ record {
         prefix = ap (λ v. v.items) w.prefix-is ∙ c.children.invariant.prefix;
+        slots = ap (λ v. v.items) w.slots-is ∙ c.children.invariant.slots;
         short = subst (λ v. length v.items ≤ 268435456) (sym w.text-is) c.children.invariant.short;
         text = λ records from path is.
             let so_far : SoFar records least order from path (take i children) old c.children.text.items = c.children.invariant.text records from path is in
@@ -167,6 +176,9 @@ children-preserved t c =
             (bound ∙ w.if-child-least.false);
       }
     ]
+
+pub returns-clause-slots : goal.returns-clause-slots
+returns-clause-slots t c = c.children.invariant.slots
 
 pub returns-clause-prefix : goal.returns-clause-prefix
 returns-clause-prefix t c = c.children.invariant.prefix
@@ -181,7 +193,7 @@ returns-clause-text t c = λ records from path is.
     let children = c.deref-child-items.result.now in
     let i = c.children.child-index in
     let old = c.args.text.now.items in
-    let told : map rank_pair children ≡ children_at spots = ap (map rank_pair) c.deref-child-items.ensures.value ∙ c.in_ok-children.ensures in
+    let told : map rank_pair children ≡ children_at spots = ap (map rank_pair) c.deref-child-items.ensures.value ∙ c.in_ok-children.ensures.children in
     let so_far : SoFar records (to_z w128 (of_z w128 c.args.least)) order from path
     (take i children) old c.children.text.items = c.children.invariant.text records from path is in
     let same =

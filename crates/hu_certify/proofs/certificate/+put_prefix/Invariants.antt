@@ -11,6 +11,7 @@ decreases-put_prefix l = cells_left (spots_of l.places.now)
 abbrev pub invariant-children : goal.invariant-children
 invariant-children l = record {
   prefix : l.prefix.items ≡ l.fn.prefix.items;
+  slots : l.slots.items ≡ l.fn.slots.items;
   short : length l.text.items ≤ 268435456;
   text : (records : List (List (ℕ × ℤ))) (from : ℕ) (path : List ℕ) → IsNode records (numbers_of l.items) from path l.fn.prefix.items (spots_of l.places)
       → l.text.items ≡ l.fn.text.items

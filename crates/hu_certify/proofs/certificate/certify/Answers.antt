@@ -14,7 +14,7 @@ use Rattle.hu_certify.specs.declared.fault.CertFault.TheVariants.{TooLong}
 use Rattle.hu_certify.specs.Spots.{AreRanks, spots_of, lines_from}
 use Rattle.hu_certify.specs.Text.{lines_text}
 use Rattle.hu_certify.proofs.RankLemmas.{by_weight-certificate_order, Once-certificate_order}
-use Rattle.hu_certify.proofs.RootLemmas.{Begins, made, root-room, root-ranks, root-node, certificate-is, fault-is}
+use Rattle.hu_certify.proofs.RootLemmas.{Begins, made, root-ascending, root-room, root-ranks, root-node, certificate-is, fault-is}
 use Rattle.hu_certify.proofs.certificate.certify.Goals as goal
 
 pub items_by_weight-requires : goal.items_by_weight-requires
@@ -48,6 +48,16 @@ put_prefix-requires-clause-ranks c =
     c.in_ok-items.ensures.value c.as_slice-2.ensures.keys c.records.ensures c.in_ok-records.ensures.value c.in_ok-records.ensures.rules c.deref.ensures.value
     c.in_ok-places.ensures c.deref-2.ensures.value (omega (arith, c.sum-sum.ensures.fits)) in
     subst (λ n. AreRanks n (spots_of c.deref-2.result.now)) (length-map c.as_slice-2.result.now (λ (item : Item). item.0)) (root-ranks records _ _ _ begins)
+
+pub put_prefix-requires-clause-ascending : goal.put_prefix-requires-clause-ascending
+put_prefix-requires-clause-ascending c =
+    let records = records_of c.args.base.now in
+    let begins : Begins records (numbers_of c.as_slice-2.result.now) c.in_ok-records.records.items (spots_of c.deref-2.result.now) =
+    made records c.records.result.now c.in_ok-totals.totals c.in_ok-items.items.keys c.as_slice-2.result.now c.in_ok-records.records.items c.deref.result.now
+    c.in_ok-places.places.items c.deref-2.result.now c.in_ok-totals.ensures.value
+    c.in_ok-items.ensures.value c.as_slice-2.ensures.keys c.records.ensures c.in_ok-records.ensures.value c.in_ok-records.ensures.rules c.deref.ensures.value
+    c.in_ok-places.ensures c.deref-2.ensures.value (omega (arith, c.sum-sum.ensures.fits)) in
+    root-ascending records _ _ _ begins
 
 pub returns-in_err-put_prefix-clause-long : goal.returns-in_err-put_prefix-clause-long
 returns-in_err-put_prefix-clause-long c = λ e.

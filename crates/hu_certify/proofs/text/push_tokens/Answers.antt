@@ -3,7 +3,7 @@ use Rattle.std.specs.Int.{w128}
 use Rattle.std.proofs.lemmas.Int.{to_z-of_z}
 use Rattle.hu_kind.specs.declared.item.Item.{Item}
 use Rattle.hu_kind.proofs.lemmas.Each.{each-get}
-use Rattle.hu_certify.specs.declared.place.Child.{Child}
+use Rattle.hu_certify.specs.declared.slots.Child.{Child}
 use Rattle.hu_certify.specs.Text.{token_text}
 use Rattle.hu_certify.proofs.TextLemmas.{token-pushed}
 use Rattle.hu_certify.proofs.text.push_tokens.Goals as goal
