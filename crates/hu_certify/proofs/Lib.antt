@@ -1,5 +1,6 @@
 mod SpotLemmas
 mod SlotLemmas
+mod ListLemmas
 mod OrderLemmas
 mod RankLemmas
 mod TextLemmas

@@ -90,9 +90,14 @@ empty-slot slots z empty = ap (λ s. slot_of s z) empty ∙ each (length slots) 
     each (suc n) zero = refl
     each (suc n) (suc z) = each n z
 
-pub all-empty : (slots : List Slot) → ((z : ℕ) → slot_of slots z ≡ no_slot) → AreEmpty slots
-all-empty [] none = refl
-all-empty (s ∷ slots) none = λ j. none 0 j ∷ all-empty slots (λ z. none (suc z)) j
+pub all-same : {A : Type 0} (none : A) (xs : List A) → ((z : ℕ) → get_or xs z none ≡ none) → xs ≡ replicate (length xs) none
+all-same none [] same = refl
+all-same none (x ∷ xs) same = λ j. same 0 j ∷ all-same none xs (λ z. same (suc z)) j
+
+pub replicate-at : {A : Type 0} (none : A) (n z : ℕ) → get_or (replicate n none) z none ≡ none
+replicate-at none zero z = refl
+replicate-at none (suc n) zero = refl
+replicate-at none (suc n) (suc z) = replicate-at none n z
 
 -- ---- a cell more
 
@@ -199,55 +204,47 @@ slot_over-fits places i d within room z =
     )
 
 -- a rank that stands nowhere
-pub slot_over-absent : (spots : List SpotOf) (z : ℕ) → (Member z (standing spots) → ⊥) → slot_over spots z ≡ no_slot
-slot_over-absent spots z out =
-    let gone : among z (ranks_in spots) ≡ false = absent-among z (ranks_in spots) (λ m. out (Member-to_ranking nat_cmp exact_unsigned z (ranks_in spots) m)) in
-    let none : most (narrowed z spots) ≡ pos 0 = ap most (nothing spots gone) in
-    λ j. record { met = gone j; bound = none j }
-  where
-    both : (a b : Bool) → (a || b) ≡ false → (a ≡ false) × (b ≡ false)
-    both true b h = cc
-    both false b h = (refl, h)
+module _ (spots : List SpotOf) (z : ℕ) (out : Member z (standing spots) → ⊥) where
+  gone : among z (ranks_in spots) ≡ false
+  gone = absent-among z (ranks_in spots) (λ m. out (Member-to_ranking nat_cmp exact_unsigned z (ranks_in spots) m))
 
-    nothing : (ss : List SpotOf) → among z (ranks_in ss) ≡ false → narrowed z ss ≡ []
-    nothing [] h = refl
-    nothing (s ∷ ss) h =
-        let parts = both (among z (items_in s.0)) (among z (ranks_in ss)) (sym (among-append z (items_in s.0) (ranks_in ss)) ∙ h) in
-        let here : has z s.0 ≡ false = sym (among-items z s.0) ∙ parts.0 in
-        rw here (nothing ss parts.1)
+  pub narrowed-absent : narrowed z spots ≡ []
+  narrowed-absent = nothing spots gone
+    where
+      both : (a b : Bool) → (a || b) ≡ false → (a ≡ false) × (b ≡ false)
+      both true b h = cc
+      both false b h = (refl, h)
 
--- ---- slots emptied by rank
+      nothing : (ss : List SpotOf) → among z (ranks_in ss) ≡ false → narrowed z ss ≡ []
+      nothing [] h = refl
+      nothing (s ∷ ss) h =
+          let parts = both (among z (items_in s.0)) (among z (ranks_in ss)) (sym (among-append z (items_in s.0) (ranks_in ss)) ∙ h) in
+          let here : has z s.0 ≡ false = sym (among-items z s.0) ∙ parts.0 in
+          rw here (nothing ss parts.1)
 
--- the slots of these ranks have what they had, and all others are empty
-pub record IsLeft (spots : List SpotOf) (ranks : List ℕ) (slots : List Slot) : Type 0 where
-  pub left : (z : ℕ) → Member z ranks → slot_of slots z ≡ slot_over spots z
-  pub done : (z : ℕ) → (Member z ranks → ⊥) → slot_of slots z ≡ no_slot
+  pub slot_over-absent : slot_over spots z ≡ no_slot
+  slot_over-absent = λ j. record { met = gone j; bound = most (narrowed-absent j) }
 
-pub IsLeft-standing : (spots : List SpotOf) (slots : List Slot) → ((z : ℕ) → slot_of slots z ≡ slot_over spots z)
-    → IsLeft spots (standing spots) slots
-IsLeft-standing spots slots is = record { left = λ z m. is z; done = λ z out. is z ∙ slot_over-absent spots z out }
+-- ---- what ranks have, taken by rank
 
-pub IsLeft-less : (spots : List SpotOf) (rank : ℕ) (ranks : List ℕ) (slots : List Slot) → Once (rank ∷ ranks) → rank < length slots
-    → IsLeft spots (rank ∷ ranks) slots → IsLeft spots ranks (set slots rank no_slot)
-IsLeft-less spots rank ranks slots once within is = record {
+-- these ranks have what they had, and all others nothing
+pub record IsLeft {A : Type 0} (none : A) (full : ℕ → A) (ranks : List ℕ) (now : ℕ → A) : Type 0 where
+  pub left : (z : ℕ) → Member z ranks → now z ≡ full z
+  pub done : (z : ℕ) → (Member z ranks → ⊥) → now z ≡ none
+
+IsLeft-less : {A : Type 0} (none : A) (full : ℕ → A) (rank : ℕ) (ranks : List ℕ) (now next : ℕ → A) → Once (rank ∷ ranks)
+    → ((z : ℕ) → next z ≡ cond (eqb z rank) none (now z)) → IsLeft none full (rank ∷ ranks) now → IsLeft none full ranks next
+IsLeft-less none full rank ranks now next once taken is = record {
   left = λ z m.
       let other : eqb z rank ≡ false = ne_eqb z rank (λ e. once.0 (subst (λ y. Member y ranks) e m)) in
-      slot-set slots rank no_slot within z ∙ rw other (is.left z (inr m));
-  done = λ z out. slot-set slots rank no_slot within z ∙ elim (cases_eq z rank) [
-    | inl e ↦ let here : eqb z rank ≡ true = eq-eqb z rank e in rw here refl
-    | inr ne ↦ let other : eqb z rank ≡ false = ne_eqb z rank ne in rw other (is.done z (λ m. elim m [ inl e ↦ ne (sym e) | inr n ↦ out n ]))
+      taken z ∙ ap (λ b. cond b none (now z)) other ∙ is.left z (inr m);
+  done = λ z out. taken z ∙ elim (cases_eq z rank) [
+    | inl e ↦ let here : eqb z rank ≡ true = eq-eqb z rank e in ap (λ b. cond b none (now z)) here
+    | inr ne ↦
+        let other : eqb z rank ≡ false = ne_eqb z rank ne in
+        ap (λ b. cond b none (now z)) other ∙ is.done z (λ m. elim m [ inl e ↦ ne (sym e) | inr n ↦ out n ])
   ];
 }
-
--- the slot of the first rank that is left
-pub IsLeft-first : (spots : List SpotOf) (rank : ℕ) (ranks : List ℕ) (slots : List Slot) → IsLeft spots (rank ∷ ranks) slots
-    → slot_of slots rank ≡ slot_over spots rank
-IsLeft-first spots rank ranks slots is = is.left rank (inl refl)
-
--- none is left
-pub IsLeft-none : (spots : List SpotOf) (old slots : List Slot) → AreEmpty old → length slots ≡ length old → IsLeft spots [] slots → slots ≡ old
-IsLeft-none spots old slots empty same is =
-    all-empty slots (λ z. is.done z (λ m. m)) ∙ ap (λ n. replicate n no_slot) same ∙ sym empty
 
 Once-drop : (from : ℕ) (ranks : List ℕ) → Once ranks → Once (drop from ranks)
 Once-drop zero ranks once = once
@@ -270,13 +267,13 @@ module _ (spots : List SpotOf) (ranks : List ℕ) (same : ranks ≡ standing spo
   pub stands-at : Member (get_or ranks i 0) (standing spots)
   stands-at = subst (Member (get_or ranks i 0)) same (Member-at ranks i within)
 
-  pub left-at : (slots : List Slot) → IsLeft spots (drop i ranks) slots → slot_of slots (get_or ranks i 0) ≡ slot_over spots (get_or ranks i 0)
-  left-at slots is = IsLeft-first spots (get_or ranks i 0) (drop (i + 1) ranks) slots (subst (λ rs. IsLeft spots rs slots) split is)
+  pub left-at : {A : Type 0} (none : A) (full now : ℕ → A) → IsLeft none full (drop i ranks) now → now (get_or ranks i 0) ≡ full (get_or ranks i 0)
+  left-at none full now is = is.left (get_or ranks i 0) (subst (Member (get_or ranks i 0)) (sym split) (inl refl))
 
-  pub left-next : (slots : List Slot) → get_or ranks i 0 < length slots → IsLeft spots (drop i ranks) slots
-      → IsLeft spots (drop (i + 1) ranks) (set slots (get_or ranks i 0) no_slot)
-  left-next slots low is =
-      IsLeft-less spots (get_or ranks i 0) (drop (i + 1) ranks) slots once low (subst (λ rs. IsLeft spots rs slots) split is)
+  pub left-next : {A : Type 0} (none : A) (full now next : ℕ → A) → ((z : ℕ) → next z ≡ cond (eqb z (get_or ranks i 0)) none (now z))
+      → IsLeft none full (drop i ranks) now → IsLeft none full (drop (i + 1) ranks) next
+  left-next none full now next taken is =
+      IsLeft-less none full (get_or ranks i 0) (drop (i + 1) ranks) now next once taken (subst (λ rs. IsLeft none full rs now) split is)
 
 -- ---- ranks ascend
 

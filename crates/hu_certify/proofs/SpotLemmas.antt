@@ -1,11 +1,8 @@
 -- Steps over the places of a prefix, and that their sums fit.
-use Rattle.std.proofs.Common.{◌≡◌, ℕ, zero, suc, ◌+◌, ◌-◌, ◌<◌, ◌≤◌, Bool, true, false, cond, eqb, nat_lt, ℤ, ◌+ℤ◌}
-use Rattle.std.proofs.Common.{pos, ◌≤ℤ◌, unsigned_abs, Option, None, Some, List, [], ◌∷◌, ◌++◌, map, length, take, drop, get_or}
-use Rattle.std.proofs.Common.{position, option_map, refl, sym, ap, ◌∙◌, subst, inl, inr, arith, sum_by, append_assoc}
-use Rattle.std.proofs.Common.{one-add}
-use Rattle.std.specs.List.{position_or_len}
+use Rattle.std.proofs.Common.{◌≡◌, ℕ, zero, suc, ◌+◌, ◌-◌, ◌<◌, ◌≤◌, eqb, ℤ, ◌+ℤ◌}
+use Rattle.std.proofs.Common.{pos, ◌≤ℤ◌, unsigned_abs, List, [], ◌∷◌, ◌++◌, map, length, take, drop, get_or}
+use Rattle.std.proofs.Common.{refl, sym, ap, ◌∙◌, inl, inr, arith, sum_by, append_assoc}
 use Rattle.std.proofs.lemmas.Bool.{cases_Bool}
-use Rattle.std.proofs.lemmas.Bool.Decides.{nat_tests}
 use Rattle.std.proofs.lemmas.Int.{ints}
 use Rattle.std.proofs.lemmas.List.{drop_more, take_more, take_all, map-append, length-drop}
 use Rattle.std.proofs.lemmas.List.Sums.{sum_by-cons}
@@ -15,78 +12,6 @@ use Rattle.hu_totals.specs.declared.ranked.Dense.{Dense}
 use Rattle.hu_totals.specs.View.{dense_pair}
 use Rattle.hu_certify.specs.declared.place.Place.{Place}
 use Rattle.hu_certify.specs.Spots.{SpotOf, spot_of, spots_of, past, grown, narrowed, size_of, HasRoom, most}
-
--- ---- the cell of a rank
-
-position-later : (p n : ℕ) (b : Bool) → nat_lt p n ≡ b → cond (nat_lt (1 + p) (suc n)) (Some (1 + p)) None ≡ option_map suc (cond b (Some p) None)
-position-later p n true h = let up : nat_lt (1 + p) (suc n) ≡ true = grind (arith, nat_tests) in rw up (ap Some (one-add p))
-position-later p n false h = let up : nat_lt (1 + p) (suc n) ≡ false = grind (arith, nat_tests) in rw up refl
-
-position-past : {A : Type 0} (p : A → Bool) (x : A) (xs : List A) → p x ≡ false → position p (x ∷ xs) ≡ option_map suc (position p xs)
-position-past p x xs h = rw h (position-later (position_or_len p xs) (length xs) (nat_lt (position_or_len p xs) (length xs)) refl)
-
-position-here : {A : Type 0} (p : A → Bool) (x : A) (xs : List A) → p x ≡ true → position p (x ∷ xs) ≡ Some 0
-position-here p x xs h = let first : nat_lt 0 (suc (length xs)) ≡ true = grind (arith, nat_tests) in simp (h, first)
-
--- where the cell of a rank stands
-pub record IsCellAt (rank : ℕ) (cells : List Dense) (at : ℕ) (d : Dense) : Type 0 where
-  pub within : at < length cells
-  pub found : has rank (map dense_pair cells) ≡ true
-  pub value : value_of rank (map dense_pair cells) ≡ (get_or cells at d).value
-  pub rest : past rank (map dense_pair cells) ≡ map dense_pair (drop (at + 1) cells)
-  pub size : unsigned_abs (get_or cells at d).value ≤ absolute_of (map dense_pair cells)
-
-pub IsCellAt-position : (rank : ℕ) (cells : List Dense) (at : ℕ) (d : Dense) → Some at ≡ position (λ cell. eqb rank cell.rank) cells → IsCellAt rank cells at d
-IsCellAt-position rank [] at d e = cc
-IsCellAt-position rank (c ∷ cs) at d e = elim (cases_Bool (eqb rank c.rank)) [
-  | inl h ↦ here h (e ∙ position-here (λ (cell : Dense). eqb rank cell.rank) c cs h)
-  | inr h ↦ later h (position (λ (cell : Dense). eqb rank cell.rank) cs) (λ k f. IsCellAt-position rank cs k d f)
-      (e ∙ position-past (λ (cell : Dense). eqb rank cell.rank) c cs h)
-]
-  where
-    here : eqb rank c.rank ≡ true → ◌≡◌ {A = Option ℕ} (Some at) (Some 0) → IsCellAt rank (c ∷ cs) at d
-    here h f =
-        let first : at ≡ 0 = cc in
-        let sizes = sum_by-cons (λ (cell : ℕ × ℤ). unsigned_abs cell.1) (dense_pair c) (map dense_pair cs) in
-        subst (λ k. IsCellAt rank (c ∷ cs) k d) (sym first)
-        (record { within = omega arith; found = simp h; value = simp h; rest = simp h; size = omega (arith, sizes) })
-
-    later : eqb rank c.rank ≡ false → (o : Option ℕ) → ((k : ℕ) → Some k ≡ o → IsCellAt rank cs k d) → Some at ≡ option_map suc o → IsCellAt rank (c ∷ cs) at d
-    later h None ih f = cc
-    later h (Some k) ih f =
-        let next : at ≡ suc k = cc in
-        let is = ih k refl in
-        let sizes = sum_by-cons (λ (cell : ℕ × ℤ). unsigned_abs cell.1) (dense_pair c) (map dense_pair cs) in
-        let e : suc k + 1 ≡ suc (k + 1) = omega arith in
-        subst (λ j. IsCellAt rank (c ∷ cs) j d) (sym next) (record {
-          within = omega (arith, is.within);
-          found = simp h is.found;
-          value = simp h is.value;
-          rest = simp h (is.rest ∙ sym (ap (λ j. map dense_pair (drop j (c ∷ cs))) e));
-          size = omega (arith, sizes, is.size);
-        })
-
-pub absent-position : (rank : ℕ) (cells : List Dense) → ◌≡◌ {A = Option ℕ} None (position (λ cell. eqb rank cell.rank) cells)
-    → has rank (map dense_pair cells) ≡ false
-absent-position rank [] e = refl
-absent-position rank (c ∷ cs) e = elim (cases_Bool (eqb rank c.rank)) [
-  | inl h ↦ let some = e ∙ position-here (λ (cell : Dense). eqb rank cell.rank) c cs h in cc
-  | inr h ↦ later h (position (λ (cell : Dense). eqb rank cell.rank) cs) (λ f. absent-position rank cs f)
-      (e ∙ position-past (λ (cell : Dense). eqb rank cell.rank) c cs h)
-]
-  where
-    later : eqb rank c.rank ≡ false → (o : Option ℕ) → (None ≡ o → has rank (map dense_pair cs) ≡ false) → None ≡ option_map suc o
-        → has rank (map dense_pair (c ∷ cs)) ≡ false
-    later h None ih f = simp h (ih refl)
-    later h (Some k) ih f = cc
-
-pub grown-some : (rank : ℕ) (spot : SpotOf) (rest : List (ℕ × ℤ)) (value own : ℤ) → has rank spot.0 ≡ true → past rank spot.0 ≡ rest
-    → value_of rank spot.0 ≡ value → own ≡ spot.1 +ℤ value
-    → (rest, own) ∷ [] ≡ grown rank spot
-grown-some rank spot rest value own found is told sum = rw (found, is, told, sum) refl
-
-pub grown-none : (rank : ℕ) (spot : SpotOf) → has rank spot.0 ≡ false → [] ≡ grown rank spot
-grown-none rank spot gone = rw gone refl
 
 -- ---- steps
 

@@ -5,9 +5,11 @@ use Rattle.std.proofs.Common.{subst, inl, inr, arith, append_assoc, append-nil, 
 use Rattle.std.specs.Fmt.{signed_decimal}
 use Rattle.std.specs.List.{AllByRecursion}
 use Rattle.std.specs.Result.{IsErrAnd}
+use Rattle.std.specs.declared.vec.Vec.{Vec}
+use Rattle.std.specs.declared.alloc.Global.{Global}
 use Rattle.std.proofs.lemmas.Bool.{cases_Bool, eq-eqb}
 use Rattle.std.proofs.lemmas.Grind.{flat_map-append}
-use Rattle.std.proofs.lemmas.List.{take_more, take_all, take-append-drop, length-append, length-drop, map-append}
+use Rattle.std.proofs.lemmas.List.{take_more, take_all, take-append-drop, length-append, length-drop, length-map, map-append, get_or-map}
 use Rattle.std.proofs.lemmas.List.Sums.{sum_by-cons}
 use Rattle.std.proofs.Math.Seq.{take-append_seam}
 use Rattle.hu_kind.specs.Record.{has, holds, value_of, items_in}
@@ -19,11 +21,14 @@ use Rattle.hu_totals.proofs.lemmas.DenseLemmas.{ranks_from}
 use Rattle.hu_totals.proofs.lemmas.SortedLists.{Once, Once-from_distinct, Member-from_ranking}
 use Rattle.hu_certify.specs.declared.fault.CertFault.{CertFault}
 use Rattle.hu_certify.specs.declared.fault.CertFault.TheVariants.{TooLong}
+use Rattle.hu_certify.specs.declared.place.Place.{Place}
 use Rattle.hu_certify.specs.declared.slots.Child.{Child}
+use Rattle.hu_certify.specs.Slots.{list_at, lists_of, opened}
 use Rattle.hu_certify.specs.Spots.{SpotOf, past, narrowed, earned, ranks_in, standing, child_at, children_at, named}
-use Rattle.hu_certify.specs.Spots.{rank_pair, AreRanks, IsNode, lines_from, opened_lines}
+use Rattle.hu_certify.specs.Spots.{most, rank_pair, spots_of, AreRanks, IsNode, lines_from, opened_lines}
 use Rattle.hu_certify.specs.Text.{line_of, lines_below, lines_text, prefix_text, spaced, tokens_text}
 use Rattle.hu_certify.specs.Written.{Writes}
+use Rattle.hu_certify.proofs.ListLemmas.{list-here}
 use Rattle.hu_certify.proofs.NodeLemmas.{spots_with, narrowed-at, earned-with, children-with, lines-with}
 
 -- ---- the items of a prefix
@@ -340,3 +345,31 @@ so_far-whole records order from path written spots least children i old now is t
 pub prefix-back : (now pushed after back more : List ℕ) (n : ℕ) → n ≡ length now → pushed ≡ now ++ more → after ≡ pushed → back ≡ take n after → back ≡ now
 prefix-back now pushed after back more n count is same cut =
     cut ∙ (λ j. take (count j) ((same ∙ is) j)) ∙ take-append_seam now more
+
+-- ---- the places of a child that is opened
+
+module _ (least : ℤ) (spots : List SpotOf) (children : List Child) (lists : List (Vec Place Global)) (told : map rank_pair children ≡ children_at spots)
+    (places : lists_of lists ≡ map (opened least spots) (standing spots)) where
+  pub opened-many : length lists ≡ length children
+  opened-many =
+      sym (length-map lists (λ (list : Vec Place Global). spots_of list.items)) ∙ ap length places ∙ length-map (standing spots) (opened least spots)
+      ∙ sym (length-map (standing spots) (child_at spots)) ∙ sym (ap length told) ∙ length-map children rank_pair
+
+  pub opened-child : (i : ℕ) (d : Child) → i < length children → int_le least (get_or children i d).bound ≡ true
+      → list_at lists i ≡ narrowed (get_or children i d).rank spots
+  opened-child i d within reached =
+      let ranks = ranks-of children spots told in
+      let inside : i < length (standing spots) = omega (arith, within, ap length ranks, length-map children (λ (child : Child). child.rank)) in
+      let pair : rank_pair (get_or children i d) ≡ child_at spots (get_or (standing spots) i 0) =
+      sym (get_or-map rank_pair children i d (rank_pair d) within) ∙ ap (λ ps. get_or ps i (rank_pair d)) told
+      ∙ get_or-map (child_at spots) (standing spots) i 0 (rank_pair d) inside in
+      let opens : int_le least (most (narrowed (get_or (standing spots) i 0) spots)) ≡ true = sym (ap (λ (p : ℕ × ℤ). int_le least p.1) pair) ∙ reached in
+      ap (λ (ls : List (List SpotOf)). get_or ls i []) places ∙ get_or-map (opened least spots) (standing spots) i 0 [] inside
+      ∙ ap (λ b. cond b (narrowed (get_or (standing spots) i 0) spots) []) opens
+      ∙ sym (ap (λ (p : ℕ × ℤ). narrowed p.0 spots) pair)
+
+  pub opened-shown : (i : ℕ) (d : Child) (list : Vec Place Global) (shown : List Place) → i < length children → int_le least (get_or children i d).bound ≡ true
+      → list ≡ get_or lists i list → shown ≡ list.items → spots_of shown ≡ narrowed (get_or children i d).rank spots
+  opened-shown i d list shown within reached read seen =
+      let inside : i < length lists = omega (arith, within, opened-many) in
+      ap spots_of seen ∙ ap (λ (l : Vec Place Global). spots_of l.items) read ∙ sym (list-here lists i list inside) ∙ opened-child i d within reached

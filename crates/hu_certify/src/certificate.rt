@@ -4,14 +4,14 @@ ghost use Rattle.std.specs.Prelude.{◌≡◌, ℕ, ℤ, ◌<◌, ◌≤◌, dro
 ghost use Rattle.hu_base.specs.Base.{records_of};
 ghost use Rattle.hu_totals.specs.Weights.{numbers_of};
 ghost use Rattle.hu_certify.specs.Spots.{lines_from, spots_of, AreAscending, AreRanks, HasRoom, IsNode};
-ghost use Rattle.hu_certify.specs.Slots.{AreEmpty};
+ghost use Rattle.hu_certify.specs.Table.{IsAtRest};
 ghost use Rattle.hu_certify.specs.Text.{certificate_text, lines_text};
 ghost use Rattle.hu_certify.specs.Written.{Writes};
 
 use crate::fault::CertFault;
-use crate::place::{Place, earned, first_places, narrowed};
+use crate::place::{Place, earned, first_places};
 use crate::records::ranked_records;
-use crate::slots::{Slot, children, empty_slots};
+use crate::table::{Table, below_of, table_of};
 use crate::text::{push_minimum, push_order, push_spaced, put_line};
 use hu_base::Base;
 use hu_kind::{Item, Record};
@@ -21,10 +21,10 @@ use std::alloc::Global;
 /// The certificate of a base at a minimum: a text from which hu_proof's check finds that the answer of the task `items` over
 /// the base is whole. It is refused where it has more than 268,435,456 bytes.
 ///
-/// It is written depth first. Each line takes one pass over the cells that stand after its prefix in the records that hold
-/// it, a sort of the items that it meets there, and a pass over these cells for each of its tokens whose line follows. The
-/// memory is that of the records over ranks, of the text, and of the places on the way from the empty prefix to the line
-/// that is written. A prefix of so many items is so many calls deep; no record has more than 4,096.
+/// It is written depth first. Each line takes two passes over the cells that stand after its prefix in the records that hold
+/// it, and a sort of the items that it meets there. The memory is that of the records over ranks, of the text, of a slot and a
+/// list for each item, and of the places of the children that are opened, on the way from the empty prefix to the line that is
+/// written. A prefix of so many items is so many calls deep; no record has more than 4,096.
 pub fn certify(alloc: Global, base: &Base<Record>, least: i128) -> Result<Vec<u8>, CertFault>
     ensures text { IfOk result (λ text. text.items ≡ certificate_text
         (records_of base.now) least) }
@@ -42,12 +42,12 @@ pub fn certify(alloc: Global, base: &Base<Record>, least: i128) -> Result<Vec<u8
     push_minimum(&mut text, least)?;
     push_order(&mut text, items.as_slice())?;
     let mut prefix = Vec::new(alloc);
-    let mut slots = empty_slots(alloc, items.len())?;
+    let mut table = table_of(alloc, items.len())?;
     put_prefix(
         alloc,
         &mut text,
         &mut prefix,
-        &mut slots,
+        &mut table,
         items.as_slice(),
         &places,
         least,
@@ -56,21 +56,20 @@ pub fn certify(alloc: Global, base: &Base<Record>, least: i128) -> Result<Vec<u8
 }
 
 /// Writes the line of a prefix and all lines below it. The prefix is written with a space in front of each item.
-fn put_prefix(
+fn put_prefix<'a>(
     alloc: Global,
     text: &mut Vec<u8>,
     prefix: &mut Vec<u8>,
-    slots: &mut Vec<Slot>,
+    table: &mut Table<'a>,
     items: &[Item],
-    places: &[Place<'_>],
+    places: &[Place<'a>],
     least: i128,
 ) -> Result<(), CertFault>
     requires room { HasRoom (spots_of places.now) }
     requires ranks { AreRanks (length items.now) (spots_of places.now) }
     requires ascending { AreAscending (spots_of places.now) }
-    requires slots { length slots.old.items ≡ length items.now }
-    requires empty { AreEmpty slots.old.items }
-    ensures slots { OnOk result (slots.new.items ≡ slots.old.items) }
+    requires rest { IsAtRest (length items.now) table.old }
+    ensures rest { OnOk result (IsAtRest (length items.now) table.new) }
     ensures prefix { OnOk result (prefix.new.items ≡ prefix.old.items) }
     ensures short { OnOk result (length text.new.items ≤ 268435456) }
     ensures text { (records : List (List (ℕ × ℤ))) (from : ℕ) (path : List ℕ)
@@ -79,14 +78,13 @@ fn put_prefix(
         (lines_text (lines_from records least path (drop from (numbers_of items.now))))
         result }
 {
-    let children = children(alloc, slots, places)?;
-    put_line(text, prefix, earned(places), items, &children, least)?;
+    let below = below_of(alloc, table, places, least)?;
+    put_line(text, prefix, earned(places), items, &below.children, least)?;
     let length = prefix.len();
-    'children: for child in &children {
+    'children: for (at, child) in below.children.iter().enumerate() {
         if child.bound >= least {
-            let narrow = narrowed(alloc, places, child.rank)?;
             push_spaced(prefix, items[child.rank as usize])?;
-            put_prefix(alloc, text, prefix, slots, items, &narrow, least)?;
+            put_prefix(alloc, text, prefix, table, items, &below.places[at], least)?;
             prefix.truncate(length);
         }
     }

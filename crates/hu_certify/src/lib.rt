@@ -7,9 +7,11 @@
 mod certificate;
 mod fault;
 pub mod laws;
+mod lists;
 mod place;
 mod records;
 mod slots;
+mod table;
 mod text;
 
 pub use certificate::certify;

@@ -1,8 +1,8 @@
 //! The records that hold a prefix, and what the prefix earns over them.
 
-ghost use Rattle.std.specs.Prelude.{◌≡◌, ◌<◌, ◌==◌, ◌^◌, pos, position, map, option_map, option_to_list, IfOk};
+ghost use Rattle.std.specs.Prelude.{◌≡◌, pos, map, IfOk};
 ghost use Rattle.hu_totals.specs.View.{pairs_in};
-ghost use Rattle.hu_certify.specs.Spots.{earned, grown, narrowed, size_of, spot_of, spots_of, HasRoom};
+ghost use Rattle.hu_certify.specs.Spots.{earned, spots_of, HasRoom};
 
 use hu_kind::NoMemory;
 use hu_totals::Dense;
@@ -31,43 +31,6 @@ pub(crate) fn first_places(
         })?;
     }
     Ok(places)
-}
-
-/// The places of a prefix with a rank more.
-pub(crate) fn narrowed<'a>(
-    alloc: Global,
-    places: &[Place<'a>],
-    rank: u32,
-) -> Result<Vec<Place<'a>>, NoMemory>
-    requires { HasRoom (spots_of places.now) }
-    ensures { IfOk result (λ narrow. spots_of narrow.items ≡ narrowed rank (spots_of places.now)) }
-{
-    let mut narrow = Vec::new(alloc);
-    for place in places {
-        if let Some(one) = grown(place, rank) {
-            narrow.push(one)?;
-        }
-    }
-    Ok(narrow)
-}
-
-/// A place with a rank more, where the record has it.
-fn grown<'a>(place: &Place<'a>, rank: u32) -> Option<Place<'a>>
-    requires { size_of (spot_of place.now) < 2 ^ 127 }
-    ensures { option_to_list (option_map spot_of result) ≡ grown rank (spot_of place.now) }
-{
-    let at = place_of(place.rest, rank)?;
-    Some(Place {
-        rest: &place.rest[at + 1..],
-        own: place.own + place.rest[at].value,
-    })
-}
-
-/// Where the cell of a rank stands.
-fn place_of(cells: &[Dense], rank: u32) -> Option<usize>
-    ensures { result ≡ position (λ cell. rank == cell.rank) cells.now }
-{
-    cells.iter().position(|cell| rank == cell.rank)
 }
 
 /// What a prefix earns.

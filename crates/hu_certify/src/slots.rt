@@ -1,12 +1,13 @@
-//! The children of a prefix, in one pass over the prefix's places by a slot for each rank.
+//! The ranks that may follow a prefix, with the most that the prefix may earn with each, in one pass over the prefix's places
+//! by a slot for each rank.
 
-ghost use Rattle.std.specs.Prelude.{◌≡◌, ℕ, ◌<◌, ◌≤◌, ◌+◌, ◌^◌, ◌++◌, [], ◌∷◌, pos, length, map, set, replicate, unsigned_abs, if◌then◌else◌, IfOk, OnOk};
+ghost use Rattle.std.specs.Prelude.{◌≡◌, ℕ, ◌<◌, ◌≤◌, ◌+◌, ◌^◌, ◌++◌, [], ◌∷◌, length, set, replicate, unsigned_abs, if◌then◌else◌, IfOk, OnOk};
 ghost use Rattle.std.specs.List.{AllByRecursion};
 ghost use Rattle.std.specs.Ordering.{nat_cmp};
 ghost use Rattle.hu_kind.specs.Order.{ranking, Ascend};
 ghost use Rattle.hu_kind.specs.Record.{items_in, positive_part};
 ghost use Rattle.hu_certify.specs.Slots.{no_slot, slot_of, slot_over, with_more, with_spot, AreEmpty, AreMet};
-ghost use Rattle.hu_certify.specs.Spots.{children_at, rank_pair, size_of, spot_of, spots_of, standing, AreAscending, AreRanks, HasRoom};
+ghost use Rattle.hu_certify.specs.Spots.{rank_pair, size_of, spot_of, spots_of, standing, AreAscending, AreRanks, HasRoom};
 
 use crate::place::Place;
 use hu_kind::NoMemory;
@@ -22,8 +23,8 @@ pub(crate) struct Child {
 /// Whether a rank stands in a place of a prefix, and the most that the prefix may earn with it and with later items.
 #[derive(Clone, Copy)]
 pub(crate) struct Slot {
-    met: bool,
-    bound: i128,
+    pub met: bool,
+    pub bound: i128,
 }
 
 impl Slot {
@@ -41,35 +42,26 @@ pub(crate) fn empty_slots(alloc: Global, count: usize) -> Result<Vec<Slot>, NoMe
     Ok(vec![in alloc; Slot::EMPTY; count]?)
 }
 
-/// The children of a prefix, by rank ascending. It takes one pass over the cells of the prefix's places, and a sort of the
-/// ranks that stand there. The slots are empty before and after.
-pub(crate) fn children(
-    alloc: Global,
-    slots: &mut Vec<Slot>,
-    places: &[Place<'_>],
-) -> Result<Vec<Child>, NoMemory>
-    requires room { HasRoom (spots_of places.now) }
-    requires ranks { AreRanks (length slots.old.items) (spots_of places.now) }
-    requires ascending { AreAscending (spots_of places.now) }
-    requires empty { AreEmpty slots.old.items }
-    ensures children { IfOk result (λ children. map rank_pair
-        children.items ≡ children_at (spots_of places.now)) }
-    ensures slots { OnOk result (slots.new.items ≡ slots.old.items) }
+/// The child with a rank, from the rank's slot, which is empty then.
+pub(crate) fn take_child(slots: &mut Vec<Slot>, rank: u32) -> Child
+    requires { rank < length slots.old.items }
+    ensures child { rank_pair result ≡ (rank, (slot_of slots.old.items rank).bound) }
+    ensures slots { slots.new.items ≡ set slots.old.items rank no_slot }
 {
-    let ranks = fill(alloc, slots, places)?;
-    let mut children = Vec::with_capacity(alloc, ranks.len())?;
-    for rank in &ranks {
-        children.push(Child {
-            rank: *rank,
-            bound: slots[*rank as usize].bound,
-        })?;
-        slots[*rank as usize] = Slot::EMPTY;
-    }
-    Ok(children)
+    let child = Child {
+        rank,
+        bound: slots[rank as usize].bound,
+    };
+    slots[rank as usize] = Slot::EMPTY;
+    child
 }
 
 /// Fills the slots of the ranks that stand in some place, and gives these ranks, ascending.
-fn fill(alloc: Global, slots: &mut Vec<Slot>, places: &[Place<'_>]) -> Result<Vec<u32>, NoMemory>
+pub(crate) fn fill(
+    alloc: Global,
+    slots: &mut Vec<Slot>,
+    places: &[Place<'_>],
+) -> Result<Vec<u32>, NoMemory>
     requires room { HasRoom (spots_of places.now) }
     requires ranks { AreRanks (length slots.old.items) (spots_of places.now) }
     requires ascending { AreAscending (spots_of places.now) }
