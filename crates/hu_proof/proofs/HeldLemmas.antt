@@ -14,7 +14,7 @@ use Rattle.hu_proof.specs.declared.token.Token.{Token}
 use Rattle.hu_proof.specs.Bounds.{is_among, after, later_gain, cut_bound, stands_with}
 use Rattle.hu_proof.specs.Check.{Node, first_such, left_out, wrong_bound, prefix_fault, utility_fault, child_fault, cut_fault, faults_of, line_fault}
 use Rattle.hu_proof.specs.Judged.{token_items, missing, bound_fault_at, bound_faults, missing_fault, fault_at, line_fault_at}
-use Rattle.hu_proof.specs.Places.{PlaceOf, held, narrowed, earned, shares, later_size, Apart, IsRoomy, HasRoom}
+use Rattle.hu_proof.specs.Places.{PlaceOf, held, narrowed, earned, shares, later_size, Apart, IsRoomy, HasRoom, Rises, AllAscend}
 use Rattle.hu_proof.specs.Text.{Said}
 use Rattle.hu_proof.proofs.Gains.{holds-append, values_of-append}
 use Rattle.hu_proof.proofs.Orders.{among-member, member-among, not_among, Apart-left, Apart-right}
@@ -222,10 +222,22 @@ roomy-held (r ∷ rs) prefix later apart =
       | inr e ↦ simp e ih
     ]
 
-pub room-held : (records : List (List (ℕ × ℤ))) (prefix later : List ℕ) → Apart (prefix ++ later) → sum_by absolute_of records < 2 ^ 127
+rises-held : (records : List (List (ℕ × ℤ))) (prefix : List ℕ) → AllAscend records
+    → AllByRecursion Rises (held records prefix)
+rises-held [] prefix up = tt
+rises-held (r ∷ rs) prefix up =
+    let ih = rises-held rs prefix up.1 in
+    elim (cases_Bool (holds prefix r)) [
+      | inl e ↦ simp e (up.0, ih)
+      | inr e ↦ simp e ih
+    ]
+
+pub room-held : (records : List (List (ℕ × ℤ))) (prefix later : List ℕ) → Apart (prefix ++ later)
+    → AllAscend records → sum_by absolute_of records < 2 ^ 127
     → HasRoom later (held records prefix)
-room-held records prefix later apart fits = record {
+room-held records prefix later apart up fits = record {
   apart = Apart-right prefix later apart;
   each = roomy-held records prefix later apart;
+  rises = rises-held records prefix up;
   sum = let sum = sum-held records prefix in omega (arith, fits, sum);
 }

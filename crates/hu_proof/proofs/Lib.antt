@@ -6,6 +6,7 @@ mod Sound
 mod SplitLemmas
 mod OrderLemmas
 mod Ranks
+mod CellLemmas
 mod PlaceLemmas
 mod Lowest
 mod LineLemmas

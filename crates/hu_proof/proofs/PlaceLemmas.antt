@@ -11,7 +11,7 @@ use Rattle.hu_kind.proofs.lemmas.Earned.{positive_part-upper, positive_part-with
 use Rattle.hu_kind.proofs.lemmas.Members.{Member}
 use Rattle.hu_proof.specs.declared.place.Place.{Place}
 use Rattle.hu_proof.specs.Bounds.{is_among, after, later_gain}
-use Rattle.hu_proof.specs.Places.{PlaceOf, place_of, places_of, value_in, narrowed, share, later_size, Apart, IsRoomy, HasRoom, Stands}
+use Rattle.hu_proof.specs.Places.{PlaceOf, place_of, places_of, value_in, narrowed, share, later_size, Apart, IsRoomy, HasRoom, Rises, Stands}
 use Rattle.hu_proof.proofs.Orders.{among-member, member-among, not_among, Member-after, not_after_itself}
 
 -- ---- sums of the absolute values of later items
@@ -36,12 +36,14 @@ size_of place = absolute_of place.0
 -- what a place keeps within the bound of all
 pub record AtPlace (later : List ℕ) (place : PlaceOf) : Type 0 where
   pub roomy : IsRoomy later place
+  pub rises : Rises place
   pub fits : absolute_of place.0 < 2 ^ 127
 
 HasRoom-tail : (later : List ℕ) (place : PlaceOf) (places : List PlaceOf) → HasRoom later (place ∷ places) → HasRoom later places
 HasRoom-tail later place places room = record {
   apart = room.apart;
   each = room.each.1;
+  rises = room.rises.1;
   sum =
       omega (arith, room.sum, sum_by-cons (λ (p : PlaceOf). absolute_of p.0) place places);
 }
@@ -50,7 +52,7 @@ pub at-place : (later : List ℕ) (places : List Place) (i : ℕ) (d : Place) �
     → AtPlace later (place_of (get_or places i d))
 at-place later [] i d room within = absurd (omega arith)
 at-place later (p ∷ ps) zero d room within =
-    record { roomy = room.each.0; fits = omega (arith, room.sum, sum_by-cons (λ (q : PlaceOf). absolute_of q.0) (place_of p) (places_of ps)) }
+    record { roomy = room.each.0; rises = room.rises.0; fits = omega (arith, room.sum, sum_by-cons (λ (q : PlaceOf). absolute_of q.0) (place_of p) (places_of ps)) }
 at-place later (p ∷ ps) (suc i) d room within = at-place later ps i d (HasRoom-tail later (place_of p) (places_of ps) room) (omega arith)
 
 pub places-drop : (places : List Place) (i : ℕ) (d : Place) → i < length places

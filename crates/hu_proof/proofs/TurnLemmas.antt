@@ -21,7 +21,7 @@ use Rattle.hu_proof.specs.declared.line.Opened.{Opened}
 use Rattle.hu_proof.specs.declared.token.Token.{Token}
 use Rattle.hu_proof.specs.Check.{Node, grown, children, line_fault, opened_by, walk}
 use Rattle.hu_proof.specs.Judged.{token_items, line_fault_at, Judges, SaysTokens, node_at}
-use Rattle.hu_proof.specs.Places.{PlaceOf, held, narrowed, earned, Apart, Follows, HasRoom, places_of}
+use Rattle.hu_proof.specs.Places.{PlaceOf, held, narrowed, earned, Apart, Follows, HasRoom, AllAscend, places_of}
 use Rattle.hu_proof.specs.Text.{pieces, said_of}
 use Rattle.hu_proof.specs.Words.{numbers_of}
 use Rattle.hu_kind.specs.declared.item.Item.{Item}
@@ -227,9 +227,9 @@ pub root-node : (records : List (List (ℕ × ℤ))) (order : List ℕ) (places 
 root-node records order places apart e = record { holds = e ∙ sym (held-none records); apart = apart }
 
 pub room-node : (records : List (List (ℕ × ℤ))) (order path : List ℕ) (from : ℕ) (places : List PlaceOf) → IsNode records order path from places
-    → sum_by absolute_of records < 2 ^ 127 → HasRoom (drop from order) places
-room-node records order path from places node fits = subst (HasRoom (drop from order)) (sym node.holds)
-    (room-held records path (drop from order) node.apart fits)
+    → AllAscend records → sum_by absolute_of records < 2 ^ 127 → HasRoom (drop from order) places
+room-node records order path from places node up fits = subst (HasRoom (drop from order)) (sym node.holds)
+    (room-held records path (drop from order) node.apart up fits)
 
 walk-past : (records : List (List (ℕ × ℤ))) (least : ℤ) (line : ℕ) (ps : List (List ℕ)) → (ps ≡ [] ∷ [] → ⊥)
     → walk records least line [] ps ≡ Some (CheckFault.NotOfForm line)

@@ -23,7 +23,8 @@ use Rattle.std.specs.Prelude.{
 }
 use Rattle.std.specs.List.{filter, sum_by, AllByRecursion}
 use Rattle.hu_kind.specs.Cell.{pairs_of}
-use Rattle.hu_kind.specs.Record.{has, holds, value_of, values_of, positive_part, absolute_of}
+use Rattle.hu_kind.specs.Order.{Ascend}
+use Rattle.hu_kind.specs.Record.{has, holds, items_in, value_of, values_of, positive_part, absolute_of}
 use Rattle.hu_proof.specs.Bounds.{is_among, after, later_gain}
 use Rattle.hu_proof.specs.declared.place.Place.{Place}
 
@@ -92,10 +93,19 @@ later_size later (cell ∷ cells) =
 abbrev pub IsRoomy : List ℕ → PlaceOf → Type 0
 IsRoomy later place = unsigned_abs place.1 + later_size later place.0 ≤ absolute_of place.0
 
+-- the items of a record ascend
+abbrev pub Rises : PlaceOf → Type 0
+Rises place = Ascend (items_in place.0)
+
+-- as they do in each of some records
+abbrev pub AllAscend : List (List (ℕ × ℤ)) → Type 0
+AllAscend records = AllByRecursion (λ r. Ascend (items_in r)) records
+
 -- and the records' are at most 2 ^ 127 - 1 together
 pub record HasRoom (later : List ℕ) (places : List PlaceOf) : Type 0 where
   pub apart : Apart later
   pub each : AllByRecursion (IsRoomy later) places
+  pub rises : AllByRecursion Rises places
   pub sum : sum_by (λ place. absolute_of place.0) places < 2 ^ 127
 
 -- an item stands in an order, and after it these do

@@ -1,10 +1,12 @@
 //! The records that hold a prefix, and the sums over them.
 
 ghost use Rattle.std.specs.Prelude.{◌≡◌, ◌+◌, ◌<◌, ◌≤◌, ◌^◌, pos, nat_eq, None, Some, drop, if◌then◌else◌, length, map, unsigned_abs, position, true, false, [], ◌∷◌, option_map, option_to_list, List, ℕ, IfOk, IfSome, IfNone};
+ghost use Rattle.std.specs.List.Sorted.{IsPartitionPoint};
 ghost use Rattle.hu_kind.specs.Cell.{pairs_of};
-ghost use Rattle.hu_kind.specs.Record.{absolute_of, positive_part, value_of};
+ghost use Rattle.hu_kind.specs.Order.{Ascend};
+ghost use Rattle.hu_kind.specs.Record.{absolute_of, items_in, positive_part, value_of};
 ghost use Rattle.hu_proof.specs.Bounds.{after, is_among, later_gain};
-ghost use Rattle.hu_proof.specs.Places.{earned, narrowed, place_of, places_of, share, shares, value_in, Apart, HasRoom, IsOneOf, IsRoomy, Stands};
+ghost use Rattle.hu_proof.specs.Places.{earned, narrowed, place_of, places_of, share, shares, value_in, AllAscend, Apart, HasRoom, IsOneOf, IsRoomy, Rises, Stands};
 
 use crate::order::Order;
 use hu_kind::{Cell, Item, NoMemory, Record};
@@ -19,7 +21,9 @@ pub(crate) struct Place<'a> {
 
 /// The places of the empty prefix.
 pub(crate) fn first_places(alloc: Global, records: &[Record]) -> Result<Vec<Place<'_>>, NoMemory>
-    ensures { IfOk result (λ places. places_of places.items ≡ map (λ r. (r, pos 0)) records.now) }
+    ensures value { IfOk result (λ places. places_of places.items
+        ≡ map (λ r. (r, pos 0)) records.now) }
+    ensures rises { IfOk result (λ _. AllAscend records.now) }
 {
     let mut places = Vec::with_capacity(alloc, records.len())?;
     for record in records {
@@ -52,7 +56,8 @@ pub(crate) fn narrowed<'a>(
 
 /// A place with an item more, where the record has it.
 fn grown<'a>(place: &Place<'a>, item: Item) -> Option<Place<'a>>
-    requires { unsigned_abs place.now.own + unsigned_abs (value_of item.0
+    requires ascending { Rises (place_of place.now) }
+    requires room { unsigned_abs place.now.own + unsigned_abs (value_of item.0
         (pairs_of place.now.cells.now)) < 2 ^ 127 }
     ensures { option_to_list (option_map place_of result)
         ≡ narrowed item.0 (place_of place.now ∷ []) }
@@ -64,16 +69,27 @@ fn grown<'a>(place: &Place<'a>, item: Item) -> Option<Place<'a>>
     })
 }
 
-/// The value of an item in a record that has it.
+/// The value of an item in a record that has it, looked for by halves.
 fn value_at(cells: &[Cell], item: Item) -> Option<i128>
+    requires { Ascend (items_in (pairs_of cells.now)) }
     ensures { result ≡ value_in item.0 (pairs_of cells.now) }
 {
-    for cell in cells {
-        if cell.item == item {
-            return Some(cell.value);
-        }
+    let cell = cells.get(cells_below(cells, item))?;
+    if cell.item.0 == item.0 {
+        Some(cell.value)
+    } else {
+        None
     }
-    None
+}
+
+/// How many cells stand before an item's place.
+fn cells_below(cells: &[Cell], item: Item) -> usize
+    requires { Ascend (items_in (pairs_of cells.now)) }
+    ensures within { result ≤ length cells.now }
+    ensures splits { IsPartitionPoint (λ cell. cell.item.0 < item.0)
+        (λ cell. item.0 ≤ cell.item.0) cells.now result }
+{
+    cells.partition_point(|cell| cell.item.0 < item.0)
 }
 
 /// What a prefix earns.
@@ -134,6 +150,7 @@ fn gain_of(order: &Order, from: usize, cell: &Cell) -> i128
 /// The most that a prefix may earn in a record with an item and with those before which at least so many stand.
 fn share(order: &Order, from: usize, place: &Place<'_>, item: Item) -> i128
     requires apart { Apart order.now }
+    requires ascending { Rises (place_of place.now) }
     requires room { (later : List ℕ) × IsRoomy later (place_of place.now)
         × Stands later item.0 (drop from order.now) }
     requires fits { absolute_of (pairs_of place.now.cells.now) < 2 ^ 127 }

@@ -11,7 +11,7 @@ ghost use Rattle.hu_collect.specs.State.{offered, Takes};
 ghost use Rattle.hu_proof.specs.Judged.{line_fault_at, token_items, Judges, SaysTokens, node_at};
 ghost use Rattle.hu_proof.specs.Text.{pieces, said_of};
 ghost use Rattle.hu_proof.specs.declared.token.Token.{Token};
-ghost use Rattle.hu_proof.specs.Places.{narrowed, places_of, Apart, Follows, HasRoom, IsOneOf};
+ghost use Rattle.hu_proof.specs.Places.{narrowed, places_of, AllAscend, Apart, Follows, HasRoom, IsOneOf};
 ghost use Rattle.hu_proof.specs.Waiting.{entry_at, stack_of, PushesChildren, Steps};
 ghost use Rattle.hu_proof.specs.Words.{numbers_of};
 
@@ -245,6 +245,7 @@ fn root(alloc: Global, records: &[Record]) -> Result<Opened<'_>, NoMemory>
     ensures from { IfOk result (λ node. node.from ≡ 0) }
     ensures places { IfOk result (λ node. places_of node.places.items
         ≡ map (λ r. (r, pos 0)) records.now) }
+    ensures rises { IfOk result (λ _. AllAscend records.now) }
 {
     Ok(Opened {
         from: 0,

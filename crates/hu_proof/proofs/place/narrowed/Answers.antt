@@ -12,14 +12,20 @@ use Rattle.hu_proof.proofs.place.narrowed.Goals.{in-Some+in_ok-push, in_default}
 no_place : Place
 no_place = record { cells = record { ref_ptr = (0, 0); now = [] }; own = pos 0 }
 
-pub grown-requires : goal.grown-requires
+pub grown-requires-clause-room : goal.grown-requires-clause-room
 unfolding no_place
-grown-requires c =
+grown-requires-clause-room c =
     let places = c.args.places.now in
     let i = c.loop-place.place-index in
     let at = at-place c.requires.0 places i no_place c.requires.1 c.loop-place-test.true in
     let value = value_of-later_size c.args.item.0 c.requires.0 (pairs_of (get_or places i no_place).cells.now) c.requires.2 in
     omega (arith, ints, at.roomy, at.fits, value)
+
+pub grown-requires-clause-ascending : goal.grown-requires-clause-ascending
+unfolding no_place
+grown-requires-clause-ascending c =
+    let at = at-place c.requires.0 c.args.places.now c.loop-place.place-index no_place c.requires.1 c.loop-place-test.true in
+    at.rises
 
 pub loop-place-preserved : goal.loop-place-preserved
 unfolding no_place

@@ -12,3 +12,9 @@ unfolding no_place
 share-sum-requires-clause-room c =
     let at = at-place c.requires.room.0 c.args.places.now c.loop-place.place-index no_place c.requires.room.1 c.loop-place-test.true in
     (c.requires.room.0, at.roomy, c.requires.room.2)
+
+pub share-sum-requires-clause-ascending : goal.share-sum-requires-clause-ascending
+unfolding no_place
+share-sum-requires-clause-ascending c =
+    let at = at-place c.requires.room.0 c.args.places.now c.loop-place.place-index no_place c.requires.room.1 c.loop-place-test.true in
+    at.rises

@@ -13,7 +13,7 @@ use Rattle.hu_proof.specs.declared.token.Token.{Token}
 use Rattle.hu_proof.specs.Check.{root, walk}
 use Rattle.hu_proof.specs.Judged.{line_fault_at, token_items, SaysTokens, node_at}
 use Rattle.hu_proof.specs.Opened.{prefixes_in}
-use Rattle.hu_proof.specs.Places.{places_of, Follows}
+use Rattle.hu_proof.specs.Places.{places_of, AllAscend, Follows}
 use Rattle.hu_proof.specs.Text.{pieces, said_of}
 use Rattle.hu_proof.specs.Waiting.{stack_of, nodes_of, nodes_now, entry_at, Stands, IsNode, Fits, PushesChildren}
 use Rattle.hu_proof.specs.Words.{numbers_of}
@@ -51,7 +51,8 @@ visit-requires-clause-room c =
     let stands = subst (Stands records c.args.order.now (numbers_of c.lines.path.items) (stack_of c.lines.waiting.items)) c.in-Some.is
     c.lines.invariant.stands in
     let fits : sum_by absolute_of records < 2 ^ 127 = omega (arith, c.sum-sum.ensures.fits) in
-    room-node records c.args.order.now (numbers_of c.lines.path.items) c.in-Some.node.from _ stands.0 fits
+    room-node records c.args.order.now (numbers_of c.lines.path.items) c.in-Some.node.from _ stands.0
+    (subst AllAscend c.records.ensures c.in_ok-root.ensures.rises) fits
 
 pub returns-in_err-visit-clause-fault : goal.returns-in_err-visit-clause-fault
 returns-in_err-visit-clause-fault c =
