@@ -174,16 +174,20 @@ fn visit<'a>(
     Ok(())
 }
 
-/// Offers the entry of the path.
+/// Offers the entry of the path, where it reaches the floor. No key is built for another, which would change nothing.
 fn offer(alloc: Global, path: &[Item], node: &Opened<'_>, found: &mut All) -> Result<(), NoMemory>
     requires { (later : List ℕ) × HasRoom later (places_of node.now.places.items) }
     ensures { Takes (⟦<All as Collect>⟧.state found.old) (entry_at (numbers_of path.now)
         (places_of node.now.places.items) ∷ [])
         (⟦<All as Collect>⟧.state found.new) result }
 {
+    let utility = earned(&node.places);
+    if utility < found.floor() {
+        return Ok(());
+    }
     found.offer(Entry {
         key: key_of(alloc, path)?,
-        utility: earned(&node.places),
+        utility,
         support: node.places.len() as u64,
     })
 }
