@@ -1,11 +1,12 @@
 -- The cells of a record, by their places.
-use Rattle.std.proofs.Common.{◌≡◌, ℕ, zero, suc, ◌<◌, ◌≤◌, true, false, eqb, Some, None, List, [], ◌∷◌, length, get_or, refl, sym, ap, ◌∙◌, inl, inr, arith}
+use Rattle.std.proofs.Common.{◌≡◌, ℕ, zero, suc, ◌<◌, ◌≤◌, true, false, eqb, ℤ, unsigned_abs, Some, None, List, [], ◌∷◌, length, get_or, refl, sym, ap, ◌∙◌, inl, inr, arith}
 use Rattle.std.specs.List.{AllByRecursion}
 use Rattle.std.specs.List.Sorted.{IsPartitionPoint, IsNonDecreasingBy}
 use Rattle.std.proofs.lemmas.Bool.{eq-eqb, ne_eqb, cases_lt, cases_order}
+use Rattle.std.proofs.lemmas.List.Sums.{sum_by-cons}
 use Rattle.hu_kind.specs.declared.item.Cell.{Cell}
-use Rattle.hu_kind.specs.Cell.{pairs_of}
-use Rattle.hu_kind.specs.Record.{items_in}
+use Rattle.hu_kind.specs.Cell.{pairs_of, pair_of}
+use Rattle.hu_kind.specs.Record.{items_in, absolute_of}
 use Rattle.hu_kind.specs.Order.{Ascend}
 use Rattle.hu_proof.specs.Places.{value_in}
 
@@ -66,3 +67,10 @@ value_in-past item cells place up split other = value_in-absent item cells absen
           let rise = rises cells place k d up after within in
           omega arith
     ]
+
+-- a value is within the record's absolute sum
+pub value-within : (cells : List Cell) (i : ℕ) (d : Cell) → i < length cells → unsigned_abs (get_or cells i d).value ≤ absolute_of (pairs_of cells)
+value-within [] i d within = absurd (omega arith)
+value-within (cell ∷ cells) zero d within = omega (arith, sum_by-cons (λ (c : ℕ × ℤ). unsigned_abs c.1) (pair_of cell) (pairs_of cells))
+value-within (cell ∷ cells) (suc i) d within =
+    omega (arith, sum_by-cons (λ (c : ℕ × ℤ). unsigned_abs c.1) (pair_of cell) (pairs_of cells), value-within cells i d (omega arith))

@@ -8,6 +8,8 @@ mod OrderLemmas
 mod Ranks
 mod CellLemmas
 mod PlaceLemmas
+mod SlotLemmas
+mod NamedLemmas
 mod Lowest
 mod LineLemmas
 mod WalkLemmas

@@ -11,7 +11,7 @@ use Rattle.hu_kind.proofs.lemmas.Earned.{positive_part-upper, positive_part-with
 use Rattle.hu_kind.proofs.lemmas.Members.{Member}
 use Rattle.hu_proof.specs.declared.place.Place.{Place}
 use Rattle.hu_proof.specs.Bounds.{is_among, after, later_gain}
-use Rattle.hu_proof.specs.Places.{PlaceOf, place_of, places_of, value_in, narrowed, share, later_size, Apart, IsRoomy, HasRoom, Rises, Stands}
+use Rattle.hu_proof.specs.Places.{PlaceOf, place_of, places_of, value_in, narrowed, later_size, Apart, IsRoomy, HasRoom, Rises, Stands}
 use Rattle.hu_proof.proofs.Orders.{among-member, member-among, not_among, Member-after, not_after_itself}
 
 -- ---- sums of the absolute values of later items
@@ -109,7 +109,7 @@ size-monotone true b n w = let here : b ≡ true = w refl in rw here (omega arit
 size-monotone false true n w = omega arith
 size-monotone false false n w = omega arith
 
-later_size-monotone : (xs ys : List ℕ) (cells : List (ℕ × ℤ)) → ((x : ℕ) → Member x xs → Member x ys) → later_size xs cells ≤ later_size ys cells
+pub later_size-monotone : (xs ys : List ℕ) (cells : List (ℕ × ℤ)) → ((x : ℕ) → Member x xs → Member x ys) → later_size xs cells ≤ later_size ys cells
 later_size-monotone xs ys [] w = omega arith
 later_size-monotone xs ys (cell ∷ cells) w =
     let ih = later_size-monotone xs ys cells w in
@@ -158,7 +158,3 @@ room-share x order later place room stands =
     (later_size-after x order place.0 stands.apart stands.member) in
     let gain = later_gain-size later place.0 in
     omega (arith, sizes, gain.1, room)
-
-pub share-held : (x : ℕ) (later : List ℕ) (place : PlaceOf) (value : ℤ) → Some value ≡ value_in x place.0
-    → share x later place ≡ positive_part ((place.1 +ℤ value) +ℤ later_gain later place.0)
-share-held x later place value e = let h = value_in-some x place.0 value e in rw (h.0, h.1) refl

@@ -7,4 +7,5 @@ pub mod Worked
 pub mod Words
 pub mod Places
 pub mod Judged
+pub mod Slots
 pub mod Waiting

@@ -24,9 +24,11 @@ const MOST_BYTES: usize = 268_435_456;
 /// The answer of the task `items` over a base from a minimum on, where a text is an accepted certificate of it; else the
 /// first fault of the text. Whoever made the text, an accepted one leaves nothing out: see [`crate::laws`].
 ///
-/// Each line takes a pass over the cells of the records that hold its prefix, and for each of its tokens one more, with a
-/// look-up by a hash for each cell. The memory is that of the order, of one line's tokens, and for each prefix that waits of
-/// the places of the records that hold it.
+/// Each line takes two passes over the cells of the records that hold its prefix, however many tokens it has: one with up to
+/// two look-ups by a hash for each cell and, where a token has a bound, one with a look-up for each cell and a sort of the
+/// cells of each record. Each prefix that is opened takes a search by halves in each record that holds the one before. The
+/// memory is that of the order, of one line's tokens and bounds, and for each prefix that waits of the places of the records
+/// that hold it.
 pub fn check(
     alloc: Global,
     base: &Base<Record>,

@@ -1,20 +1,21 @@
 //! What a line says of the children of its prefix.
 
 ghost use Rattle.std.specs.Prelude.{◌≡◌, ◌≢◌, ◌<◌, ◌≤◌, ◌||◌, ℕ, Bool, true, false, is_some, drop, length, map, option_map, slice_index, IfOk, IfSome, IfNone};
-ghost use Rattle.std.specs.List.{AllByRecursion};
+ghost use Rattle.std.specs.List.{list_any};
 ghost use Rattle.hu_kind.specs.Cell.{pairs_of};
 ghost use Rattle.hu_kind.specs.First.{first_some};
 ghost use Rattle.hu_kind.specs.Record.{has};
-ghost use Rattle.hu_proof.specs.Bounds.{after, is_among};
-ghost use Rattle.hu_proof.specs.Check.{not_cut, wrong_child};
+ghost use Rattle.hu_proof.specs.Bounds.{is_among};
+ghost use Rattle.hu_proof.specs.Check.{not_cut, wrong_bound_of, wrong_child};
 ghost use Rattle.hu_proof.specs.Judged.{bound_faults, missing, token_items, IsLower, IsLowest, Judges};
-ghost use Rattle.hu_proof.specs.Places.{places_of, shares, Apart, Follows, HasRoom, IsOneOf};
+ghost use Rattle.hu_proof.specs.Places.{places_of, Apart, Follows, HasRoom};
 ghost use Rattle.hu_proof.specs.Text.{each, token_of, words};
 ghost use Rattle.hu_proof.specs.Words.{told};
 
 use crate::fault::CheckFault;
 use crate::order::Order;
-use crate::place::{Place, later_rank, shares};
+use crate::place::{Place, later_rank};
+use crate::slots::bounds;
 use crate::token::{Token, token_of};
 use crate::words::{begin, next_word};
 use hu_kind::{Cell, Item, NoMemory};
@@ -121,48 +122,48 @@ fn lower(order: &Order, from: usize, named: &Order, low: usize, item: Item) -> O
     }
 }
 
-/// Whether each stated bound is the sum of the shares.
+/// Whether each stated bound is the sum of the shares, where the named items are those of the tokens.
 pub(crate) fn check_bounds(
-    order: &Order,
-    from: usize,
+    alloc: Global,
+    named: &Order,
     places: &[Place<'_>],
     tokens: &[Token],
     line: u64,
 ) -> Result<(), CheckFault>
-    requires apart { Apart order.now }
-    requires room { HasRoom (drop from order.now) (places_of places.now) }
-    requires later { AllByRecursion
-        (λ token. IsOneOf token.item.0 (drop from order.now)) tokens.now }
-    ensures { Judges result (bound_faults line (drop from order.now)
-        (places_of places.now) tokens.now) }
+    requires apart { Apart named.now }
+    requires items { named.now ≡ token_items tokens.now }
+    requires room { HasRoom named.now (places_of places.now) }
+    ensures { Judges result (bound_faults line named.now (places_of places.now) tokens.now) }
 {
-    for token in tokens {
-        let Some(stated) = token.bound else {
-            continue;
-        };
-        let summed = bound_of(order, from, places, token.item);
-        if stated != summed {
-            return Err(CheckFault::WrongBound {
-                line,
-                item: token.item,
-                stated,
-                summed,
-            });
-        }
+    if !have_bound(tokens) {
+        return Ok(());
+    }
+    let sums = bounds(alloc, named, places)?;
+    for slot in 0..tokens.len() {
+        check_bound(&tokens[slot], sums[slot], line)?;
     }
     Ok(())
 }
 
-/// The bound of a prefix with an item more.
-fn bound_of(order: &Order, from: usize, places: &[Place<'_>], item: Item) -> i128
-    requires apart { Apart order.now }
-    requires room { HasRoom (drop from order.now) (places_of places.now) }
-    requires later { IsOneOf item.0 (drop from order.now) }
-    ensures { result ≡ shares item.0 (after item.0 (drop from order.now)) (places_of places.now) }
+/// Whether some token states a bound.
+fn have_bound(tokens: &[Token]) -> bool
+    ensures { result ≡ list_any (λ token. is_some token.bound) tokens.now }
 {
-    match later_rank(order, from, item) {
-        Some(rank) => shares(order, rank + 1, places, item),
-        None => unreachable!(),
+    tokens.iter().any(|token| token.bound.is_some())
+}
+
+/// Whether a stated bound is the sum.
+fn check_bound(token: &Token, summed: i128, line: u64) -> Result<(), CheckFault>
+    ensures { Judges result (wrong_bound_of line token.now.item token.now.bound summed) }
+{
+    match token.bound {
+        Some(stated) if stated != summed => Err(CheckFault::WrongBound {
+            line,
+            item: token.item,
+            stated,
+            summed,
+        }),
+        _ => Ok(()),
     }
 }
 

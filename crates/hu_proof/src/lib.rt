@@ -12,6 +12,7 @@ mod line;
 mod order;
 mod place;
 mod said;
+mod slots;
 mod token;
 mod walk;
 mod words;

@@ -13,7 +13,7 @@ use crate::order::Order;
 use crate::place::{Place, earned};
 use crate::said::{is_prefix, line_of};
 use crate::token::Token;
-use hu_kind::Item;
+use hu_kind::{Item, NoMemory};
 use std::alloc::Global;
 
 /// A prefix whose line comes next: how many items of the order stand before those that may follow it, and its places.
@@ -79,27 +79,32 @@ fn check_children(
     ensures { Judges result (children_fault_at least line (drop node.now.from order.now)
         (places_of node.now.places.items) tokens.now) }
 {
-    check_missing(alloc, order, node, tokens, line)?;
-    check_bounds(order, node.from, &node.places, tokens, line)?;
+    let named = named_items(alloc, tokens)?;
+    check_missing(order, node, &named, line)?;
+    check_bounds(alloc, &named, &node.places, tokens, line)?;
     check_cuts(tokens, least, line)
 }
 
-/// Whether each later item that stands with the prefix in some record is the item of a token.
+/// The items of tokens, none of which stands twice, in their order.
+fn named_items(alloc: Global, tokens: &[Token]) -> Result<Order, NoMemory>
+    requires { Apart (token_items tokens.now) }
+    ensures { IfOk result (λ named. named ≡ token_items tokens.now) }
+{
+    Order::of(alloc, &items_of(alloc, tokens)?)
+}
+
+/// Whether each later item that stands with the prefix in some record is named.
 fn check_missing(
-    alloc: Global,
     order: &Order,
     node: &Opened<'_>,
-    tokens: &[Token],
+    named: &Order,
     line: u64,
 ) -> Result<(), CheckFault>
-    requires apart { Apart order.now }
-    requires once { Apart (token_items tokens.now) }
-    ensures { Judges result (missing_fault line (drop node.now.from order.now)
-        (token_items tokens.now)
+    requires { Apart order.now }
+    ensures { Judges result (missing_fault line (drop node.now.from order.now) named.now
         (places_of node.now.places.items)) }
 {
-    let named = Order::of(alloc, &items_of(alloc, tokens)?)?;
-    match missing(order, node.from, &named, &node.places) {
+    match missing(order, node.from, named, &node.places) {
         Some(item) => Err(CheckFault::LeftOut { line, item }),
         None => Ok(()),
     }

@@ -1,12 +1,12 @@
 //! The records that hold a prefix, and the sums over them.
 
-ghost use Rattle.std.specs.Prelude.{◌≡◌, ◌+◌, ◌<◌, ◌≤◌, ◌^◌, pos, nat_eq, None, Some, drop, if◌then◌else◌, length, map, unsigned_abs, position, true, false, [], ◌∷◌, option_map, option_to_list, List, ℕ, IfOk, IfSome, IfNone};
+ghost use Rattle.std.specs.Prelude.{◌≡◌, ◌+◌, ◌<◌, ◌≤◌, ◌^◌, pos, None, Some, drop, length, map, unsigned_abs, true, false, [], ◌∷◌, option_map, option_to_list, List, ℕ, IfOk, IfSome, IfNone};
 ghost use Rattle.std.specs.List.Sorted.{IsPartitionPoint};
 ghost use Rattle.hu_kind.specs.Cell.{pairs_of};
 ghost use Rattle.hu_kind.specs.Order.{Ascend};
-ghost use Rattle.hu_kind.specs.Record.{absolute_of, items_in, positive_part, value_of};
-ghost use Rattle.hu_proof.specs.Bounds.{after, is_among, later_gain};
-ghost use Rattle.hu_proof.specs.Places.{earned, narrowed, place_of, places_of, share, shares, value_in, AllAscend, Apart, HasRoom, IsOneOf, IsRoomy, Rises, Stands};
+ghost use Rattle.hu_kind.specs.Record.{items_in, value_of};
+ghost use Rattle.hu_proof.specs.Bounds.{after, is_among};
+ghost use Rattle.hu_proof.specs.Places.{earned, narrowed, place_of, places_of, value_in, AllAscend, Apart, HasRoom, IsOneOf, Rises};
 
 use crate::order::Order;
 use hu_kind::{Cell, Item, NoMemory, Record};
@@ -118,69 +118,4 @@ pub(crate) fn later_rank(order: &Order, from: usize, item: Item) -> Option<usize
     let _count = order.len();
     let rank = order.rank_of(item)?;
     if rank < from { None } else { Some(rank) }
-}
-
-/// The sum of a record's values above 0 of those items before which at least so many of the order stand.
-fn later_gain(order: &Order, from: usize, cells: &[Cell]) -> i128
-    requires apart { Apart order.now }
-    requires fits { absolute_of (pairs_of cells.now) < 2 ^ 127 }
-    ensures { result ≡ later_gain (drop from order.now) (pairs_of cells.now) }
-{
-    let mut sum = 0;
-    for cell in cells {
-        sum += gain_of(order, from, cell);
-    }
-    sum
-}
-
-/// A cell's value where that is above 0 and at least so many items of the order stand before its own, else 0.
-fn gain_of(order: &Order, from: usize, cell: &Cell) -> i128
-    requires { Apart order.now }
-    ensures value { result ≡ (if is_among cell.now.item.0
-        (drop from order.now) then positive_part cell.now.value else pos 0) }
-    ensures within { unsigned_abs result ≤ unsigned_abs cell.now.value }
-{
-    if later_rank(order, from, cell.item).is_some() {
-        positive_part(cell.value)
-    } else {
-        0
-    }
-}
-
-/// The most that a prefix may earn in a record with an item and with those before which at least so many stand.
-fn share(order: &Order, from: usize, place: &Place<'_>, item: Item) -> i128
-    requires apart { Apart order.now }
-    requires ascending { Rises (place_of place.now) }
-    requires room { (later : List ℕ) × IsRoomy later (place_of place.now)
-        × Stands later item.0 (drop from order.now) }
-    requires fits { absolute_of (pairs_of place.now.cells.now) < 2 ^ 127 }
-    ensures value { result ≡ share item.0 (drop from order.now) (place_of place.now) }
-    ensures within { unsigned_abs result ≤ absolute_of (pairs_of place.now.cells.now) }
-{
-    match value_at(place.cells, item) {
-        Some(value) => positive_part(place.own + value + later_gain(order, from, place.cells)),
-        None => 0,
-    }
-}
-
-/// A sum where it is above 0, else 0.
-fn positive_part(sum: i128) -> i128
-    ensures value { result ≡ positive_part sum }
-    ensures within { unsigned_abs result ≤ unsigned_abs sum }
-{
-    if sum > 0 { sum } else { 0 }
-}
-
-/// The most that a prefix may earn with an item and with those before which at least so many stand.
-pub(crate) fn shares(order: &Order, from: usize, places: &[Place<'_>], item: Item) -> i128
-    requires apart { Apart order.now }
-    requires room { (later : List ℕ) × HasRoom later (places_of places.now)
-        × Stands later item.0 (drop from order.now) }
-    ensures { result ≡ shares item.0 (drop from order.now) (places_of places.now) }
-{
-    let mut sum = 0;
-    for place in places {
-        sum += share(order, from, place, item);
-    }
-    sum
 }

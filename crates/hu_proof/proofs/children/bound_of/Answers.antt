@@ -1,6 +1,0 @@
-use Rattle.std.proofs.lemmas.Bool.{both_ways}
-use Rattle.hu_proof.proofs.Orders.{member-among}
-use Rattle.hu_proof.proofs.children.bound_of.Goals as goal
-
-pub unreachable-requires : goal.unreachable-requires
-unreachable-requires c = both_ways _ c.in-None.ensures.none (member-among c.args.item.0 _ c.requires.later)
