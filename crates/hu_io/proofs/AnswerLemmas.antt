@@ -1,6 +1,7 @@
 -- Calls that answer as the system did.
 use Rattle.std.proofs.Common.{ℕ, ◌<◌, ◌≤◌, List, length, Result, Ok, Err, arith, refl, subst, sym, ap}
 use Rattle.std.specs.Prelude.{IfOk}
+use Rattle.hu_io.specs.Count.{Counts}
 use Rattle.hu_io.specs.State.{Puts, Gets}
 use Rattle.hu_io.specs.Edge.{Answers, system_files, system_sink}
 
@@ -23,3 +24,10 @@ Gets-answered (Ok n) result old new name at into answered =
 Gets-answered (Err _) (Ok n) old new name at into answered = absurd (cc)
 Gets-answered (Err _) (Err _) old new name at into answered =
     record { rose = omega (arith, answered.1); later = λ _. answered.2; contents = refl; plan = refl }
+
+-- its count
+pub Counts-answered : {E F : Type 0} (given : Result ℕ E) (result : Result ℕ F) (old new : ℕ) → Answers given result old new → Counts result old new
+Counts-answered (Ok n) (Ok m) old new answered = answered.1
+Counts-answered (Ok n) (Err f) old new answered = absurd (cc)
+Counts-answered (Err e) (Ok m) old new answered = cc
+Counts-answered (Err e) (Err f) old new answered = (answered.1, answered.2)

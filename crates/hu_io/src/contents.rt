@@ -11,7 +11,7 @@ use std::marker::Model;
 
 /// The bytes of each name that was added.
 #[derive(Drop)]
-pub struct Contents {
+pub(crate) struct Contents {
     alloc: Global,
     by_name: BTreeMap<String, Vec<u8>>,
 }
@@ -27,7 +27,7 @@ impl Model for Contents {
 
 impl Contents {
     /// No name.
-    pub fn new(alloc: Global) -> Contents
+    pub(crate) fn new(alloc: Global) -> Contents
         ensures { result ≡ [] }
     {
         Contents {
@@ -37,7 +37,7 @@ impl Contents {
     }
 
     /// Gives `name` these bytes, in place of those that it had.
-    pub fn add(&mut self, name: &str, bytes: &[u8]) -> Result<(), NoMemory>
+    pub(crate) fn add(&mut self, name: &str, bytes: &[u8]) -> Result<(), NoMemory>
         ensures ok { OnOk result (Adds self.old self.new name.now bytes.now) }
         ensures err { OnErr result (self.new ≡ self.old) }
     {
@@ -48,7 +48,7 @@ impl Contents {
     }
 
     /// The bytes of `name`, if it is there.
-    pub fn content(&self, name: &str) -> Option<&[u8]>
+    pub(crate) fn content(&self, name: &str) -> Option<&[u8]>
         ensures { option_copied result ≡ content_in self.now name.now }
     {
         match self.by_name.get(name) {
@@ -60,7 +60,7 @@ impl Contents {
 
 /// Copies what the content has from the place `at` on to the front of `into`, and returns how many bytes: as many as
 /// there are and fit, but at most `most`.
-pub fn copy_from(content: &[u8], at: u64, most: usize, into: &mut [u8]) -> usize
+pub(crate) fn copy_from(content: &[u8], at: u64, most: usize, into: &mut [u8]) -> usize
     ensures count { result ≡ min (min most (length into.new)) (length content.now - at) }
     ensures bytes { take result into.new ≡ take result (drop at content.now) }
 {

@@ -2,7 +2,9 @@
 
 ghost use Rattle.std.specs.Prelude.{◌≡◌, ℕ};
 ghost use Rattle.std.specs.Io.{ReadsAtMost};
+ghost use Rattle.hu_io.specs.Count.{Counts};
 ghost use Rattle.hu_io.specs.Edge.{system_files};
+ghost use Rattle.hu_io.specs.State.{Gets};
 
 use crate::failed::{Failed, answer};
 use crate::files::Files;
@@ -111,7 +113,12 @@ impl<R: rt::Files, I: Read> DiskFiles<R, I> {
 impl<R: rt::Files, I: Read> Files for DiskFiles<R, I> {
     ghost state = { system_files };
 
-    fn get(&mut self, name: &str, at: u64, into: &mut [u8]) -> Result<usize, Failed> {
+    fn get(&mut self, name: &str, at: u64, into: &mut [u8]) -> Result<usize, Failed>
+        ensures bound { ReadsAtMost result into.new }
+        ensures gets { Gets (system_files self.old) (system_files self.new)
+            name.now at into.new result }
+        ensures counts { Counts result self.old self.new }
+    {
         let read = self.read(name, at, into);
         answer(read, &mut self.faults)
     }

@@ -9,7 +9,7 @@ use std::marker::Model;
 
 /// The numbers of the calls that are to fail, and how many calls there were. Calls count from 1.
 #[derive(Drop)]
-pub struct Plan {
+pub(crate) struct Plan {
     failing: Vec<u64>,
     calls: u64,
 }
@@ -24,7 +24,7 @@ impl Model for Plan {
 
 impl Plan {
     /// No call is to fail.
-    pub fn new(alloc: Global) -> Plan
+    pub(crate) fn new(alloc: Global) -> Plan
         ensures { result ≡ no_plan }
     {
         Plan {
@@ -34,7 +34,7 @@ impl Plan {
     }
 
     /// Lists a call as one that is to fail.
-    pub fn fail_at(&mut self, call: u64) -> Result<(), NoMemory>
+    pub(crate) fn fail_at(&mut self, call: u64) -> Result<(), NoMemory>
         ensures ok { OnOk result (self.new ≡ listing call self.old) }
         ensures err { OnErr result (self.new ≡ self.old) }
     {
@@ -43,7 +43,7 @@ impl Plan {
     }
 
     /// Counts a call, and returns whether it is to fail.
-    pub fn next_fails(&mut self) -> bool
+    pub(crate) fn next_fails(&mut self) -> bool
         ensures fails { result ≡ next_fails self.old }
         ensures after { self.new ≡ after_call self.old }
     {

@@ -2,7 +2,9 @@
 
 ghost use Rattle.std.specs.Prelude.{◌≡◌, ℕ, ◌<◌, ◌≤◌, length, take, IfOk};
 ghost use Rattle.std.specs.Io.KnownBytes.{Appends};
+ghost use Rattle.hu_io.specs.Count.{Counts};
 ghost use Rattle.hu_io.specs.Edge.{system_sink};
+ghost use Rattle.hu_io.specs.State.{Puts};
 
 use crate::failed::{Failed, answer};
 use crate::sink::Sink;
@@ -58,7 +60,10 @@ fn write_on<W: Write>(to: &mut W, piece: &[u8]) -> io::Result<usize>
 impl<W: Write> Sink for StreamSink<W> {
     ghost state = { system_sink };
 
-    fn put(&mut self, piece: &[u8]) -> Result<usize, Failed> {
+    fn put(&mut self, piece: &[u8]) -> Result<usize, Failed>
+        ensures puts { Puts (system_sink self.old) (system_sink self.new) piece.now result }
+        ensures counts { Counts result self.old self.new }
+    {
         answer(write_on(&mut self.to, piece), &mut self.faults)
     }
 }

@@ -17,7 +17,8 @@ use Rattle.std.specs.String.{string_bytes, string_cmp}
 use Rattle.std.proofs.lemmas.Map.Text.{btree_map_updates_text, is_eq-slice_cmp}
 use Rattle.hu_shelf.specs.declared.keeper.KeepFault.{KeepFault}
 use Rattle.hu_shelf.specs.declared.keeper.KeepFault.TheVariants.{Failed, NoMemory}
-use Rattle.hu_shelf.specs.DiskKeeper.{Counts, system_keeper}
+use Rattle.hu_io.specs.Count.{Counts}
+use Rattle.hu_shelf.specs.DiskKeeper.{system_keeper}
 use Rattle.hu_io.specs.Count.{one_more}
 use Rattle.hu_io.specs.Plan.{after_call, next_fails}
 use Rattle.hu_shelf.specs.MemoryKeeper.{KeeperView, after_load, keeper_faults, keeper_state}

@@ -2,7 +2,9 @@
 
 ghost use Rattle.std.specs.Prelude.{◌≡◌, ℕ, length, OnOk, OnErr, IfOk};
 ghost use Rattle.std.specs.Io.{ReadsAtMost};
-ghost use Rattle.hu_shelf.specs.DiskKeeper.{Counts, system_keeper};
+ghost use Rattle.hu_io.specs.Count.{Counts};
+ghost use Rattle.hu_shelf.specs.DiskKeeper.{system_keeper};
+ghost use Rattle.hu_shelf.specs.Keeper.{Loads, Replaces};
 
 use crate::keeper::{KeepFault, Keeper};
 use hu_io::Failed;
@@ -14,7 +16,8 @@ use std::{fs, io, rt};
 
 /// Files of the system, by their paths. A text is written to a file beside it whose name ends in `.new`, brought to the
 /// disk, and then given its name, so that the name has the old text or the new one whatever happens. Every error counts
-/// as a fault, also want of memory for a name. A file that isn't there is an empty text.
+/// as a fault, also want of memory for a name. A file that isn't there is an empty text, and
+/// what isn't a file, as a device or a pipe, can't be read.
 #[derive(Drop)]
 pub struct DiskKeeper<R: rt::Files> {
     alloc: Global,
@@ -47,7 +50,7 @@ impl<R: rt::Files> DiskKeeper<R> {
         self.faults
     }
 
-    /// Reads a file from the place. One that isn't there has no byte.
+    /// Reads a file from the place. One that isn't there has no byte; what isn't a file, as a device, is an error.
     fn read(&self, name: &str, at: u64, into: &mut [u8]) -> io::Result<usize>
         ensures { ReadsAtMost result into.new }
     {
@@ -56,6 +59,9 @@ impl<R: rt::Files> DiskKeeper<R> {
             Err(error) if error.kind() == ErrorKind::NotFound => return Ok(0),
             Err(error) => return Err(error),
         };
+        if !file.metadata()?.is_file() {
+            return Err(io::Error::from(ErrorKind::InvalidInput));
+        }
         if at > 0 {
             file.seek(SeekFrom::Start(at))?;
         }
@@ -115,12 +121,21 @@ fn counted<T, E>(answer: Result<T, E>, faults: &mut u64) -> Result<T, E>
 impl<R: rt::Files> Keeper for DiskKeeper<R> {
     ghost state = { system_keeper };
 
-    fn load(&mut self, name: &str, at: u64, into: &mut [u8]) -> Result<usize, Failed> {
+    fn load(&mut self, name: &str, at: u64, into: &mut [u8]) -> Result<usize, Failed>
+        ensures bound { ReadsAtMost result into.new }
+        ensures loads { Loads (system_keeper self.old) (system_keeper self.new)
+            name.now at into.new result }
+        ensures counts { Counts result self.old self.new }
+    {
         let read = self.read(name, at, into).map_err(|_| Failed);
         counted(read, &mut self.faults)
     }
 
-    fn replace(&mut self, name: &str, text: &[u8]) -> Result<(), KeepFault> {
+    fn replace(&mut self, name: &str, text: &[u8]) -> Result<(), KeepFault>
+        ensures replaces { Replaces (system_keeper self.old) (system_keeper self.new)
+            name.now text.now result }
+        ensures counts { Counts result self.old self.new }
+    {
         let stored = self.store(name, text);
         counted(stored, &mut self.faults)
     }
