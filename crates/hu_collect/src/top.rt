@@ -61,9 +61,12 @@ impl Top {
 }
 
 impl Collect for Top {
+    ghost use Rattle.std.specs.Prelude.{false};
     ghost use Rattle.hu_collect.specs.Limited.{top_state};
 
     ghost state = { top_state };
+
+    ghost shuts = { λ _ _ _. false };
 
     /// Takes constant time.
     fn floor(&self) -> i128 {

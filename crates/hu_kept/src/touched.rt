@@ -1,6 +1,6 @@
 //! The collector of the patterns that a batch touches.
 
-ghost use Rattle.std.specs.Prelude.{◌≡◌, ◌⊎◌, ◌∷◌, [], true, false};
+ghost use Rattle.std.specs.Prelude.{◌≡◌, ◌⊎◌, ◌∷◌, [], true, false, not, ◌||◌, ◌==◌};
 ghost use Rattle.hu_collect.specs.Ranks.{CanOpen, IsShut};
 ghost use Rattle.hu_collect.specs.State.{offered};
 ghost use Rattle.hu_closed.specs.Keys.{key_support};
@@ -54,9 +54,13 @@ impl<'a, C: Collect> Touched<'a, C> {
 }
 
 impl<'a, C: Collect> Collect for Touched<'a, C> {
+    ghost use Rattle.std.specs.Prelude.{◌||◌, ◌==◌};
+    ghost use Rattle.hu_closed.specs.Keys.{key_support};
     ghost use Rattle.hu_kept.specs.Touched.{batch_in, inner_of, touched_state};
 
     ghost state = { λ t. touched_state (C.state (inner_of t)) (batch_in t) };
+
+    ghost shuts = { λ t key last. C.shuts (inner_of t) key last || key_support (batch_in t) key == 0 };
 
     /// The inner collector's floor.
     fn floor(&self) -> i128 {
@@ -66,7 +70,8 @@ impl<'a, C: Collect> Collect for Touched<'a, C> {
     /// False where no record of the batch holds the key, or where the inner collector doesn't open it.
     fn opens(&self, key: &Key, last: u32) -> bool
         requires { CanOpen (C.state (inner_of self.now)).rule.table key.now last }
-        ensures shut { key_support (batch_in self.now) key.now ≡ 0 → result ≡ false }
+        ensures exact { result ≡ not (C.shuts (inner_of self.now) key.now last
+            || key_support (batch_in self.now) key.now == 0) }
         ensures cause { result ≡ false → (key_support (batch_in self.now) key.now ≡ 0)
             ⊎ IsShut (C.state (inner_of self.now)).rule key.now last }
         ensures grown { result ≡ false → IsShut (⟦<Touched<'a, C> as Collect>⟧.state self.now).rule key.now last }

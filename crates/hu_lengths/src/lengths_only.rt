@@ -1,6 +1,6 @@
 //! The collector of keys of some lengths.
 
-ghost use Rattle.std.specs.Prelude.{◌≡◌, ◌≤◌, ◌<◌, ◌⊎◌, length, true, false};
+ghost use Rattle.std.specs.Prelude.{◌≡◌, ◌≤◌, ◌<◌, ◌⊎◌, length, true, false, not, ◌||◌, nat_lt};
 ghost use Rattle.hu_collect.specs.Ranks.{CanOpen, IsShut};
 ghost use Rattle.hu_lengths.specs.Lengths.{has_length};
 ghost use Rattle.hu_lengths.specs.LengthsOnly.{sized_state, sized_in, inner_of, short_of, long_of, Leaves, MakesSized};
@@ -10,7 +10,7 @@ use hu_kind::{Entry, Key, NoMemory};
 use std::marker::Model;
 
 /// A collector around another one: it wants the keys of some lengths that the inner one wants. All else is the inner one's. It
-/// is seen as the inner one, the least and the greatest length. After FHM+ (Fournier-Viger, Lin, Duong and Dam, 2016).
+/// is seen as the inner one, the least and the greatest length.
 #[derive(Drop)]
 pub struct LengthsOnly<C: Collect> {
     inner: C,
@@ -86,9 +86,12 @@ impl<C: Collect> LengthsOnly<C> {
 }
 
 impl<C: Collect> Collect for LengthsOnly<C> {
-    ghost use Rattle.hu_lengths.specs.LengthsOnly.{sized_in};
+    ghost use Rattle.std.specs.Prelude.{◌||◌, length, nat_lt};
+    ghost use Rattle.hu_lengths.specs.LengthsOnly.{sized_in, inner_of, long_of};
 
     ghost state = { sized_in C.state };
+
+    ghost shuts = { λ c key last. C.shuts (inner_of c) key last || nat_lt (long_of c) (length key) };
 
     /// The inner collector's floor.
     fn floor(&self) -> i128 {
@@ -98,7 +101,8 @@ impl<C: Collect> Collect for LengthsOnly<C> {
     /// False where the key has more numbers than are wanted, or where the inner collector doesn't open it.
     fn opens(&self, key: &Key, last: u32) -> bool
         requires { CanOpen (C.state (inner_of self.now)).rule.table key.now last }
-        ensures shut { long_of self.now < length key.now → result ≡ false }
+        ensures exact { result ≡ not (C.shuts (inner_of self.now) key.now last
+            || nat_lt (long_of self.now) (length key.now)) }
         ensures cause { result ≡ false → (long_of self.now < length key.now)
             ⊎ IsShut (C.state (inner_of self.now)).rule key.now last }
         ensures grown { result ≡ false → IsShut (sized_in C.state self.now).rule key.now last }

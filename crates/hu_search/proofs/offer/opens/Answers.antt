@@ -9,4 +9,4 @@ opens-requires g c =
 pub returns : goal.returns
 returns g c shut =
     barren-shut c.args.ranked.now (g.C.Collect.state c.args.collect.now) c.args.ranks.now c.args.rank c.in_ok-key.key c.requires.rules c.requires.rests
-    c.in_ok-key.ensures (c.opens.ensures shut)
+    c.in_ok-key.ensures (c.opens.ensures.law shut)

@@ -18,5 +18,5 @@ returns-else-opens-clause-grown g c shut =
     let inner = (g.C.Collect.state c.self.inside.inner).rule in
     let none =
     wants-inner inner c.self.inside.sets.now c.self.inside.ranked.now.items c.args.key.now c.args.last
-    c.self.invariant.rests (c.opens.ensures shut) in
+    c.self.invariant.rests (c.opens.ensures.law shut) in
     subst (λ v. IsShut (closed_state (g.C.Collect.state (inner_of v)) (records_in v) (table_of v)).rule c.args.key.now c.args.last) c.self.view_is none

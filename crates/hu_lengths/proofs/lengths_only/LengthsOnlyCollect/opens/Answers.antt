@@ -14,5 +14,5 @@ returns-else-numbers-self-clause-grown g c shut =
 pub returns-then-numbers-self-clause-grown : goal.returns-then-numbers-self-clause-grown
 returns-then-numbers-self-clause-grown g c shut =
     let inner = (g.C.Collect.state c.self.inside.inner).rule in
-    let none = shut-inner c.self.inside.short c.self.inside.long inner c.args.key.now c.args.last (c.opens.ensures shut) in
+    let none = shut-inner c.self.inside.short c.self.inside.long inner c.args.key.now c.args.last (c.opens.ensures.law shut) in
     subst (λ v. IsShut (sized_state (short_of v) (long_of v) (g.C.Collect.state (inner_of v))).rule c.args.key.now c.args.last) c.self.view_is none
