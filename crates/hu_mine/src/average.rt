@@ -33,7 +33,9 @@ pub fn average_entries(
     let base = joined(alloc, batches)?;
     match engine {
         Engine::Plain => hu_average::mine_plain(alloc, &base, least, top),
-        _ => ranked_average(alloc, base, least, top),
+        Engine::Lists | Engine::Project | Engine::Kept | Engine::Chain => {
+            ranked_average(alloc, base, least, top)
+        }
     }
 }
 

@@ -12,7 +12,7 @@ pub enum Engine {
     Plain,
     /// Utility lists.
     Lists,
-    /// Projected and merged rows.
+    /// Projected rows, of which those of the whole base are merged.
     Project,
     /// A kept answer to which batches are appended.
     Kept,
@@ -27,9 +27,12 @@ impl Engine {
     {
         match (task, self) {
             (Task::Items | Task::Closed, Engine::Chain) => false,
-            (Task::Items | Task::Closed, _) => true,
+            (
+                Task::Items | Task::Closed,
+                Engine::Plain | Engine::Lists | Engine::Project | Engine::Kept,
+            ) => true,
             (Task::Sequences, Engine::Plain | Engine::Chain) => true,
-            (Task::Sequences, _) => false,
+            (Task::Sequences, Engine::Lists | Engine::Project | Engine::Kept) => false,
         }
     }
 
@@ -39,7 +42,7 @@ impl Engine {
     {
         match self {
             Engine::Plain | Engine::Lists => true,
-            _ => false,
+            Engine::Project | Engine::Kept | Engine::Chain => false,
         }
     }
 }

@@ -44,7 +44,9 @@ pub fn item_entries(
     match engine {
         Engine::Kept => kept_entries(alloc, batches, least, top, false),
         Engine::Plain => plain_items(alloc, &joined(alloc, batches)?, least, top),
-        _ => ranked_items(alloc, joined(alloc, batches)?, engine, least, top),
+        Engine::Lists | Engine::Project | Engine::Chain => {
+            ranked_items(alloc, joined(alloc, batches)?, engine, least, top)
+        }
     }
 }
 
@@ -66,7 +68,9 @@ pub fn closed_entries(
 {
     match engine {
         Engine::Kept => kept_entries(alloc, batches, least, top, true),
-        _ => ranked_closed(alloc, joined(alloc, batches)?, engine, least, top),
+        Engine::Plain | Engine::Lists | Engine::Project | Engine::Chain => {
+            ranked_closed(alloc, joined(alloc, batches)?, engine, least, top)
+        }
     }
 }
 
@@ -90,7 +94,9 @@ pub fn sequence_entries(
     let mut collect = Limited::new(alloc, top, least);
     match engine {
         Engine::Plain => mine_sequences(alloc, &base, &mut collect)?,
-        _ => hu_span::mine(alloc, &base, &mut collect)?,
+        Engine::Lists | Engine::Project | Engine::Kept | Engine::Chain => {
+            hu_span::mine(alloc, &base, &mut collect)?
+        }
     }
     collect.into_entries()
 }

@@ -44,7 +44,7 @@ pub(crate) fn search<C: Collect>(
             drop(base);
             hu_project::mine(alloc, ranked, collect)
         }
-        _ => mine_items(alloc, &base, collect),
+        Engine::Plain | Engine::Kept | Engine::Chain => mine_items(alloc, &base, collect),
     }
 }
 
