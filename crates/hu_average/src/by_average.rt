@@ -34,7 +34,7 @@ impl ByAverage {
         ByAverage { entry }
     }
 
-    /// The entry.
+    /// The entry, lent.
     pub(crate) fn entry(&self) -> &Entry
         ensures value { result.now ≡ self.now }
         ensures some { 0 < length self.now.key }

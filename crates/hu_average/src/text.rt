@@ -27,6 +27,7 @@ pub fn write_averages<S: Sink>(entries: &[Entry], sink: &mut S) -> Result<(), Fa
     page.flush(sink)
 }
 
+/// Puts the line of an entry to a page.
 fn push_line<S: Sink>(entry: &Entry, page: &mut Page, sink: &mut S) -> Result<(), Failed>
     ensures { Passes (S.state sink.old) (S.state sink.new) result page.old page.new
         (average_line entry.now) }
@@ -36,6 +37,7 @@ fn push_line<S: Sink>(entry: &Entry, page: &mut Page, sink: &mut S) -> Result<()
     push_length(entry.key.numbers().len(), page, sink)
 }
 
+/// Puts the end of a line, with a length.
 fn push_length<S: Sink>(count: usize, page: &mut Page, sink: &mut S) -> Result<(), Failed>
     ensures { Passes (S.state sink.old) (S.state sink.new) result page.old page.new
         (length_text count) }

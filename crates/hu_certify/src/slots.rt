@@ -5,12 +5,12 @@ ghost use Rattle.std.specs.Prelude.{◌≡◌, ℕ, ◌<◌, ◌≤◌, ◌+◌,
 ghost use Rattle.std.specs.List.{AllByRecursion};
 ghost use Rattle.std.specs.Ordering.{nat_cmp};
 ghost use Rattle.hu_kind.specs.Order.{ranking, Ascend};
-ghost use Rattle.hu_kind.specs.Record.{items_in, positive_part};
+ghost use Rattle.hu_kind.specs.Record.{items_in};
 ghost use Rattle.hu_certify.specs.Slots.{no_slot, slot_of, slot_over, with_more, with_spot, AreEmpty, AreMet};
 ghost use Rattle.hu_certify.specs.Spots.{rank_pair, size_of, spot_of, spots_of, standing, AreAscending, AreRanks, HasRoom};
 
 use crate::place::Place;
-use hu_kind::NoMemory;
+use hu_kind::{NoMemory, positive_part};
 use std::alloc::Global;
 
 /// The rank of an item that stands with a prefix, with the most that the prefix may earn with it and with later items.
@@ -143,12 +143,4 @@ fn put_in_order(numbers: &mut Vec<u32>)
 {
     numbers.sort_unstable();
     numbers.dedup();
-}
-
-/// A value where it is above 0, else 0.
-fn positive_part(value: i128) -> i128
-    ensures value { result ≡ positive_part value }
-    ensures within { unsigned_abs result ≤ unsigned_abs value }
-{
-    if value > 0 { value } else { 0 }
 }

@@ -6,12 +6,12 @@ use hu_trans::Fault;
 use std::alloc::{AllocError, Global};
 use std::test::Fail;
 
-// Files in memory that note how they are read: the length that the last call was asked for, whether each call was asked
-// for as much, and how many calls there were and gave nothing.
+// Files in memory that note how they are read: how many calls weren't asked for 65,536 bytes, how many calls there were, and
+// how many gave nothing.
 #[derive(Drop)]
 struct Noting {
     files: MemoryFiles,
-    asked: usize,
+    others: u64,
     calls: u64,
     ends: u64,
 }
@@ -20,7 +20,7 @@ impl Noting {
     fn new(files: MemoryFiles) -> Noting {
         Noting {
             files,
-            asked: 65_536,
+            others: 0,
             calls: 0,
             ends: 0,
         }
@@ -31,7 +31,9 @@ impl Files for Noting {
     ghost state = { λ n. files_state n.files };
 
     fn get(&mut self, name: &str, at: u64, into: &mut [u8]) -> Result<usize, Failed> {
-        self.asked = self.asked.min(into.len());
+        if into.len() != 65_536 {
+            self.others = self.others.saturating_add(1);
+        }
         self.calls = self.calls.saturating_add(1);
         let given = self.files.get(name, at, into)?;
         if given == 0 {
@@ -69,7 +71,7 @@ fn a_base_for_each_file(rt: HostRuntime) -> Result<(), Fail> {
         sums.push((base.records().len(), base.carried(), base.sum()))?;
     }
     assert_eq!(rt; sums.as_slice(), [(2, 100, 112), (2, 112, 124)].as_slice());
-    assert_eq!(rt; (files.asked, files.calls, files.ends), (65_536, 14, 2));
+    assert_eq!(rt; (files.others, files.calls, files.ends), (0, 14, 2));
     Ok(())
 }
 

@@ -6,6 +6,7 @@ ghost use Rattle.std.specs.Hash as fed;
 ghost use lib.Pointwise.{pointwise};
 ghost use Rattle.std.proofs.Common.{rules};
 ghost use Rattle.std.specs.Cmp.Rules.{comparing, hashing};
+ghost use Rattle.hu_kind.specs.Sequence.{closed};
 
 use crate::memory::NoMemory;
 use smallvec::SmallVec;
@@ -45,6 +46,17 @@ impl Key {
     {
         self.numbers.push(n)?;
         Ok(())
+    }
+
+    /// Ends the last itemset of a sequence's key by -1, if there is one.
+    pub fn end_itemset(&mut self) -> Result<(), NoMemory>
+        ensures ok { OnOk result (self.new ≡ closed self.old) }
+        ensures err { OnErr result (self.new ≡ self.old) }
+    {
+        if self.numbers.is_empty() {
+            return Ok(());
+        }
+        self.push(-1)
     }
 
     /// Takes the last number.

@@ -1,4 +1,8 @@
 //! The types that every crate of hupm shares, and the definitions of the whole answer.
+//!
+//! A [`Record`] is a transaction and a [`SeqRecord`] a sequence; both keep their rules and their absolute sum. An [`Entry`] is a
+//! pattern of an answer: a [`Key`], its utility and its support, in the one order. [`read_number`] and [`read_signed`] read what
+//! numbers a text may say, and [`Tokens`] its tokens. What an answer is stands in `specs/Answer.antt`, over records as lists.
 #![tactic(auto)]
 
 mod cells;
@@ -15,6 +19,7 @@ mod task;
 #[cfg(test)]
 mod tests;
 mod token;
+mod value;
 
 pub use cells::ordered_cells;
 pub use entry::Entry;
@@ -27,3 +32,4 @@ pub use record::{Absolute, Record};
 pub use sequence::{Element, SeqRecord};
 pub use task::Task;
 pub use token::Tokens;
+pub use value::{Valued, gain_of, positive_part};

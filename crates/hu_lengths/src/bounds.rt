@@ -8,7 +8,7 @@ ghost use Rattle.hu_totals.specs.View.{dense_pair, pairs_in};
 ghost use Rattle.hu_list.specs.Nodes.{weight_of};
 ghost use Rattle.hu_lengths.specs.Bound.{values_after, put, falling, sum_of, most_at, most_of, IsNodeAt, IsList, IsSizedBound, BoundsSized};
 
-use hu_kind::NoMemory;
+use hu_kind::{NoMemory, positive_part};
 use hu_list::{Node, UtilityList};
 use hu_totals::{Dense, Ranked};
 use std::alloc::Global;
@@ -49,14 +49,7 @@ fn most_at(
     ensures { IfOk result (λ most. most ≡ most_at (map pairs_in records.now) last room node.now) }
 {
     let best = greatest(alloc, &records[node.place as usize], last, room)?;
-    Ok(positive(node.own + total(&best)))
-}
-
-/// A value where it is above 0, else 0.
-fn positive(value: i128) -> i128
-    ensures { result ≡ positive_part value }
-{
-    value.max(0)
+    Ok(positive_part(node.own + total(&best)))
 }
 
 /// The sum of values of which none is below 0.

@@ -1,13 +1,13 @@
 //! The lists of single ranks.
 
 ghost use Rattle.std.specs.Prelude.{◌≡◌, ◌+◌, ◌++◌, ◌<◌, ◌^◌, nat_eq, [], ◌∷◌, map, position, IfOk, option_to_list};
-ghost use Rattle.hu_kind.specs.Record.{gain, positive_part, absolute_of};
+ghost use Rattle.hu_kind.specs.Record.{absolute_of};
 ghost use Rattle.hu_totals.specs.View.{dense_pair, pairs_in};
 ghost use Rattle.hu_list.specs.Nodes.{list_of, nodes_from, node_in, AreRanked};
 
 use crate::list::Node;
 use crate::merge::push_some;
-use hu_kind::NoMemory;
+use hu_kind::{NoMemory, gain_of};
 use hu_totals::Dense;
 use std::alloc::Global;
 
@@ -36,7 +36,7 @@ fn node_in(place: u64, cells: &[Dense], rank: u32) -> Option<Node>
     Some(Node {
         place,
         own: cells[at].value,
-        rest: gain(&cells[at + 1..]),
+        rest: gain_of(&cells[at + 1..]),
     })
 }
 
@@ -45,23 +45,4 @@ fn place_of(cells: &[Dense], rank: u32) -> Option<usize>
     ensures { result ≡ position (λ cell. nat_eq cell.rank rank) cells.now }
 {
     cells.iter().position(|cell| cell.rank == rank)
-}
-
-/// The sum of the values above 0.
-pub(crate) fn gain(cells: &[Dense]) -> i128
-    requires { absolute_of (map dense_pair cells.now) < 2 ^ 127 }
-    ensures { result ≡ gain (map dense_pair cells.now) }
-{
-    let mut sum = 0;
-    for cell in cells {
-        sum += above_none(cell);
-    }
-    sum
-}
-
-/// A cell's value where it is above 0, else 0.
-pub(crate) fn above_none(cell: &Dense) -> i128
-    ensures { result ≡ positive_part cell.now.value }
-{
-    cell.value.max(0)
 }

@@ -10,10 +10,9 @@ ghost use Rattle.hu_list.specs.Passes.{met, met_in, summing, sum_with, no_sum, S
 ghost use Rattle.hu_list.specs.Level.{sum_of};
 ghost use Rattle.hu_list.specs.View.{tail_of, tails_of, IsTail, AreTails};
 
-use crate::single::above_none;
 use crate::slots::Slots;
-use crate::tail::{Tail, positive};
-use hu_kind::NoMemory;
+use crate::tail::Tail;
+use hu_kind::{NoMemory, positive_part};
 use hu_search::Child;
 use hu_totals::Dense;
 use std::alloc::Global;
@@ -42,7 +41,7 @@ impl Sum {
         Sum {
             support: self.support + 1,
             utility: self.utility + own,
-            bound: self.bound + positive(own + rest),
+            bound: self.bound + positive_part(own + rest),
         }
     }
 
@@ -110,7 +109,7 @@ fn add_cell(slots: &Slots, sums: &mut Vec<Sum>, own: i128, cell: &Dense, rest: i
     match slots.find(cell.rank) {
         Some(slot) => {
             sums[slot] = sums[slot].with(own + cell.value, rest);
-            above_none(cell)
+            positive_part(cell.value)
         }
         None => 0,
     }

@@ -2,13 +2,13 @@
 
 ghost use Rattle.std.specs.Prelude.{◌≡◌, ◌<◌, ◌^◌, ◌+ℤ◌, if◌then◌else◌, pos};
 ghost use Rattle.hu_kind.specs.Record.{positive_part, absolute_of};
-ghost use Rattle.hu_totals.specs.View.{dense_pair};
+ghost use Rattle.hu_totals.specs.View.{dense_pair, cells_of};
 ghost use Rattle.hu_totals.specs.Cells.{among, kept_gain};
 ghost use Rattle.hu_list.specs.Tails.{share, size_of};
-ghost use Rattle.hu_list.specs.View.{cells_of, tail_of};
+ghost use Rattle.hu_list.specs.View.{tail_of};
 
-use crate::single::above_none;
 use crate::slots::Slots;
+use hu_kind::positive_part;
 use hu_totals::Dense;
 
 /// What a set earns in a record that holds it, and the record's cells after the set's last rank.
@@ -24,7 +24,7 @@ impl Tail<'_> {
         requires { size_of (tail_of self.now) < 2 ^ 127 }
         ensures { result ≡ share kept.now.ranks (tail_of self.now) }
     {
-        positive(self.own + kept_gain(kept, self.cells))
+        positive_part(self.own + kept_gain(kept, self.cells))
     }
 }
 
@@ -47,15 +47,8 @@ fn kept_part(kept: &Slots, cell: &Dense) -> i128
         else pos 0) }
 {
     if kept.has(cell.rank) {
-        above_none(cell)
+        positive_part(cell.value)
     } else {
         0
     }
-}
-
-/// A number where it is above 0, else 0.
-pub(crate) fn positive(value: i128) -> i128
-    ensures { result ≡ positive_part value }
-{
-    value.max(0)
 }

@@ -4,7 +4,7 @@ ghost use Rattle.std.specs.Prelude.{◌≡◌, ℤ, List, [], ◌∷◌, OnOk};
 ghost use Rattle.hu_kind.specs.Sequence.{sequence_patterns};
 ghost use Rattle.hu_base.specs.Base.{records_of};
 ghost use Rattle.hu_collect.specs.State.{IsInOrder, Takes, Searches, Mines};
-ghost use Rattle.hu_plain.specs.Growth.{closed, prefix_entry, stepped_key, Grows, IsGrowth};
+ghost use Rattle.hu_plain.specs.Growth.{prefix_entry, stepped_key, Grows, IsGrowth};
 ghost use Rattle.hu_plain.specs.Place.{ArePlaces};
 ghost use Rattle.hu_plain.specs.PlaceView.{all_places};
 
@@ -94,22 +94,12 @@ fn offer<C: Collect>(
         (C.state collect.new) result }
 {
     let mut key = prefix.copy_in(alloc)?;
-    close(&mut key)?;
+    key.end_itemset()?;
     collect.offer(Entry {
         key,
         utility: total_best(rows),
         support: rows.len() as u64,
     })
-}
-
-/// Ends the last itemset of a key, if there is one.
-fn close(key: &mut Key) -> Result<(), NoMemory>
-    ensures { OnOk result (key.new ≡ closed key.old) }
-{
-    if key.numbers().is_empty() {
-        return Ok(());
-    }
-    key.push(-1)
 }
 
 /// Puts the item of a step to a prefix.
@@ -119,7 +109,7 @@ fn push_step(prefix: &mut Key, step: Step) -> Result<(), NoMemory>
     match step {
         Step::Into(item) => prefix.push(i64::from(item.0)),
         Step::After(item) => {
-            close(prefix)?;
+            prefix.end_itemset()?;
             prefix.push(i64::from(item.0))
         }
     }

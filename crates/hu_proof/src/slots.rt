@@ -3,13 +3,13 @@
 ghost use Rattle.std.specs.Prelude.{◌≡◌, ◌+◌, ◌<◌, ◌≤◌, ◌^◌, ◌+ℤ◌, ℕ, pos, length, unsigned_abs, IfOk, OnOk};
 ghost use Rattle.std.specs.List.{AllByRecursion};
 ghost use Rattle.hu_kind.specs.Cell.{pairs_of};
-ghost use Rattle.hu_kind.specs.Record.{absolute_of, positive_part};
+ghost use Rattle.hu_kind.specs.Record.{absolute_of};
 ghost use Rattle.hu_proof.specs.Places.{place_of, places_of, Apart, HasRoom, IsRoomy, Rises};
 ghost use Rattle.hu_proof.specs.Slots.{bound_at, gained, share_at, shares_at, size_in, slotted};
 
 use crate::order::Order;
 use crate::place::Place;
-use hu_kind::{Cell, NoMemory};
+use hu_kind::{Cell, NoMemory, positive_part};
 use std::alloc::Global;
 
 /// A value of a record at a named item, with the item's slot: how many stand before it among the named ones.
@@ -101,12 +101,4 @@ fn add_values(values: &[Slotted], own: i128, bounds: &mut Vec<i128>)
         bounds[slot] += positive_part(own + value + gain);
         gain += positive_part(value);
     }
-}
-
-/// A sum where it is above 0, else 0.
-fn positive_part(sum: i128) -> i128
-    ensures value { result ≡ positive_part sum }
-    ensures within { unsigned_abs result ≤ unsigned_abs sum }
-{
-    if sum > 0 { sum } else { 0 }
 }

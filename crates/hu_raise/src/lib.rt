@@ -6,7 +6,6 @@
 //! it is in `specs/StartFloor.antt`. The crate stands on hu_totals and hu_collect.
 #![tactic(auto)]
 
-mod gains;
 mod laws;
 mod pairs;
 mod partners;

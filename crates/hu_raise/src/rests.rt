@@ -10,9 +10,8 @@ ghost use Rattle.hu_raise.specs.OverRanks.{AreOverRanks};
 ghost use Rattle.hu_raise.specs.Sums.{gain_at, sum_at};
 ghost use Rattle.hu_raise.specs.View.{rest_of, rests_of, waiting_in};
 
-use crate::gains::gain_of;
 use crate::sums::Sums;
-use hu_kind::NoMemory;
+use hu_kind::{NoMemory, gain_of};
 use hu_totals::Dense;
 use std::alloc::Global;
 

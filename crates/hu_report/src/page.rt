@@ -51,7 +51,7 @@ impl Page {
         Ok(())
     }
 
-    // Has the bytes wait, which have room.
+    /// Has the bytes wait, which have room.
     fn append(&mut self, bytes: &[u8])
         requires { length self.old + length bytes.now ≤ PAGE_LEN }
         ensures { self.new ≡ self.old ++ bytes.now }

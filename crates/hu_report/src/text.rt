@@ -26,6 +26,7 @@ pub fn write_entries<S: Sink>(entries: &[Entry], task: Task, sink: &mut S) -> Re
     page.flush(sink)
 }
 
+/// Puts the line of an entry to a page.
 fn push_line<S: Sink>(
     entry: &Entry,
     task: Task,
@@ -41,6 +42,7 @@ fn push_line<S: Sink>(
     }
 }
 
+/// Puts a line without a support.
 fn push_item_line<S: Sink>(entry: &Entry, page: &mut Page, sink: &mut S) -> Result<(), Failed>
     ensures { Passes (S.state sink.old) (S.state sink.new) result
         page.old page.new (item_line entry.now) }
@@ -49,6 +51,7 @@ fn push_item_line<S: Sink>(entry: &Entry, page: &mut Page, sink: &mut S) -> Resu
     push_utility(entry.utility, page, sink)
 }
 
+/// Puts a line with the support.
 fn push_closed_line<S: Sink>(entry: &Entry, page: &mut Page, sink: &mut S) -> Result<(), Failed>
     ensures { Passes (S.state sink.old) (S.state sink.new) result
         page.old page.new (closed_line entry.now) }
@@ -58,6 +61,7 @@ fn push_closed_line<S: Sink>(entry: &Entry, page: &mut Page, sink: &mut S) -> Re
     push_utility(entry.utility, page, sink)
 }
 
+/// Puts the end of a line, with a utility.
 fn push_utility<S: Sink>(utility: i128, page: &mut Page, sink: &mut S) -> Result<(), Failed>
     ensures { Passes (S.state sink.old) (S.state sink.new) result
         page.old page.new (utility_text utility) }

@@ -4,10 +4,10 @@ ghost use Rattle.std.specs.Prelude.{◌≡◌, ◌<◌, ◌+◌, ◌^◌, ◌+�
 ghost use Rattle.std.specs.List.{fold, prefix_len, sum_by};
 ghost use Rattle.std.specs.List.Sorted.{IsPermutation, IsSortedBy};
 ghost use Rattle.hu_kind.specs.Record.{absolute_of};
-ghost use Rattle.hu_totals.specs.View.{dense_pair};
+ghost use Rattle.hu_totals.specs.View.{dense_pair, cells_of};
 ghost use Rattle.hu_rows.specs.Rows.{AreRows, size_of, count_of};
 ghost use Rattle.hu_rows.specs.Merging.{row_cmp, added, added_cells, merged, IsMerging};
-ghost use Rattle.hu_rows.specs.View.{cells_of, row_of, rows_of, row_below, same_ranks, sum_of};
+ghost use Rattle.hu_rows.specs.View.{row_of, rows_of, row_below, same_ranks, sum_of};
 
 use crate::rows::{Row, Rows};
 use bumpalo::Bump;

@@ -3,10 +3,11 @@
 ghost use Rattle.std.specs.Prelude.{◌≡◌, ◌==◌, ◌<◌, ◌++◌, [], ◌∷◌, length, if◌then◌else◌, IfOk, OnOk};
 ghost use Rattle.std.specs.List.{AllByRecursion};
 ghost use Rattle.hu_kind.specs.Record.{items_in};
+ghost use Rattle.hu_totals.specs.View.{cells_of};
 ghost use Rattle.hu_rows.specs.Rows.{ranks_of};
 ghost use Rattle.hu_rows.specs.Tally.{AreBelow};
 ghost use Rattle.hu_rows.specs.Handed.{reaches, only, narrowed, narrowed_row};
-ghost use Rattle.hu_rows.specs.View.{cells_of, row_of, rows_of};
+ghost use Rattle.hu_rows.specs.View.{row_of, rows_of};
 
 use crate::rows::{Row, Rows};
 use crate::tally::Tallies;

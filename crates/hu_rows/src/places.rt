@@ -3,11 +3,12 @@
 ghost use Rattle.std.specs.Prelude.{◌≡◌, ◌==◌, ◌<◌, ◌++◌, ◌^◌, ◌&&◌, ℕ, [], ◌∷◌, map, length, if◌then◌else◌, IfOk, OnOk};
 ghost use Rattle.std.specs.List.{AllByRecursion};
 ghost use Rattle.hu_kind.specs.Record.{items_in};
+ghost use Rattle.hu_totals.specs.View.{cells_of};
 ghost use Rattle.hu_rows.specs.Rows.{AreRows, size_of};
 ghost use Rattle.hu_rows.specs.Tally.{AreBelow};
 ghost use Rattle.hu_rows.specs.Handed.{reaches, handed_if, row_after, row_at, places_at, IsWithin, ArePlaces, AreEmpty};
 ghost use Rattle.hu_rows.specs.Places.{lists_in, places_in};
-ghost use Rattle.hu_rows.specs.View.{cells_of, row_of, rows_of};
+ghost use Rattle.hu_rows.specs.View.{row_of, rows_of};
 
 use crate::rows::{Row, Rows};
 use crate::tally::Tallies;

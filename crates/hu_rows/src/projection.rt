@@ -4,10 +4,11 @@ ghost use Rattle.std.specs.Prelude.{◌≡◌, ◌<◌, ◌^◌, false, ℕ, Lis
 ghost use Rattle.std.specs.List.{AllByRecursion, Contains};
 ghost use Rattle.hu_kind.specs.Order.{Ascend};
 ghost use Rattle.hu_kind.specs.Record.{items_in, has};
+ghost use Rattle.hu_totals.specs.View.{cells_of};
 ghost use Rattle.hu_rows.specs.Rows.{AreRows, AreApart, over, count_over, ranks_of, ranks_in, size_of};
 ghost use Rattle.hu_rows.specs.Projection.{projected, projected_row};
 ghost use Rattle.hu_rows.specs.Sums.{AreSums};
-ghost use Rattle.hu_rows.specs.View.{cells_of, row_of, rows_of};
+ghost use Rattle.hu_rows.specs.View.{row_of, rows_of};
 
 use crate::merge::merge;
 use crate::rows::{Row, Rows};

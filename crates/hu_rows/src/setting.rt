@@ -4,15 +4,15 @@ ghost use Rattle.std.specs.Prelude.{◌≡◌, ◌<◌, ◌≤◌, ◌+◌, ◌^
 ghost use Rattle.std.specs.List.{AllByRecursion};
 ghost use Rattle.hu_kind.specs.Order.{Ascend};
 ghost use Rattle.hu_kind.specs.Record.{absolute_of, positive_part};
-ghost use Rattle.hu_totals.specs.View.{dense_pair};
+ghost use Rattle.hu_totals.specs.View.{dense_pair, cells_of};
 ghost use Rattle.hu_totals.specs.Cells.{among, kept_gain};
 ghost use Rattle.hu_rows.specs.Rows.{AreRows, ranks_of, size_of};
 ghost use Rattle.hu_rows.specs.Bounds.{local_bound, subtree_bound, set_to, value_at, AreKept};
 ghost use Rattle.hu_rows.specs.Setting.{kept_part, local_part, subtree_part};
-ghost use Rattle.hu_rows.specs.View.{cells_of, row_of, rows_of};
+ghost use Rattle.hu_rows.specs.View.{row_of, rows_of};
 
 use crate::rows::Row;
-use hu_kind::NoMemory;
+use hu_kind::{NoMemory, positive_part};
 use hu_totals::Dense;
 use std::alloc::Global;
 use std::marker::Model;
@@ -88,7 +88,7 @@ impl Setting {
         ensures value { result ≡ kept_part self.now.kept (dense_pair cell.now) }
     {
         if self.is_kept(cell.rank) {
-            positive(cell.value)
+            positive_part(cell.value)
         } else {
             0
         }
@@ -118,7 +118,7 @@ impl Setting {
         ensures value { (rank : ℕ) → value_at self.new.values rank
             ≡ value_at self.old.values rank +ℤ local_part self.old.kept (row_of row.now) rank }
     {
-        let share = positive(row.before + self.gain(row.cells));
+        let share = positive_part(row.before + self.gain(row.cells));
         for cell in row.cells {
             self.add(cell.rank, share);
         }
@@ -182,19 +182,12 @@ impl Setting {
     }
 }
 
-/// A value where it is above 0, else 0.
-fn positive(value: i128) -> i128
-    ensures { result ≡ positive_part value }
-{
-    value.max(0)
-}
-
 /// The sum of three values where it is above 0, else 0.
 fn share_of(before: i128, value: i128, rest: i128) -> i128
     requires { unsigned_abs before + unsigned_abs value + unsigned_abs rest < 2 ^ 127 }
     ensures { result ≡ positive_part (before +ℤ value +ℤ rest) }
 {
-    positive(before + value + rest)
+    positive_part(before + value + rest)
 }
 
 /// Takes the marks and the values of some ranks away.

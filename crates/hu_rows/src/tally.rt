@@ -4,13 +4,14 @@ ghost use Rattle.std.specs.Prelude.{◌≡◌, ◌<◌, ◌^◌, ◌==◌, ◌+�
 ghost use Rattle.std.specs.List.{AllByRecursion, Contains};
 ghost use Rattle.hu_kind.specs.Order.{Ascend};
 ghost use Rattle.hu_kind.specs.Record.{has, gain, positive_part};
+ghost use Rattle.hu_totals.specs.View.{cells_of};
 ghost use Rattle.hu_rows.specs.Rows.{AreRows, ranks_of, size_of};
 ghost use Rattle.hu_rows.specs.Tally.{no_tally, plus, tally_at, share_if, row_share, most, most_with, tail_share, tally_with, told, tail_told, IsClear, Adds, Fits, HasRoom, AreNoted, AreBelow};
 ghost use Rattle.hu_rows.specs.Handed.{reaches};
-ghost use Rattle.hu_rows.specs.View.{cells_of, row_of, rows_of};
+ghost use Rattle.hu_rows.specs.View.{row_of, rows_of};
 
 use crate::rows::{Row, Rows};
-use hu_kind::NoMemory;
+use hu_kind::{NoMemory, positive_part};
 use hu_totals::Dense;
 use std::alloc::Global;
 use std::marker::Model;
@@ -222,7 +223,7 @@ fn tail_share(earned: i128, rest: i128, tail: &[Dense]) -> Tally
     Tally {
         utility: 0,
         count: 0,
-        bound: positive(earned + rest),
+        bound: positive_part(earned + rest),
     }
 }
 
@@ -245,7 +246,7 @@ fn most(row: &Row<'_>) -> i128
         place -= 1;
         sum = with_gain(sum, row.cells[place].value);
     }
-    positive(row.before + sum)
+    positive_part(row.before + sum)
 }
 
 /// A sum of values above 0 with one value more.
@@ -253,14 +254,7 @@ fn with_gain(sum: i128, value: i128) -> i128
     requires { unsigned_abs sum + unsigned_abs value < 2 ^ 127 }
     ensures { result ≡ positive_part value +ℤ sum }
 {
-    value.max(0) + sum
-}
-
-/// A value where it is above 0, else 0.
-fn positive(value: i128) -> i128
-    ensures { result ≡ positive_part value }
-{
-    value.max(0)
+    positive_part(value) + sum
 }
 
 /// Notes a rank of which nothing was told yet.

@@ -15,7 +15,8 @@ use std::alloc::Global;
 /// Does all that the program does: reads the words, does their job over the named files, writes its text on `out` and at
 /// most one line on `err`, and answers the status: 0 done, 1 a refused line, 2 refused words, 3 a read failed, 4 a write
 /// failed, 5 want of memory, 6 a certificate that isn't accepted or can't be given. Each file is read once, in pieces of 65,536
-/// bytes, and a certificate after them; a refused line is answered before any further read. All memory is taken before the first call of `out`.
+/// bytes, and a certificate after them; a refused line is answered before any further read. All memory is taken before the
+/// first call of `out`.
 pub fn run<F: Files, O: Sink, E: Sink>(
     alloc: Global,
     words: &[String],

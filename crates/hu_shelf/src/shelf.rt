@@ -18,7 +18,7 @@ use crate::keeper::Keeper;
 use crate::records::{push_records, read_records};
 use crate::settings::Settings;
 use hu_base::Base;
-use hu_kept::{AppendFault, Changes, Kept};
+use hu_kept::{Changes, Kept};
 use hu_kind::{Entry, NoMemory, Record};
 use std::alloc::Global;
 use std::marker::Model;

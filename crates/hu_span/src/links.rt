@@ -9,7 +9,7 @@ use hu_kind::NoMemory;
 use std::alloc::Global;
 
 /// Items in the order in which they are first met: the number of each is its place. Those of one remainder are linked
-/// from the last one back, so that an item is found among few.
+/// from the last one back, and an item is looked for among these.
 #[derive(Drop)]
 pub(crate) struct Numbers {
     /// For each remainder one more than the number of its last item, or 0.

@@ -2,7 +2,7 @@
 
 ghost use Rattle.std.specs.Prelude.{◌≡◌, ◌<◌, length, IfOk, OnOk};
 ghost use Rattle.hu_kind.specs.Sequence.{sequence_key};
-ghost use Rattle.hu_span.specs.Step.{closed, grown_key, pattern_of};
+ghost use Rattle.hu_span.specs.Step.{grown_key, pattern_of};
 
 use hu_chain::Growth;
 use hu_kind::{Item, Key, NoMemory};
@@ -24,7 +24,7 @@ pub(crate) fn key_of(alloc: Global, steps: &[Step]) -> Result<Key, NoMemory>
     'steps: for step in steps {
         push_step(&mut key, *step)?;
     }
-    close(&mut key)?;
+    key.end_itemset()?;
     Ok(key)
 }
 
@@ -35,18 +35,8 @@ fn push_step(key: &mut Key, step: Step) -> Result<(), NoMemory>
     match step.growth {
         Growth::IntoLast => key.push(i64::from(step.item.0)),
         Growth::AfterLast => {
-            close(key)?;
+            key.end_itemset()?;
             key.push(i64::from(step.item.0))
         }
     }
-}
-
-/// Ends the last itemset of a key, if there is one.
-fn close(key: &mut Key) -> Result<(), NoMemory>
-    ensures { OnOk result (key.new ≡ closed key.old) }
-{
-    if key.numbers().is_empty() {
-        return Ok(());
-    }
-    key.push(-1)
 }

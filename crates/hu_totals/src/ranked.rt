@@ -15,7 +15,7 @@ ghost use Rattle.hu_totals.specs.Laws.{KeepsSets, RanksHigh, KeepsPatterns};
 use crate::totals::Totals;
 use crate::weights::{RankOrder, items_by_weight};
 use hu_base::Base;
-use hu_kind::{Cell, Item, NoMemory, Record};
+use hu_kind::{Cell, Item, NoMemory, Record, Valued};
 use indexmap::IndexSet;
 use std::alloc::Global;
 use std::marker::Model;
@@ -27,6 +27,16 @@ pub struct Dense {
     pub rank: u32,
     /// The utility that the item has there.
     pub value: i128,
+}
+
+impl Valued for Dense {
+    ghost use Rattle.hu_totals.specs.View.{dense_pair};
+
+    ghost pair = { dense_pair };
+
+    fn value(&self) -> i128 {
+        self.value
+    }
 }
 
 /// The records of a base over ranks: items whose transaction-weighted utility is below a floor are left out, the others

@@ -4,7 +4,7 @@ ghost use Rattle.std.specs.Prelude.{◌≡◌, ℕ, ◌<◌, ◌^◌, max, unsig
 ghost use Rattle.std.specs.Option.{option_map};
 ghost use Rattle.std.specs.Map.{lookup};
 ghost use Rattle.hu_kind.specs.Cell.{pair_of, pairs_of};
-ghost use Rattle.hu_kind.specs.Record.{absolute_of, gain, items_in, positive_part};
+ghost use Rattle.hu_kind.specs.Record.{absolute_of, gain, items_in};
 ghost use Rattle.hu_kind.specs.Order.{Ascend};
 ghost use Rattle.hu_base.specs.Base.{records_of};
 ghost use Rattle.hu_totals.specs.Totals.{item_totals, numbered};
@@ -12,7 +12,7 @@ ghost use Rattle.indexmap.specs.IndexMap.{set_value_at};
 ghost use Rattle.hu_totals.specs.Adding.{grown, no_total, pairs_with, total_at, total_in, with_cell, with_record, HasRoom};
 
 use hu_base::Base;
-use hu_kind::{Cell, Item, NoMemory, Record};
+use hu_kind::{Cell, Item, NoMemory, Record, gain_of, positive_part};
 use indexmap::IndexMap;
 use std::alloc::Global;
 use std::marker::Model;
@@ -149,23 +149,4 @@ fn grow_at(totals: &mut IndexMap<Item, ItemTotal>, place: usize, value: i128, ga
     if let Some(total) = totals.get_index_mut(place) {
         *total = total.with(value, gain);
     }
-}
-
-/// The sum of the values above 0.
-fn gain_of(cells: &[Cell]) -> i128
-    requires { absolute_of (pairs_of cells.now) < 2 ^ 127 }
-    ensures { result ≡ gain (pairs_of cells.now) }
-{
-    let mut sum = 0;
-    for cell in cells {
-        sum += positive_part(cell.value);
-    }
-    sum
-}
-
-/// A value where it is above 0, else 0.
-fn positive_part(value: i128) -> i128
-    ensures { result ≡ positive_part value }
-{
-    value.max(0)
 }

@@ -12,7 +12,7 @@ use crate::sums::Sums;
 use hu_kind::{Cell, Item, Record};
 
 /// The first thing that is wrong with the items, but for one that stands twice.
-pub fn item_fault(items: &[u128], utilities: &[i128]) -> Option<Fault>
+pub(crate) fn item_fault(items: &[u128], utilities: &[i128]) -> Option<Fault>
     requires few_items { length items.now ≤ 1048576 }
     requires few_utilities { length utilities.now ≤ 1048576 }
     ensures { result ≡ first_some (
@@ -52,7 +52,7 @@ fn great_item_place(items: &[u128]) -> Option<usize>
 }
 
 /// The absolute sum of the cells, or what is wrong with their sums or with a total that is stated for them.
-pub fn checked_sum(stated: i128, cells: &[Cell]) -> Result<i128, Fault>
+pub(crate) fn checked_sum(stated: i128, cells: &[Cell]) -> Result<i128, Fault>
     ensures value { IfOk result (λ sum. sum ≡ pos (absolute_of (pairs_of cells.now))) }
     ensures fault { result_err result ≡ first_some (
         sum_too_large (pairs_of cells.now)

@@ -12,7 +12,7 @@ use hu_kind::{first_number, first_signed};
 use smallvec::SmallVec;
 
 /// Puts the items of part 1 in an empty list, or says its first token that is no number.
-pub fn read_items(part: &[u8], items: &mut SmallVec<u128, 16>) -> Result<(), Fault>
+pub(crate) fn read_items(part: &[u8], items: &mut SmallVec<u128, 16>) -> Result<(), Fault>
     requires short { length part.now ≤ 1048576 }
     requires empty { items.old.items ≡ [] }
     ensures value { OnOk result (items.new.items ≡ map unsigned_abs (numbers number (tokens part.now))) }
@@ -35,7 +35,7 @@ pub fn read_items(part: &[u8], items: &mut SmallVec<u128, 16>) -> Result<(), Fau
 }
 
 /// The one number of part 2.
-pub fn read_total(part: &[u8]) -> Result<i128, Fault>
+pub(crate) fn read_total(part: &[u8]) -> Result<i128, Fault>
     ensures value { IfOk result (λ total. numbers signed_number (tokens part.now) ≡ total ∷ []) }
     ensures good { OnOk result (bad_total (tokens part.now) ≡ None) }
     ensures bad { IfErr result (λ fault. option_map (BadNumber 2) (bad_total (tokens part.now)) ≡ Some fault) }
@@ -50,7 +50,7 @@ pub fn read_total(part: &[u8]) -> Result<i128, Fault>
 }
 
 /// Puts the utilities of part 3 in an empty list, or says its first token that is no number.
-pub fn read_utilities(part: &[u8], utilities: &mut SmallVec<i128, 16>) -> Result<(), Fault>
+pub(crate) fn read_utilities(part: &[u8], utilities: &mut SmallVec<i128, 16>) -> Result<(), Fault>
     requires short { length part.now ≤ 1048576 }
     requires empty { utilities.old.items ≡ [] }
     ensures value { OnOk result (utilities.new.items ≡ numbers signed_number (tokens part.now)) }

@@ -9,7 +9,7 @@ use memchr::memchr;
 
 /// The parts of a line: what stands before, between and after its two `:`.
 #[derive(Clone, Copy)]
-pub struct Parts<'a> {
+pub(crate) struct Parts<'a> {
     pub items: &'a [u8],
     pub total: &'a [u8],
     pub utilities: &'a [u8],
@@ -17,7 +17,7 @@ pub struct Parts<'a> {
 
 impl<'a> Parts<'a> {
     /// The parts of a line that has just two `:`.
-    pub fn of(line: &'a [u8]) -> Option<Parts<'a>>
+    pub(crate) fn of(line: &'a [u8]) -> Option<Parts<'a>>
         ensures three { IfSome result (λ p. parts line.now ≡ p.items.now ∷ p.total.now ∷ p.utilities.now ∷ []) }
         ensures other { IfNone result (not_three_parts (parts line.now) ≡ Some Fault.NotThreeParts) }
         ensures items_fit { IfSome result (λ p. length p.items.now ≤ length line.now) }

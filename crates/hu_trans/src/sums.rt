@@ -2,13 +2,13 @@
 
 ghost use Rattle.std.specs.Prelude.{◌≡◌, ◌↔◌, ◌<◌, ◌≤◌, ◌^◌, pos, unsigned_abs, IsSome, IfSome};
 ghost use Rattle.hu_kind.specs.Cell.{pairs_of};
-ghost use Rattle.hu_kind.specs.Record.{absolute_of, total, gain, positive_part};
+ghost use Rattle.hu_kind.specs.Record.{absolute_of, total, gain};
 
-use hu_kind::Cell;
+use hu_kind::{Cell, positive_part};
 
 /// The sum of the absolute values of cells, their plain sum, and the sum of those above 0.
 #[derive(Clone, Copy)]
-pub struct Sums {
+pub(crate) struct Sums {
     pub absolute: i128,
     pub plain: i128,
     pub positive: i128,
@@ -16,7 +16,7 @@ pub struct Sums {
 
 impl Sums {
     /// The sums of cells, where the absolute values sum to at most 2^127 - 1.
-    pub fn of(cells: &[Cell]) -> Option<Sums>
+    pub(crate) fn of(cells: &[Cell]) -> Option<Sums>
         ensures small { IsSome result ↔ (absolute_of (pairs_of cells.now) < 2 ^ 127) }
         ensures absolute { IfSome result (λ sums. sums.absolute ≡ pos (absolute_of (pairs_of cells.now))) }
         ensures plain { IfSome result (λ sums. sums.plain ≡ total (pairs_of cells.now)) }
@@ -39,12 +39,4 @@ impl Sums {
             positive,
         })
     }
-}
-
-/// A value where it is above 0, else 0.
-fn positive_part(value: i128) -> i128
-    ensures value { result ≡ positive_part value }
-    ensures within { unsigned_abs result ≤ unsigned_abs value }
-{
-    if value > 0 { value } else { 0 }
 }

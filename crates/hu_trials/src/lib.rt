@@ -1,5 +1,5 @@
-//! Trials of the crates that mine, on the small bases of hu_sample: each public call once with ample memory, each generic one
-//! at a concrete type, and worked rows as tables.
+//! Trials of the crates that mine, on the small bases of hu_sample: the public calls with ample memory, by themselves or as the
+//! steps of a search, each generic one at a concrete type, and worked rows as tables.
 //!
 //! A module tries the crate of its name. The trials stand apart from what they try, since a crate with tests is proved a second
 //! time for them; those of the readers and writers are small and stand in their crates, those of whole runs in hupm.

@@ -1,42 +1,20 @@
 //! Certificates of small bases: an accepted one with its answer, and spoilt ones.
 
 use hu_base::Base;
-use hu_kind::{Cell, Entry, Item, Record};
+use hu_kind::{Cell, Item, Record};
 use hu_proof::laws::law_of_certificates;
 use hu_proof::{CheckFault, check};
+use hu_sample::{base_of, told};
 use std::alloc::Global;
 use std::test::Fail;
 
-/// The base of one record: an item that earns 5 and one that earns nothing.
-fn two_items(alloc: Global) -> Result<Base<Record>, Fail> {
-    let mut cells = Vec::new(alloc);
-    for (item, value) in [(1, 5), (2, 0)] {
-        cells.push(Cell {
-            item: Item(item),
-            value,
-        })?;
-    }
-    let mut base = Base::after(alloc, 0);
-    base.add(Record::new(cells).ok_or("no record")?)?;
-    Ok(base)
-}
-
-/// A line for each entry: its items, its utility and its support.
-fn told(alloc: Global, entries: &[Entry]) -> Result<String, Fail> {
-    let mut text = String::new(alloc);
-    for entry in entries {
-        for number in entry.key.numbers() {
-            text.push_str(&format!(in alloc; "{number} ")?)?;
-        }
-        text.push_str(&format!(in alloc; "#UTIL: {} #SUP: {}\n", entry.utility, entry.support)?)?;
-    }
-    Ok(text)
-}
+/// One record: an item that earns 5 and one that earns nothing.
+const TWO_ITEMS: [&[(u32, i128)]; 1] = [&[(1, 5), (2, 0)]];
 
 #[test]
 fn accepted(rt: HostRuntime) -> Result<(), Fail> {
     law_of_certificates();
-    let base = two_items(rt.alloc())?;
+    let base = base_of(rt.alloc(), &TWO_ITEMS)?.expect(&rt, "a base");
     let text = b"cert 5\norder 1 2\n:0:1 2=0\n1:5:2\n1 2:5:\n";
     let entries = check(rt.alloc(), &base, 5, text)?;
     assert_eq!(rt;
@@ -56,7 +34,7 @@ fn accepted_of_no_record(rt: HostRuntime) -> Result<(), Fail> {
 
 #[test]
 fn spoilt(rt: HostRuntime) -> Result<(), Fail> {
-    let base = two_items(rt.alloc())?;
+    let base = base_of(rt.alloc(), &TWO_ITEMS)?.expect(&rt, "a base");
     let cases: [(&[u8], CheckFault); 9] = [
         (
             b"cert 5\norder 1 2\n:0:1\n1:5:2\n1 2:5:\n",

@@ -1,4 +1,4 @@
-//! hupm, a miner of patterns of high utility: `hupm TASK ENGINE MIN TOP FILE [BATCH ..]`. All that it does is one call of
+//! hupm, a miner of patterns of high utility. The README has the words that it takes. All that it does is one call of
 //! [`hu_run::run_all`] over the words, the files of the system, its streams, and stores in its files.
 #![tactic(auto)]
 
