@@ -1,9 +1,10 @@
 -- What a collector by average makes of entries.
-use Rattle.std.proofs.Common.{◌≡◌, ℕ, Bool, true, false, cond, ℤ, Option, List, [], ◌∷◌, ◌++◌}
-use Rattle.std.proofs.Common.{Result, Ok, Err, IfOk, refl, sym, ap, ◌∙◌, subst, append_assoc, append-nil}
+use Rattle.std.proofs.Common.{◌≡◌, ℕ, Bool, true, false, cond, ℤ, Option, List, [], ◌∷◌, ◌++◌, Result, Ok, Err, IfOk, refl, sym, ap, ◌∙◌, subst, append_assoc}
+use Rattle.std.proofs.Common.{append-nil}
 use Rattle.std.specs.List.{AllByRecursion, filter}
 use Rattle.std.specs.List.Sorted.{IsStrictlySortedBy}
 use Rattle.std.specs.BTreeSet.{insert_key}
+use Rattle.std.proofs.lemmas.List.Elements.{filter-append}
 use Rattle.hu_kind.specs.declared.entry.Entry.{Entry}
 use Rattle.hu_kind.specs.Order.{ranking, cut}
 use Rattle.hu_kind.proofs.lemmas.RankingLemmas.{ranking-sorted}
@@ -42,15 +43,6 @@ kept-sorted b kept = subst (IsStrictlySortedBy average_cmp) (kept-content b kept
 -- what was offered is kept
 pub offered-kept : (b : BestOf) (entries : List Entry) → IsKept (offered b entries)
 offered-kept b entries = ap (best_with b.least b.top) (firsts-twice b.top (b.content ++ reaching b.least entries))
-
-filter-append : {A : Type 0} (p : A → Bool) (xs ys : List A) → filter p (xs ++ ys) ≡ filter p xs ++ filter p ys
-filter-append p [] ys = refl
-filter-append p (x ∷ xs) ys = by (p x) (filter-append p xs ys)
-  where
-    by : (t : Bool) → filter p (xs ++ ys) ≡ filter p xs ++ filter p ys
-        → cond t (x ∷ filter p (xs ++ ys)) (filter p (xs ++ ys)) ≡ cond t (x ∷ filter p xs) (filter p xs) ++ filter p ys
-    by true ih = ap (λ t. x ∷ t) ih
-    by false ih = ih
 
 -- offers of one list and then of another are offers of both
 pub offered-then : (b : BestOf) (xs ys : List Entry) → offered (offered b xs) ys ≡ offered b (xs ++ ys)

@@ -1,13 +1,13 @@
 -- No set that holds a set earns more for each of its items than the set's bound.
-use Rattle.std.proofs.Common.{◌≡◌, ℕ, zero, suc, ◌<◌, ◌≤◌, ◌+◌, ◌^◌, Bool, true, false, cond, eqb, ℤ, pos, ◌+ℤ◌, ◌≤ℤ◌}
-use Rattle.std.proofs.Common.{◌*ℤ◌, unsigned_abs, List, [], ◌∷◌, ◌++◌, map, take, length, get_or, sum_by}
-use Rattle.std.proofs.Common.{refl, sym, ap, ◌∙◌, subst, arith, inl, inr, Contains, add-one}
-use Rattle.hu_kind.proofs.lemmas.Each.{each-get}
+use Rattle.std.proofs.Common.{◌≡◌, ℕ, zero, suc, ◌<◌, ◌≤◌, ◌+◌, ◌^◌, Bool, true, false, cond, eqb, ℤ, pos, ◌+ℤ◌, ◌≤ℤ◌, ◌*ℤ◌, unsigned_abs, List, [], ◌∷◌, ◌++◌}
+use Rattle.std.proofs.Common.{map, take, length, get_or, sum_by, refl, sym, ap, ◌∙◌, subst, arith, inl, inr, Contains, add-one}
 use Rattle.std.specs.Int.{int_max}
 use Rattle.std.specs.List.{AllByRecursion}
 use Rattle.std.proofs.lemmas.Bool.{and_parts, and_from}
 use Rattle.std.proofs.lemmas.Int.{ints, clamps}
 use Rattle.std.proofs.lemmas.List.Sums.{sum_by-cons}
+use Rattle.std.proofs.Math.IntN.{*ℤ-zero}
+use Rattle.hu_kind.proofs.lemmas.Each.{each-get}
 use Rattle.hu_kind.specs.Record.{has, holds, value_of, values_of, utility_in, absolute_of}
 use Rattle.hu_kind.proofs.lemmas.Members.{Member, Member-from_contains}
 use Rattle.hu_totals.specs.declared.ranked.Dense.{Dense}
@@ -15,9 +15,9 @@ use Rattle.hu_totals.specs.Ranked.{Ranking}
 use Rattle.hu_totals.specs.View.{dense_pair}
 use Rattle.hu_list.specs.declared.list.Node.{Node}
 use Rattle.hu_list.specs.Nodes.{rest_after, nodes_from}
+use Rattle.hu_list.proofs.lemmas.Windows.{Window, window-here, window-next, window-all}
 use Rattle.hu_average.specs.Order.{times-add, times-suc}
 use Rattle.hu_average.specs.Bound.{greatest, average_bound, BoundsAverage, greatest_over, IsSomeList, IsAverageBound, BoundsList}
-use Rattle.std.proofs.Math.IntN.{*ℤ-zero}
 
 -- ---- in a record
 
@@ -93,23 +93,6 @@ greatest-within (cell ∷ cells) =
     omega (arith, ints, clamps, rest, least, sum)
 
 -- ---- over the nodes of a list
-
--- records that stand in others from a place on
-record Window (all : List (List (ℕ × ℤ))) (place : ℕ) (records : List (List (ℕ × ℤ))) : Type 0 where
-  fits : place + length records ≤ length all
-  same : (i : ℕ) → i < length records → get_or all (place + i) [] ≡ get_or records i []
-
-window-here : {all records : List (List (ℕ × ℤ))} {place : ℕ} {cells : List (ℕ × ℤ)} → Window all place (cells ∷ records) → get_or all place [] ≡ cells
-window-here {all} {place = place} w = let e : place ≡ place + 0 = omega arith in ap (λ i. get_or all i []) e ∙ w.same 0 (omega arith)
-
-window-next : {all records : List (List (ℕ × ℤ))} {place : ℕ} {cells : List (ℕ × ℤ)} → Window all place (cells ∷ records) → Window all (place + 1) records
-window-next {all} {place = place} w = record {
-  fits = let fits = w.fits in omega (arith, fits);
-  same = λ i within. let e : place + 1 + i ≡ place + suc i = omega arith in ap (λ k. get_or all k []) e ∙ w.same (suc i) (omega arith);
-}
-
-window-all : (records : List (List (ℕ × ℤ))) → Window records 0 records
-window-all records = record { fits = omega arith; same = λ i within. let e : 0 + i ≡ i = omega arith in ap (λ k. get_or records k []) e }
 
 module _ (all : List (List (ℕ × ℤ))) (set : List ℕ) where
   -- the nodes of one record

@@ -1,7 +1,6 @@
 -- Passes over the cells of tails, from the last one backward, and over tails.
-use Rattle.std.proofs.Common.{◌≡◌, ℕ, zero, suc, ◌+◌, ◌^◌, ◌<◌, ◌≤◌, Bool, true, false, cond, eqb, max, ℤ}
-use Rattle.std.proofs.Common.{unsigned_abs, ◌+ℤ◌, List, [], ◌∷◌, ◌++◌, length, get_or, take, drop, inl, inr, refl, sym, ap}
-use Rattle.std.proofs.Common.{◌∙◌, subst, arith, sum_by, append_assoc, append-nil}
+use Rattle.std.proofs.Common.{◌≡◌, ℕ, zero, suc, ◌+◌, ◌^◌, ◌<◌, ◌≤◌, Bool, true, false, cond, eqb, max, ℤ, unsigned_abs, ◌+ℤ◌, List, [], ◌∷◌, ◌++◌, length}
+use Rattle.std.proofs.Common.{get_or, take, drop, inl, inr, refl, sym, ap, ◌∙◌, subst, arith, sum_by, append_assoc, append-nil}
 use Rattle.std.specs.List.{AllByRecursion}
 use Rattle.std.proofs.lemmas.Bool.{ne_eqb, eq-eqb, cases_eq}
 use Rattle.std.proofs.lemmas.Int.{ints}
@@ -10,33 +9,15 @@ use Rattle.std.proofs.lemmas.List.Sums.{sum_by-cons}
 use Rattle.hu_kind.specs.Order.{Ascend}
 use Rattle.hu_kind.specs.Record.{items_in, absolute_of}
 use Rattle.hu_totals.specs.declared.ranked.Dense.{Dense}
-use Rattle.hu_totals.specs.View.{dense_pair}
+use Rattle.hu_totals.specs.View.{dense_pair, cells_of}
+use Rattle.hu_totals.proofs.lemmas.DenseLemmas.{value-within, Ascend-rest}
 use Rattle.hu_average.specs.declared.tail.Tail.{Tail}
 use Rattle.hu_average.specs.declared.totals.RankTotal.{RankTotal}
 use Rattle.hu_average.specs.Totals.{total_with, no_total, plus, Fits}
-use Rattle.hu_average.specs.Tails.{TailOf, total_in, left_from, left_in, grown, size_of, cells_of, tail_of, tails_of}
+use Rattle.hu_average.specs.Tails.{TailOf, total_in, left_from, left_in, grown, size_of, tail_of, tails_of}
 use Rattle.hu_average.proofs.TailLemmas.{plus-none, plus-assoc, total_in-append, sizes-grown}
 
 -- ---- the cells of a tail
-
--- what holds of each rank holds of that at a place
-pub rank-at : (P : ℕ → Type 0) (cells : List Dense) (i : ℕ) (d : Dense) → AllByRecursion P (items_in (cells_of cells)) → i < length cells
-    → P (get_or cells i d).rank
-rank-at P [] i d all within = absurd (omega arith)
-rank-at P (cell ∷ cells) zero d all within = all.0
-rank-at P (cell ∷ cells) (suc i) d all within = rank-at P cells i d all.1 (omega (arith, within))
-
--- a value is within the absolute values
-pub value-within : (cells : List Dense) (i : ℕ) (d : Dense) → i < length cells → unsigned_abs (get_or cells i d).value ≤ absolute_of (cells_of cells)
-value-within [] i d within = absurd (omega arith)
-value-within (cell ∷ cells) zero d within = omega (arith, sum_by-cons (λ (c : ℕ × ℤ). unsigned_abs c.1) (dense_pair cell) (cells_of cells))
-value-within (cell ∷ cells) (suc i) d within =
-    omega (arith, sum_by-cons (λ (c : ℕ × ℤ). unsigned_abs c.1) (dense_pair cell) (cells_of cells), value-within cells i d (omega (arith, within)))
-
-ascend-rest : (cells : List Dense) (i : ℕ) → Ascend (items_in (cells_of cells)) → Ascend (items_in (cells_of (drop i cells)))
-ascend-rest cells zero up = up
-ascend-rest [] (suc i) up = tt
-ascend-rest (cell ∷ cells) (suc i) up = ascend-rest cells i up.1
 
 left-above : (z : ℕ) (own most : ℤ) (cells : List (ℕ × ℤ)) → AllByRecursion (λ y. z < y) (items_in cells) → left_from z own most cells ≡ []
 left-above z own most [] above = refl
@@ -66,7 +47,7 @@ module _ (own most : ℤ) (cells : List Dense) (i : ℕ) (d : Dense) (up : Ascen
 
   pub rest-none : (z : ℕ) → z ≡ cell.rank → rest z ≡ []
   rest-none z e =
-      let all = subst (λ (cs : List Dense). Ascend (items_in (cells_of cs))) splits (ascend-rest cells i up) in
+      let all = subst (λ (cs : List Dense). Ascend (items_in (cells_of cs))) splits (Ascend-rest cells i up) in
       left-above z own most (cells_of (drop (i + 1) cells)) (subst (λ x. AllByRecursion (λ y. x < y) (items_in (cells_of (drop (i + 1) cells)))) (sym e) all.0)
 
   -- one cell more, from the last one backward

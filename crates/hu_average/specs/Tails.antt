@@ -29,7 +29,7 @@ use Rattle.hu_kind.specs.Record.{holds, values_of, items_in, absolute_of}
 use Rattle.hu_kind.specs.Order.{Ascend}
 use Rattle.hu_totals.specs.declared.ranked.Dense.{Dense}
 use Rattle.hu_totals.specs.Ranked.{Ranking}
-use Rattle.hu_totals.specs.View.{dense_pair}
+use Rattle.hu_totals.specs.View.{dense_pair, cells_of}
 use Rattle.hu_average.specs.declared.tail.Tail.{Tail}
 use Rattle.hu_average.specs.declared.totals.RankTotal.{RankTotal}
 use Rattle.hu_average.specs.Bound.{greatest}
@@ -82,10 +82,6 @@ abbrev pub size_of : TailOf → ℕ
 size_of tail = max (unsigned_abs tail.own + absolute_of tail.cells) (unsigned_abs tail.most)
 
 -- ---- without lives
-
--- cells as pairs
-abbrev pub cells_of : List Dense → List (ℕ × ℤ)
-cells_of cells = map dense_pair cells
 
 -- a tail without lives
 abbrev pub tail_of : Tail → TailOf

@@ -1,7 +1,6 @@
 -- The certificate of a base is accepted.
-use Rattle.std.proofs.Common.{◌≡◌, ℕ, suc, ◌+◌, ◌<◌, ◌≤◌, ◌^◌, Bool, true, false, cond, eqb, nat_lt, ℤ, pos, ◌≤ℤ◌}
-use Rattle.std.proofs.Common.{int_eq, unsigned_abs, None, Some, List, [], ◌∷◌, ◌++◌, length, sum_by, refl, sym, ap, ◌∙◌}
-use Rattle.std.proofs.Common.{subst, inl, inr, arith, nat_cmp, flat_map, Ordering, Less, Equal, Greater}
+use Rattle.std.proofs.Common.{◌≡◌, ℕ, suc, ◌+◌, ◌<◌, ◌≤◌, ◌^◌, Bool, true, false, cond, eqb, nat_lt, ℤ, pos, ◌≤ℤ◌, int_eq, unsigned_abs, None, Some, List, []}
+use Rattle.std.proofs.Common.{◌∷◌, ◌++◌, length, sum_by, refl, sym, ap, ◌∙◌, subst, inl, inr, arith, nat_cmp, flat_map, Ordering, Less, Equal, Greater}
 use Rattle.std.specs.List.{AllByRecursion}
 use Rattle.std.specs.Str.{bytes_eq}
 use Rattle.std.specs.BTreeSet.{insert_key}
@@ -19,13 +18,13 @@ use Rattle.hu_kind.specs.Record.{has, holds, value_of, values_of, absolute_of, i
 use Rattle.hu_kind.proofs.lemmas.Each.{each-append, each-from_all}
 use Rattle.hu_kind.proofs.lemmas.Occurring.{by_members, at_member}
 use Rattle.hu_kind.proofs.lemmas.Members.{Member}
+use Rattle.hu_kind.proofs.lemmas.Written.{Lacks}
 use Rattle.hu_proof.specs.Bounds.{cut_bound, stands_with}
 use Rattle.hu_proof.specs.declared.fault.CheckFault.TheVariants.{WrongMinimum, WrongOrder}
 use Rattle.hu_proof.specs.Check.{root, walk, is_order, order_fault, minimum_fault, from_minimum}
 use Rattle.hu_proof.specs.Text.{minimum_of, order_of}
-use Rattle.hu_kind.proofs.lemmas.Written.{Lacks}
 use Rattle.hu_totals.specs.Ranked.{by_twu, cells_from}
-use Rattle.hu_totals.proofs.lemmas.SortedLists.{Once, Member-from_ranking, Member-to_ranking, ranking-members}
+use Rattle.hu_totals.proofs.lemmas.SortedLists.{Once, Member-from_ranking, Member-to_ranking, ranking-members, length-ranking}
 use Rattle.hu_totals.proofs.lemmas.WeightLemmas.{by_twu_exact}
 use Rattle.hu_certify.specs.Laws.{CertificateIsAccepted, CertificateIsFaultless}
 use Rattle.hu_certify.specs.Spots.{SpotOf, earned, size_of, HasRoom}
@@ -149,10 +148,6 @@ insert-by x y ys Greater h out ih = ap suc ih
 length-insert : (x : ℕ) (ys : List ℕ) → (Member x ys → ⊥) → length (insert_key nat_cmp ys x) ≡ suc (length ys)
 length-insert x [] out = refl
 length-insert x (y ∷ ys) out = insert-by x y ys (nat_cmp x y) refl out (length-insert x ys (λ m. out (inr m)))
-
-length-ranking : (xs : List ℕ) → Once xs → length (ranking nat_cmp xs) ≡ length xs
-length-ranking [] once = refl
-length-ranking (x ∷ xs) once = length-insert x (ranking nat_cmp xs) (λ m. once.0 (Member-from_ranking nat_cmp x xs m)) ∙ ap suc (length-ranking xs once.1)
 
 ranked-again : (records : List (List (ℕ × ℤ))) → ranking nat_cmp (certificate_order records) ≡ items_of records
 ranked-again records =

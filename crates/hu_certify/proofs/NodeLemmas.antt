@@ -1,7 +1,6 @@
 -- The spots of a prefix, and what is written of it.
-use Rattle.std.proofs.Common.{◌≡◌, ℕ, zero, suc, ◌+◌, ◌<◌, ◌≤◌, Bool, true, false, cond, ◌&&◌, eqb, ℤ, pos, ◌+ℤ◌}
-use Rattle.std.proofs.Common.{int_le, List, [], ◌∷◌, ◌++◌, map, filter, length, drop, refl, sym, ap, ◌∙◌, subst, inl}
-use Rattle.std.proofs.Common.{inr, ◌⊎◌, arith, Less, nat_cmp}
+use Rattle.std.proofs.Common.{◌≡◌, ℕ, zero, suc, ◌+◌, ◌<◌, ◌≤◌, Bool, true, false, cond, ◌&&◌, eqb, ℤ, pos, ◌+ℤ◌, int_le, List, [], ◌∷◌, ◌++◌, map, filter}
+use Rattle.std.proofs.Common.{length, drop, refl, sym, ap, ◌∙◌, subst, inl, inr, ◌⊎◌, arith, Less, nat_cmp}
 use Rattle.std.specs.List.{AllByRecursion}
 use Rattle.std.specs.BTreeSet.{insert_key}
 use Rattle.std.proofs.lemmas.Bool.{cases_Bool, cases_eq, eq-eqb, ne_eqb}
@@ -14,8 +13,9 @@ use Rattle.hu_kind.specs.Database.{utility}
 use Rattle.hu_kind.specs.Order.{ranking, Ascend}
 use Rattle.hu_kind.specs.Record.{has, holds, value_of, values_of, gain, positive_part, items_in}
 use Rattle.hu_kind.proofs.lemmas.Members.{Member, Member-append_left, Member-append_right, Member-append_cases}
-use Rattle.hu_kind.proofs.lemmas.Occurring.{at_member, by_members}
+use Rattle.hu_kind.proofs.lemmas.Occurring.{at_member, by_members, holds-append, values_of-append}
 use Rattle.hu_proof.specs.Bounds.{is_among, later_gain, cut_bound, stands_with}
+use Rattle.hu_proof.proofs.lemmas.OrderMembers.{among-member, not_among}
 use Rattle.hu_totals.specs.Ranked.{cells_from, item_at}
 use Rattle.hu_totals.proofs.lemmas.DenseLemmas.{ranks_from}
 use Rattle.hu_totals.proofs.lemmas.RecordCells.{has-below}
@@ -56,24 +56,12 @@ grown-first from item later cells own =
 
 -- ---- a prefix with an item more
 
-holds-append : (xs ys : List ℕ) (cells : List (ℕ × ℤ)) → holds (xs ++ ys) cells ≡ (holds xs cells && holds ys cells)
-holds-append [] ys cells = refl
-holds-append (x ∷ xs) ys cells = ap (λ b. has x cells && b) (holds-append xs ys cells) ∙ and-assoc (has x cells) (holds xs cells) (holds ys cells)
-  where
-    and-assoc : (a b c : Bool) → (a && (b && c)) ≡ ((a && b) && c)
-    and-assoc true b c = refl
-    and-assoc false b c = refl
-
 holds-one : (prefix : List ℕ) (item : ℕ) (r : List (ℕ × ℤ)) → holds (prefix ++ item ∷ []) r ≡ (holds prefix r && has item r)
 holds-one prefix item r = holds-append prefix (item ∷ []) r ∙ ap (λ b. holds prefix r && b) (and-true (has item r))
   where
     and-true : (b : Bool) → (b && true) ≡ b
     and-true true = refl
     and-true false = refl
-
-values_of-append : (xs ys : List ℕ) (cells : List (ℕ × ℤ)) → values_of (xs ++ ys) cells ≡ values_of xs cells +ℤ values_of ys cells
-values_of-append [] ys cells = omega (arith, ints)
-values_of-append (x ∷ xs) ys cells = let ih = values_of-append xs ys cells in omega (arith, ints)
 
 values-one : (prefix : List ℕ) (item : ℕ) (r : List (ℕ × ℤ)) → values_of (prefix ++ item ∷ []) r ≡ values_of prefix r +ℤ value_of item r
 values-one prefix item r = let e = values_of-append prefix (item ∷ []) r in omega (arith, ints)
@@ -132,20 +120,6 @@ earned-with [] later from prefix = refl
 earned-with (r ∷ rs) later from prefix =
     let ih = earned-with rs later from prefix in
     elim (cases_Bool (holds prefix r)) [ inl e ↦ simp e (ap (λ v. values_of prefix r +ℤ v) ih) | inr e ↦ simp e (omega (arith, ints)) ]
-
-among-member : (x : ℕ) (xs : List ℕ) → is_among x xs ≡ true → Member x xs
-among-member x [] h = cc
-among-member x (y ∷ ys) h = elim (cases_eq x y) [
-  | inl e ↦ inl (sym e)
-  | inr ne ↦ let other : eqb x y ≡ false = ne_eqb x y ne in inr (among-member x ys (rw other at h))
-]
-
-not_among : (x : ℕ) (xs : List ℕ) → (Member x xs → ⊥) → is_among x xs ≡ false
-not_among x xs out = by (is_among x xs) refl
-  where
-    by : (b : Bool) → is_among x xs ≡ b → b ≡ false
-    by true h = absurd (out (among-member x xs h))
-    by false h = refl
 
 -- what an item adds to what later items gain in a record
 later_gain-first : (item : ℕ) (later : List ℕ) (cells : List (ℕ × ℤ)) → (Member item later → ⊥) → Ascend (items_in cells)

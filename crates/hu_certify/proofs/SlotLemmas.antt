@@ -1,7 +1,6 @@
 -- Slots of ranks, a cell and a place at a time.
-use Rattle.std.proofs.Common.{◌≡◌, ℕ, zero, suc, ◌+◌, ◌<◌, ◌≤◌, ◌^◌, Bool, true, false, cond, ◌||◌, eqb, ℤ, pos, ◌+ℤ◌}
-use Rattle.std.proofs.Common.{unsigned_abs, List, [], ◌∷◌, ◌++◌, map, length, take, drop, get_or, set, replicate, refl, sym}
-use Rattle.std.proofs.Common.{ap, ◌∙◌, subst, inl, inr, arith, sum_by, append-nil, add-one, nat_cmp}
+use Rattle.std.proofs.Common.{◌≡◌, ℕ, zero, suc, ◌+◌, ◌<◌, ◌≤◌, ◌^◌, Bool, true, false, cond, ◌||◌, eqb, ℤ, pos, ◌+ℤ◌, unsigned_abs, List, [], ◌∷◌, ◌++◌, map}
+use Rattle.std.proofs.Common.{length, take, drop, get_or, set, replicate, refl, sym, ap, ◌∙◌, subst, inl, inr, arith, sum_by, append-nil, add-one, nat_cmp}
 use Rattle.std.specs.List.{AllByRecursion}
 use Rattle.std.proofs.Math.Bool.{or-true}
 use Rattle.std.proofs.lemmas.Bool.{cases_Bool, cases_eq, eq-eqb, ne_eqb}
@@ -20,6 +19,7 @@ use Rattle.hu_totals.specs.declared.ranked.Dense.{Dense}
 use Rattle.hu_totals.specs.View.{dense_pair}
 use Rattle.hu_totals.proofs.lemmas.RecordCells.{has-below}
 use Rattle.hu_totals.proofs.lemmas.SortedLists.{Once, Once-from_sorted, sorted-ranking, ranking-members, Member-to_ranking}
+use Rattle.hu_totals.proofs.lemmas.KeptLemmas.{among-member}
 use Rattle.hu_certify.specs.declared.place.Place.{Place}
 use Rattle.hu_certify.specs.declared.slots.Slot.{Slot}
 use Rattle.hu_certify.specs.Slots.{no_slot, slot_of, slot_over, with_more, with_spot, AreEmpty}
@@ -40,26 +40,21 @@ among-items : (z : ℕ) (cells : List (ℕ × ℤ)) → among z (items_in cells)
 among-items z [] = refl
 among-items z (cell ∷ cells) = ap (λ b. eqb z cell.0 || b) (among-items z cells)
 
-among-member : (z : ℕ) (xs : List ℕ) → among z xs ≡ true → Member z xs
-among-member z [] h = cc
-among-member z (x ∷ xs) h = elim (cases_eq z x) [
+member-among : (z : ℕ) (xs : List ℕ) → among z xs ≡ true → Member z xs
+member-among z [] h = cc
+member-among z (x ∷ xs) h = elim (cases_eq z x) [
   | inl e ↦ inl (sym e)
-  | inr ne ↦ let other : eqb z x ≡ false = ne_eqb z x ne in inr (among-member z xs (rw other at h))
+  | inr ne ↦ let other : eqb z x ≡ false = ne_eqb z x ne in inr (member-among z xs (rw other at h))
 ]
 
-member-among : (z : ℕ) (xs : List ℕ) → Member z xs → among z xs ≡ true
-member-among z [] m = absurd m
-member-among z (x ∷ xs) (inl e) = let here : eqb z x ≡ true = eq-eqb z x (sym e) in rw here refl
-member-among z (x ∷ xs) (inr m) = rw (member-among z xs m) (or-true (eqb z x))
-
 absent-among : (z : ℕ) (xs : List ℕ) → (Member z xs → ⊥) → among z xs ≡ false
-absent-among z xs out = elim (cases_Bool (among z xs)) [ inl h ↦ absurd (out (among-member z xs h)) | inr h ↦ h ]
+absent-among z xs out = elim (cases_Bool (among z xs)) [ inl h ↦ absurd (out (member-among z xs h)) | inr h ↦ h ]
 
 -- ranks that are the same ones in some order
 pub ranking-same : (xs ys : List ℕ) → ((z : ℕ) → among z xs ≡ among z ys) → ranking nat_cmp xs ≡ ranking nat_cmp ys
 ranking-same xs ys same = ranking-members nat_cmp nat_cmp_total exact_unsigned xs ys
-    (λ z m. among-member z ys (sym (same z) ∙ member-among z xs m))
-    (λ z m. among-member z xs (same z ∙ member-among z ys m))
+    (λ z m. member-among z ys (sym (same z) ∙ among-member z xs m))
+    (λ z m. member-among z xs (same z ∙ among-member z ys m))
 
 pub Once-standing : (spots : List SpotOf) → Once (standing spots)
 Once-standing spots = Once-from_sorted nat_cmp nat_cmp_total (standing spots) (sorted-ranking nat_cmp nat_cmp_total (ranks_in spots))
@@ -246,7 +241,7 @@ IsLeft-less none full rank ranks now next once taken is = record {
   ];
 }
 
-Once-drop : (from : ℕ) (ranks : List ℕ) → Once ranks → Once (drop from ranks)
+pub Once-drop : (from : ℕ) (ranks : List ℕ) → Once ranks → Once (drop from ranks)
 Once-drop zero ranks once = once
 Once-drop (suc from) [] once = once
 Once-drop (suc from) (x ∷ xs) once = Once-drop from xs once.1

@@ -1,7 +1,6 @@
 -- What is written of a prefix and of those below it.
-use Rattle.std.proofs.Common.{◌≡◌, ℕ, zero, suc, ◌+◌, ◌-◌, ◌<◌, ◌≤◌, true, false, cond, eqb, ℤ, ◌+ℤ◌, int_le, Result}
-use Rattle.std.proofs.Common.{Ok, Err, List, [], ◌∷◌, ◌++◌, map, length, take, drop, get_or, sum_by, refl, sym, ap, ◌∙◌}
-use Rattle.std.proofs.Common.{subst, inl, inr, arith, append_assoc, append-nil, nat_cmp, decimal}
+use Rattle.std.proofs.Common.{◌≡◌, ℕ, zero, suc, ◌+◌, ◌-◌, ◌<◌, ◌≤◌, true, false, cond, eqb, ℤ, ◌+ℤ◌, int_le, Result, Ok, Err, List, [], ◌∷◌, ◌++◌, map, length}
+use Rattle.std.proofs.Common.{take, drop, get_or, sum_by, refl, sym, ap, ◌∙◌, subst, inl, inr, arith, append_assoc, append-nil, nat_cmp, decimal}
 use Rattle.std.specs.Fmt.{signed_decimal}
 use Rattle.std.specs.List.{AllByRecursion}
 use Rattle.std.specs.Result.{IsErrAnd}
@@ -15,7 +14,7 @@ use Rattle.std.proofs.Math.Seq.{take-append_seam}
 use Rattle.hu_kind.specs.Record.{has, holds, value_of, items_in}
 use Rattle.hu_kind.proofs.lemmas.Each.{each-append}
 use Rattle.hu_kind.proofs.lemmas.Members.{Member, Member-append_cases}
-use Rattle.hu_kind.proofs.lemmas.Occurring.{at_member, by_members}
+use Rattle.hu_kind.proofs.lemmas.Occurring.{at_member, by_members, has-from_member}
 use Rattle.hu_totals.specs.Ranked.{cells_from, item_at}
 use Rattle.hu_totals.proofs.lemmas.DenseLemmas.{ranks_from}
 use Rattle.hu_totals.proofs.lemmas.SortedLists.{Once, Once-from_distinct, Member-from_ranking}
@@ -24,12 +23,13 @@ use Rattle.hu_certify.specs.declared.fault.CertFault.TheVariants.{TooLong}
 use Rattle.hu_certify.specs.declared.place.Place.{Place}
 use Rattle.hu_certify.specs.declared.slots.Child.{Child}
 use Rattle.hu_certify.specs.Slots.{list_at, lists_of, opened}
-use Rattle.hu_certify.specs.Spots.{SpotOf, past, narrowed, earned, ranks_in, standing, child_at, children_at, named}
-use Rattle.hu_certify.specs.Spots.{most, rank_pair, spots_of, AreRanks, IsNode, lines_from, opened_lines}
+use Rattle.hu_certify.specs.Spots.{SpotOf, past, narrowed, earned, ranks_in, standing, child_at, children_at, named, most, rank_pair, spots_of, AreRanks}
+use Rattle.hu_certify.specs.Spots.{IsNode, lines_from, opened_lines}
 use Rattle.hu_certify.specs.Text.{line_of, lines_below, lines_text, prefix_text, spaced, tokens_text}
 use Rattle.hu_certify.specs.Written.{Writes}
 use Rattle.hu_certify.proofs.ListLemmas.{list-here}
 use Rattle.hu_certify.proofs.NodeLemmas.{spots_with, narrowed-at, earned-with, children-with, lines-with}
+use Rattle.hu_certify.proofs.SlotLemmas.{Once-drop}
 
 -- ---- the items of a prefix
 
@@ -40,11 +40,6 @@ joined item (next ∷ items) = ap (λ more. decimal item ++ 32 ∷ more) (joined
 without_space : (items : List ℕ) → drop 1 (spaced items) ≡ prefix_text items
 without_space [] = refl
 without_space (item ∷ items) = joined item items
-
-Once-drop : (from : ℕ) (order : List ℕ) → Once order → Once (drop from order)
-Once-drop zero order once = once
-Once-drop (suc from) [] once = once
-Once-drop (suc from) (x ∷ xs) once = Once-drop from xs once.1
 
 -- ---- the line of a prefix, and those below it
 
@@ -172,14 +167,6 @@ left-narrowed rank (s ∷ ss) =
     let one = sum_by-cons (λ (spot : SpotOf). length spot.0) (past rank s.0, s.1 +ℤ value_of rank s.0) (narrowed rank ss) in
     elim (cases_Bool (has rank s.0)) [ inl h ↦ simp h (omega (arith, ih, all, one, here.0)) | inr h ↦ simp h (omega (arith, ih, all)) ]
 
-has-rank : (rank : ℕ) (cells : List (ℕ × ℤ)) → Member rank (items_in cells) → has rank cells ≡ true
-has-rank rank [] m = absurd m
-has-rank rank (c ∷ cs) m = elim (cases_Bool (eqb rank c.0)) [ inl h ↦ simp h | inr h ↦ simp h (has-rank rank cs (later h m)) ]
-  where
-    later : eqb rank c.0 ≡ false → Member rank (items_in (c ∷ cs)) → Member rank (items_in cs)
-    later h (inl e) = let same : eqb rank c.0 ≡ true = eq-eqb rank c.0 (sym e) in let f : true ≡ false = sym same ∙ h in cc
-    later h (inr n) = n
-
 fewer-ranks : (rank : ℕ) (spots : List SpotOf) → Member rank (ranks_in spots) → cells_left (narrowed rank spots) < cells_left spots
 fewer-ranks rank [] m = absurd m
 fewer-ranks rank (s ∷ ss) m =
@@ -188,7 +175,7 @@ fewer-ranks rank (s ∷ ss) m =
     let one = sum_by-cons (λ (spot : SpotOf). length spot.0) (past rank s.0, s.1 +ℤ value_of rank s.0) (narrowed rank ss) in
     let less = left-narrowed rank ss in
     elim (Member-append_cases rank (items_in s.0) (ranks_in ss) m) [
-      | inl n ↦ let h = has-rank rank s.0 n in let fewer = here.1 h in simp h (omega (arith, less, all, one, fewer))
+      | inl n ↦ let h = has-from_member rank s.0 n in let fewer = here.1 h in simp h (omega (arith, less, all, one, fewer))
       | inr n ↦
           let ih = fewer-ranks rank ss n in
           elim (cases_Bool (has rank s.0)) [ inl h ↦ simp h (omega (arith, ih, all, one, here.0)) | inr h ↦ simp h (omega (arith, ih, all)) ]

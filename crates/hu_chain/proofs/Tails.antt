@@ -1,7 +1,6 @@
 -- What a search among the cells of an element comes upon, and the rules of the cells after a place.
-use Rattle.std.proofs.Common.{◌≡◌, ℕ, zero, suc, ◌<◌, ◌≤◌, ◌+◌, Bool, true, false, cond, eqb, ℤ, pos, ◌-◌, ◌+ℤ◌, ◌-ℤ◌}
-use Rattle.std.proofs.Common.{◌≤ℤ◌, unsigned_abs, None, Some, is_some, List, [], ◌∷◌, length, get_or, drop, take, refl}
-use Rattle.std.proofs.Common.{sym, ap, ◌∙◌, subst, arith, add-one, sum_by, length-drop}
+use Rattle.std.proofs.Common.{◌≡◌, ℕ, zero, suc, ◌<◌, ◌≤◌, ◌+◌, Bool, true, false, cond, eqb, ℤ, pos, ◌-◌, ◌+ℤ◌, ◌-ℤ◌, ◌≤ℤ◌, unsigned_abs, None, Some, is_some}
+use Rattle.std.proofs.Common.{List, [], ◌∷◌, length, get_or, drop, take, refl, sym, ap, ◌∙◌, subst, arith, add-one, sum_by, length-drop}
 use Rattle.std.specs.Prelude.{IfSome}
 use Rattle.std.specs.List.{AllByRecursion}
 use Rattle.std.proofs.lemmas.Int.{ints}
@@ -14,13 +13,13 @@ use Rattle.hu_kind.specs.Record.{absolute_of, has, items_in, total, value_of, Is
 use Rattle.hu_kind.specs.Order.{Ascend}
 use Rattle.hu_kind.specs.Sequence.{IsSequence}
 use Rattle.hu_kind.proofs.lemmas.Occurring.{at_member, has-member}
+use Rattle.hu_kind.proofs.lemmas.Each.{each-take, each-drop}
 use Rattle.hu_chain.specs.declared.place.Place.{Place}
 use Rattle.hu_chain.specs.declared.place.Tail.{Tail}
 use Rattle.hu_chain.specs.Place.{cell_of, element_at, totals}
 use Rattle.hu_chain.specs.Bound.{IsFit}
 use Rattle.hu_chain.specs.Search.{cell_in, found, found_at, IsPlain, IsPlaceOf, IsTail, IsTailOf}
-use Rattle.hu_chain.proofs.lemmas.Cells.{all-above, each-drop, each-take, pairs-take, total-above, total-parts}
-use Rattle.hu_chain.proofs.lemmas.Cells.{total-next, cell_of-within, Ascend-drop, Ascend-itemset, IsAbove}
+use Rattle.hu_chain.proofs.lemmas.Cells.{all-above, pairs-take, total-above, total-parts, total-next, cell_of-within, Ascend-drop, Ascend-itemset, IsAbove}
 use Rattle.hu_chain.proofs.Finding.{found-whole, place_of_item}
 
 value_of-at : (item : ℕ) (cells : List Cell) (d : Cell) → has item (pairs_of cells) ≡ true

@@ -1,27 +1,22 @@
 -- One turn of a loop that makes or tests places, and what holds of a walk at each element.
-use Rattle.std.proofs.Common.{◌≡◌, ℕ, ℤ, pos, ◌+ℤ◌, ◌-ℤ◌, ◌≤ℤ◌, ◌<ℤ◌, zero, suc, ◌<◌, ◌≤◌, ◌+◌, ◌^◌, Bool, true, false}
-use Rattle.std.proofs.Common.{◌||◌, eqb, Option, None, Some, option_to_list, List, [], ◌∷◌, ◌++◌, length, get_or, drop}
-use Rattle.std.proofs.Common.{refl, sym, ap, ◌∙◌, subst, arith, add-one, append_assoc, drop-cons, IfSome}
+use Rattle.std.proofs.Common.{◌≡◌, ℕ, ℤ, pos, ◌+ℤ◌, ◌-ℤ◌, ◌≤ℤ◌, ◌<ℤ◌, suc, ◌<◌, ◌≤◌, ◌+◌, ◌^◌, Bool, true, false, ◌||◌, eqb, Option, None, Some, option_to_list}
+use Rattle.std.proofs.Common.{List, [], ◌∷◌, ◌++◌, length, get_or, drop, refl, sym, ap, ◌∙◌, subst, arith, add-one, append_assoc, drop-cons, IfSome}
 use Rattle.std.specs.List.{list_any, AllByRecursion}
 use Rattle.std.proofs.lemmas.Int.{ints, clamps}
-use Rattle.std.proofs.lemmas.Bool.{eqb-true}
+use Rattle.std.proofs.lemmas.Bool.{eqb-true, or_left}
 use Rattle.std.proofs.lemmas.List.{length-map}
 use Rattle.hu_kind.specs.Cell.{pairs_of, pair_of}
 use Rattle.hu_kind.specs.Sequence.{IsSequence}
 use Rattle.hu_kind.specs.Record.{total}
+use Rattle.hu_kind.proofs.lemmas.Each.{each-append, each-drop}
 use Rattle.hu_chain.specs.declared.place.Place.{Place}
 use Rattle.hu_chain.specs.declared.place.Tail.{Tail}
 use Rattle.hu_chain.specs.declared.walk.Walk.{Walk}
 use Rattle.hu_chain.specs.Place.{element_at, totals}
 use Rattle.hu_chain.specs.Bound.{IsFit}
 use Rattle.hu_chain.specs.Search.{best_past, found, found_at, joined_places, left_past, walked, IsLeft, IsPlaceOf, IsPlain, IsTail, IsTailOf, IsWalk}
-use Rattle.hu_chain.proofs.lemmas.Cells.{all-above, each-drop, total-above, IsAbove}
+use Rattle.hu_chain.proofs.lemmas.Cells.{all-above, total-above, IsAbove}
 use Rattle.hu_chain.proofs.Tails.{element-above, totals-left}
-
--- a place more, if there is one
-pub each-append : {A : Type 0} (P : A → Type 0) (xs ys : List A) → AllByRecursion P xs → AllByRecursion P ys → AllByRecursion P (xs ++ ys)
-each-append P [] ys all more = more
-each-append P (x ∷ xs) ys all more = (all.0, each-append P xs ys all.1 more)
 
 pub fit-more : (o : Option Place) (places : List Place) → AllByRecursion IsFit places → IfSome o IsFit → AllByRecursion IsFit (places ++ option_to_list o)
 fit-more None places all fit = each-append IsFit places [] all tt
@@ -41,12 +36,6 @@ joined-next elements item places k d made next whole within so_far more =
     (append-next made next here (joined_places elements item (drop (suc k) places)) whole
     (ap (λ ps. made ++ joined_places elements item ps) (sym (drop-cons places k d within)) ∙ so_far)
     more)
-
--- what holds of each element holds of one
-pub each-at : {A : Type 0} (P : A → Type 0) (xs : List A) (k : ℕ) (d : A) → AllByRecursion P xs → k < length xs → P (get_or xs k d)
-each-at P [] k d all within = absurd (omega arith)
-each-at P (x ∷ xs) zero d all within = all.0
-each-at P (x ∷ xs) (suc k) d all within = each-at P xs k d all.1 (omega arith)
 
 -- ---- walks
 
@@ -199,10 +188,6 @@ walked-next elements item e best places made next whole past within so_far more 
 
 -- ---- tests
 
-or-true : (a b : Bool) → a ≡ true → (a || b) ≡ true
-or-true true b e = refl
-or-true false b e = cc
-
 or-rest : (a b : Bool) → a ≡ false → (a || b) ≡ b
 or-rest true b e = cc
 or-rest false b e = refl
@@ -211,7 +196,7 @@ or-rest false b e = refl
 pub any-here : {A : Type 0} (test : A → Bool) (xs : List A) (k : ℕ) (d : A) (whole : Bool) → k < length xs
     → list_any test (drop k xs) ≡ whole → test (get_or xs k d) ≡ true → true ≡ whole
 any-here test xs k d whole within so_far passed =
-    sym (or-true (test (get_or xs k d)) (list_any test (drop (suc k) xs)) passed) ∙ ap (list_any test) (sym (drop-cons xs k d within)) ∙ so_far
+    sym (or_left (test (get_or xs k d)) (list_any test (drop (suc k) xs)) passed) ∙ ap (list_any test) (sym (drop-cons xs k d within)) ∙ so_far
 
 pub any-next : {A : Type 0} (test : A → Bool) (xs : List A) (k : ℕ) (d : A) (whole : Bool) → k < length xs
     → list_any test (drop k xs) ≡ whole → test (get_or xs k d) ≡ false → list_any test (drop (k + 1) xs) ≡ whole

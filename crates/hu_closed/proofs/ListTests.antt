@@ -1,14 +1,9 @@
 -- Tests of all elements of a list, of some, and their count.
-use Rattle.std.proofs.Common.{◌≡◌, ◌∙◌, ◌+◌, Bool, true, false, cond, not, ◌&&◌, ◌||◌, List, [], ◌∷◌, map, refl, sym, ap, inl, inr, arith, filter, count_by}
+use Rattle.std.proofs.Common.{◌≡◌, ◌∙◌, ◌+◌, Bool, true, false, cond, not, ◌&&◌, ◌||◌, List, [], ◌∷◌, map, refl, sym, ap, arith, filter, count_by}
 use Rattle.std.specs.List.{list_all, list_any}
-use Rattle.std.proofs.lemmas.Bool.{and_parts, and_from, or_cases, or_left, or_right}
 use Rattle.std.proofs.lemmas.List.Sums.{sum_by-cons}
 use Rattle.hu_kind.proofs.lemmas.Members.{Member}
-
-pub same_bool : (a b : Bool) → (a ≡ true → b ≡ true) → (b ≡ true → a ≡ true) → a ≡ b
-same_bool true b up down = sym (up refl)
-same_bool false true up down = down refl
-same_bool false false up down = refl
+use Rattle.hu_kind.proofs.lemmas.Tests.{all-at_member, all-by_members, any-member, any-from_member, same_bool}
 
 -- tests that answer alike
 pub all-same : {X : Type 0} (p q : X → Bool) → ((x : X) → p x ≡ q x) → (xs : List X) → list_all p xs ≡ list_all q xs
@@ -28,37 +23,15 @@ pub all-not : {X : Type 0} (p : X → Bool) (xs : List X) → list_all (λ x. no
 all-not p [] = refl
 all-not p (x ∷ xs) = ap (λ b. not (p x) && b) (all-not p xs) ∙ not-or (p x) (list_any p xs)
 
--- members that pass
-pub all-at : {X : Type 0} (p : X → Bool) (x : X) (xs : List X) → list_all p xs ≡ true → Member x xs → p x ≡ true
-all-at p x [] all m = absurd m
-all-at p x (y ∷ ys) all (inl e) = ap p (sym e) ∙ (and_parts (p y) (list_all p ys) all).0
-all-at p x (y ∷ ys) all (inr m) = all-at p x ys (and_parts (p y) (list_all p ys) all).1 m
-
-pub all-from : {X : Type 0} (p : X → Bool) (xs : List X) → ((x : X) → Member x xs → p x ≡ true) → list_all p xs ≡ true
-all-from p [] each = refl
-all-from p (x ∷ xs) each = and_from (p x) (list_all p xs) (each x (inl refl)) (all-from p xs (λ y m. each y (inr m)))
-
 pub all-kept : {X : Type 0} (p q : X → Bool) → ((x : X) → p x ≡ true → q x ≡ true) → (xs : List X) → list_all p xs ≡ true → list_all q xs ≡ true
-all-kept p q kept xs all = all-from q xs (λ x m. kept x (all-at p x xs all m))
-
-pub any-from : {X : Type 0} (p : X → Bool) (x : X) (xs : List X) → Member x xs → p x ≡ true → list_any p xs ≡ true
-any-from p x [] m h = absurd m
-any-from p x (y ∷ ys) (inl e) h = or_left (p y) (list_any p ys) (ap p e ∙ h)
-any-from p x (y ∷ ys) (inr m) h = or_right (p y) (list_any p ys) (any-from p x ys m h)
-
-pub any-member : {X : Type 0} (p : X → Bool) (xs : List X) → list_any p xs ≡ true → (x : X) × Member x xs × (p x ≡ true)
-any-member p [] h = cc
-any-member p (x ∷ xs) h = elim (or_cases (p x) (list_any p xs) h) [
-  | inl e ↦ (x, inl refl, e)
-  | inr r ↦ let found = any-member p xs r in (found.0, inr found.1, found.2)
-]
+all-kept p q kept xs all = all-by_members q xs (λ x m. kept x (all-at_member p x xs all m))
 
 -- lists with the same members among those that pass
 pub any-members : {X : Type 0} (p : X → Bool) (xs ys : List X) → ((x : X) → p x ≡ true → Member x xs → Member x ys)
     → ((x : X) → p x ≡ true → Member x ys → Member x xs) → list_any p xs ≡ list_any p ys
 any-members p xs ys up down = same_bool (list_any p xs) (list_any p ys)
-    (λ h. let found = any-member p xs h in any-from p found.0 ys (up found.0 found.2 found.1) found.2)
-    (λ h. let found = any-member p ys h in any-from p found.0 xs (down found.0 found.2 found.1) found.2)
+    (λ h. let found = any-member p xs h in any-from_member p found.0 ys (up found.0 found.2 found.1) found.2)
+    (λ h. let found = any-member p ys h in any-from_member p found.0 xs (down found.0 found.2 found.1) found.2)
 
 -- elements that a filter leaves out
 all-filter-cons : {X : Type 0} (p q : X → Bool) (x : X) (xs : List X) (b : Bool) → q x ≡ b → (q x ≡ false → p x ≡ true)

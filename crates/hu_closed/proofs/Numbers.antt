@@ -1,6 +1,6 @@
 -- Signed numbers among ascending items.
-use Rattle.std.proofs.Common.{◌≡◌, ◌∙◌, ℕ, zero, suc, ◌<◌, ◌≤◌, ◌^◌, ◌-◌, ℤ, pos, negsuc, ◌<ℤ◌, ◌≤ℤ◌, int_lt, SFits}
-use Rattle.std.proofs.Common.{of_z, false, eqb, List, [], ◌∷◌, length, get_or, refl, sym, ap, inl, inr, arith}
+use Rattle.std.proofs.Common.{◌≡◌, ◌∙◌, ℕ, zero, suc, ◌<◌, ◌≤◌, ◌^◌, ◌-◌, ℤ, pos, negsuc, ◌<ℤ◌, ◌≤ℤ◌, int_lt, SFits, of_z, false, eqb, List, [], ◌∷◌, length}
+use Rattle.std.proofs.Common.{get_or, refl, sym, ap, inl, inr, arith}
 use Rattle.std.specs.Int.{w64}
 use Rattle.std.specs.List.{AllByRecursion}
 use Rattle.std.specs.List.Sorted.{IsPartitionedBy, IsPartitionPoint}
@@ -11,6 +11,7 @@ use Rattle.std.proofs.lemmas.Bool.{cases_lt, false_from_ne_true, or_from, ne_eqb
 use Rattle.std.proofs.lemmas.Bool.Decides.{Decides-int_eq, Decides-eqb, same_from_decides}
 use Rattle.hu_kind.specs.declared.item.Item.{Item}
 use Rattle.hu_kind.specs.Order.{Ascend}
+use Rattle.hu_kind.proofs.lemmas.Ascending.{rises-between}
 use Rattle.hu_totals.specs.Weights.{numbers_of}
 use Rattle.hu_closed.specs.Keys.{is_among}
 
@@ -49,23 +50,11 @@ is_among-at (x ∷ xs) zero number up low high within = rw (is_among-above x xs 
 is_among-at (x ∷ xs) (suc k) number up low high within =
     rw (ne_above (pos x) number (low 0 (omega arith))) (is_among-at xs k number up.1 (λ j before. low (suc j) (omega arith)) high (omega arith))
 
-above-at : (x : ℕ) (xs : List ℕ) (j : ℕ) → AllByRecursion (λ y. x < y) xs → j < length xs → x < get_or xs j 0
-above-at x [] j up within = absurd (omega arith)
-above-at x (y ∷ ys) zero up within = up.0
-above-at x (y ∷ ys) (suc j) up within = above-at x ys j up.1 (omega arith)
-
--- a number further on is greater
-pub rises : (xs : List ℕ) (i j : ℕ) → Ascend xs → i < j → j < length xs → get_or xs i 0 < get_or xs j 0
-rises [] i j up before within = absurd (omega arith)
-rises (x ∷ xs) i zero up before within = absurd (omega arith)
-rises (x ∷ xs) zero (suc j) up before within = above-at x xs j up.0 (omega arith)
-rises (x ∷ xs) (suc i) (suc j) up before within = rises xs i j up.1 (omega arith) (omega arith)
-
 -- items by a signed number: those before it come first
 pub IsPartitionedBy-items : (items : List Item) (number : ℤ) → Ascend (numbers_of items) → IsPartitionedBy (λ item. int_lt (pos item.0) number) items
 IsPartitionedBy-items items number up i j d upto within low = elim (cases_lt i j) [
   | inl before ↦
-      let rise = rises (numbers_of items) i j up before (omega (arith, length-map items (λ (item : Item). item.0))) in
+      let rise = rises-between (numbers_of items) i j up before (omega (arith, length-map items (λ (item : Item). item.0))) in
       let at_i : get_or (numbers_of items) i 0 ≡ (get_or items i d).0 = get_or-map (λ item. item.0) items i d 0 (omega arith) in
       let at_j : get_or (numbers_of items) j 0 ≡ (get_or items j d).0 = get_or-map (λ item. item.0) items j d 0 within in
       grind (arith, ints)

@@ -1,9 +1,9 @@
 -- Rows of places beside numbers.
-use Rattle.std.proofs.Common.{◌≡◌, ◌∙◌, ℕ, zero, suc, ◌<◌, ℤ, pos, Bool, true, false, cond, ◌||◌, List, [], ◌∷◌, ◌++◌}
-use Rattle.std.proofs.Common.{length, get_or, set, position, Some, refl, sym, ap, arith}
+use Rattle.std.proofs.Common.{◌≡◌, ◌∙◌, ℕ, zero, suc, ◌<◌, ℤ, pos, Bool, true, false, cond, List, [], ◌∷◌, ◌++◌, length, get_or, set, position, Some, refl, sym}
+use Rattle.std.proofs.Common.{ap, arith}
 use Rattle.std.specs.List.{list_any}
 use Rattle.std.specs.Ordering.{int_eq}
-use Rattle.std.proofs.lemmas.Bool.{false_from_ne_true}
+use Rattle.std.proofs.lemmas.Bool.{false_from_ne_true, or_parts}
 use Rattle.std.proofs.lemmas.Bool.Decides.{Decides-int_eq}
 use Rattle.std.proofs.lemmas.List.{append-nil}
 use Rattle.std.proofs.lemmas.List.Quantifiers.{position-Some}
@@ -36,15 +36,11 @@ row_of-first (n ∷ ns) (row ∷ rows) number (suc i) f within =
     ap (λ b. cond b row (row_of ns rows number)) (f.before 0 (omega arith))
     ∙ row_of-first ns rows number i (first-next n ns number i f) (omega arith)
 
-or_false : (a b : Bool) → (a || b) ≡ false → (a ≡ false) × (b ≡ false)
-or_false true b h = cc
-or_false false b h = (refl, h)
-
 pub row_of-none : (ns : List ℤ) (rows : List (List ℕ)) (number : ℤ) → list_any (int_eq number) ns ≡ false → row_of ns rows number ≡ []
 row_of-none [] rows number none = refl
 row_of-none (n ∷ ns) [] number none = refl
 row_of-none (n ∷ ns) (row ∷ rows) number none =
-    let parts = or_false (int_eq number n) (list_any (int_eq number) ns) none in
+    let parts = or_parts (int_eq number n) (list_any (int_eq number) ns) none in
     ap (λ b. cond b row (row_of ns rows number)) parts.0 ∙ row_of-none ns rows number parts.1
 
 -- a number that is one is not another
@@ -85,6 +81,6 @@ row_of-append [] [] number new z long none = refl
 row_of-append [] (row ∷ rows) number new z long none = absurd (omega (arith, long))
 row_of-append (n ∷ ns) [] number new z long none = absurd (omega (arith, long))
 row_of-append (n ∷ ns) (row ∷ rows) number new z long none =
-    let parts = or_false (int_eq number n) (list_any (int_eq number) ns) none in
+    let parts = or_parts (int_eq number n) (list_any (int_eq number) ns) none in
     ap (λ rest. cond (int_eq z n) row rest) (row_of-append ns rows number new z (omega (arith, long)) parts.1)
     ∙ other-last (int_eq z n) (int_eq z number) new row (row_of ns rows z) (apart z n number parts.0)

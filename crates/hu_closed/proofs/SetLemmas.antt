@@ -1,8 +1,7 @@
 -- Record sets answer what their records say of a key.
 use Rattle.std.specs.Bool.{◌==◌}
-use Rattle.std.proofs.Common.{◌≡◌, ◌∙◌, ℕ, zero, suc, ℤ, pos, Bool, true, false, cond, not, ◌&&◌, ◌||◌, eqb}
-use Rattle.std.proofs.Common.{Option, None, Some, option_map, List, [], ◌∷◌, map, length, take, refl, sym, ap, subst}
-use Rattle.std.proofs.Common.{arith, count_by, flat_map, Contains, nat_cmp}
+use Rattle.std.proofs.Common.{◌≡◌, ◌∙◌, ℕ, zero, suc, ℤ, pos, Bool, true, false, cond, not, ◌&&◌, ◌||◌, eqb, Option, None, Some, option_map, List, [], ◌∷◌, map}
+use Rattle.std.proofs.Common.{length, take, refl, sym, ap, subst, arith, count_by, flat_map, Contains, nat_cmp}
 use Rattle.std.specs.List.{list_all, list_any}
 use Rattle.std.specs.declared.vec.Vec.{Vec}
 use Rattle.std.specs.declared.alloc.Global.{Global}
@@ -14,10 +13,9 @@ use Rattle.std.proofs.lemmas.List.Folds.{list_all-map}
 use Rattle.hu_kind.specs.declared.item.Item.{Item}
 use Rattle.hu_kind.specs.Record.{has, items_in}
 use Rattle.hu_kind.specs.Database.{items_of}
-use Rattle.hu_kind.proofs.lemmas.Members.{Member}
-use Rattle.hu_kind.proofs.lemmas.Members.{Member-from_contains, Member-from_filter, Member-from_flat_map}
-use Rattle.hu_kind.proofs.lemmas.Members.{Member-from_map, Member-map}
+use Rattle.hu_kind.proofs.lemmas.Members.{Member, Member-from_contains, Member-from_filter, Member-from_flat_map, Member-from_map, Member-map}
 use Rattle.hu_kind.proofs.lemmas.Occurring.{has-member}
+use Rattle.hu_kind.proofs.lemmas.Tests.{any-member, any-from_member, same_bool}
 use Rattle.hu_totals.specs.Weights.{numbers_of}
 use Rattle.hu_totals.proofs.lemmas.SortedLists.{Member-from_ranking}
 use Rattle.hu_totals.proofs.lemmas.DenseLemmas.{position-rank_in, rank_in}
@@ -27,7 +25,7 @@ use Rattle.hu_closed.specs.Holders.{has_rank_below, is_below, AreSets}
 use Rattle.hu_closed.specs.Found.{closes_at, Finds, IsHeld}
 use Rattle.hu_closed.proofs.Places.{among-part}
 use Rattle.hu_closed.proofs.lemmas.Closedness.{any_closes-one, closes, closes-held, closes-unheld, has-among, is_closed_key-set, occurs}
-use Rattle.hu_closed.proofs.ListTests.{all-filter, all-same, any-from, any-member, any-same, count-filter, count-map, same_bool}
+use Rattle.hu_closed.proofs.ListTests.{all-filter, all-same, any-same, count-filter, count-map}
 
 lacking : (records : List (List (ℕ × ℤ))) (key : List ℤ) (found : List (List ℕ)) (f : Finds records key found)
     → (items : List ℕ) → is_among items f.number ≡ false → are_among items key ≡ false
@@ -116,11 +114,11 @@ any-items p records = same_bool (list_any (list_any p) (map items_in records)) (
     let items = any-member (list_any p) (map items_in records) h in
     let one = any-member p items.0 items.2 in
     let r = Member-from_map items_in items.0 records items.1 in
-    any-from p one.0 (items_of records) (occurs records r.0 one.0 r.1 (subst (Member one.0) (sym r.2) one.1)) one.2)
+    any-from_member p one.0 (items_of records) (occurs records r.0 one.0 r.1 (subst (Member one.0) (sym r.2) one.1)) one.2)
     (λ h.
     let one = any-member p (items_of records) h in
     let r = Member-from_flat_map items_in one.0 records (Member-from_ranking nat_cmp one.0 (flat_map items_in records) one.1) in
-    any-from (list_any p) (items_in r.0) (map items_in records) (Member-map items_in r.0 records r.1) (any-from p one.0 (items_in r.0) r.2 one.2))
+    any-from_member (list_any p) (items_in r.0) (map items_in records) (Member-map items_in r.0 records r.1) (any-from_member p one.0 (items_in r.0) r.2 one.2))
 
 -- an item outside it closes it
 pub closed-none : (records : List (List (ℕ × ℤ))) (lists : List (List ℕ)) (key : List ℤ) (found : List (List ℕ))
@@ -173,12 +171,12 @@ below-some records key found rest items table last f h =
     let one = any-member test items h in
     let both = and_parts (has_rank_below table last one.0) (closes records key one.0) one.2 in
     let other = any-member (λ other. eqb one.0 other) (take last table) (sym (has_rank_below-member one.0 table last) ∙ both.0) in
-    any-from (closes records key) other.0 (take last table) other.1 (ap (closes records key) (sym (eqb-true one.0 other.0 other.2)) ∙ both.1))
+    any-from_member (closes records key) other.0 (take last table) other.1 (ap (closes records key) (sym (eqb-true one.0 other.0 other.2)) ∙ both.1))
     (λ h.
     let one = any-member (closes records key) (take last table) h in
-    let ranked = has_rank_below-member one.0 table last ∙ any-from (λ other. eqb one.0 other) one.0 (take last table) one.1 (eq-eqb one.0 one.0 refl) in
+    let ranked = has_rank_below-member one.0 table last ∙ any-from_member (λ other. eqb one.0 other) one.0 (take last table) one.1 (eq-eqb one.0 one.0 refl) in
     let here = has-member one.0 r.0 (closes-held records key one.0 r.0 one.2 r.1 holds) in
-    any-from test one.0 items (subst (Member one.0) r.2 here) (and_from (has_rank_below table last one.0) (closes records key one.0) ranked one.2))
+    any-from_member test one.0 items (subst (Member one.0) r.2 here) (and_from (has_rank_below table last one.0) (closes records key one.0) ranked one.2))
 
 pub below-none : (records : List (List (ℕ × ℤ))) (key : List ℤ) (found : List (List ℕ)) (table : List ℕ) (last : ℕ)
     → Finds records key found → list_all (λ items. not (are_among items key)) found ≡ true

@@ -1,7 +1,6 @@
 -- What reading one more file makes of the input of named files.
-use Rattle.std.proofs.Common.{◌≡◌, ℕ, ◌+◌, ◌<◌, ◌≤◌, ◌^◌, List, [], ◌∷◌, ◌++◌, length, take, drop, Result, Ok, Err}
-use Rattle.std.proofs.Common.{Option, Some, None, refl, sym, ap, ◌∙◌, subst, arith, append_assoc, append-nil}
-use Rattle.std.proofs.Common.{length-append, take-append-drop, get_or, sum_by, inl, inr}
+use Rattle.std.proofs.Common.{◌≡◌, ℕ, ◌+◌, ◌<◌, ◌≤◌, ◌^◌, List, [], ◌∷◌, ◌++◌, length, take, drop, Result, Ok, Err, Option, Some, None, refl, sym, ap, ◌∙◌}
+use Rattle.std.proofs.Common.{subst, arith, append_assoc, append-nil, length-append, take-append-drop, get_or, sum_by, inl, inr}
 use Rattle.std.specs.Prelude.{slice_get, IfSome, IsSomeAnd, IsOk, Contains, ℤ, unsigned_abs}
 use Rattle.std.specs.Option.{option_map}
 use Rattle.std.specs.String.{string_bytes}
@@ -20,12 +19,12 @@ use Rattle.hu_input.specs.declared.input.InputStop.TheVariants.{Refused, ReadFai
 use Rattle.hu_input.specs.View.{View}
 use Rattle.hu_input.specs.Names.{texts_of}
 use Rattle.hu_input.specs.Input.{Refusal, Unread, refused_line, with_front, after_file, content_length, input_from}
-use Rattle.hu_input.specs.Input as spec
 use Rattle.hu_input.specs.Intake.{StopsAt, TookFile, RefusesFile}
 use Rattle.hu_input.specs.Reading.{IfTold, ReadsAll, ReadsFiles}
 use Rattle.hu_input.proofs.IntakeLemmas.{with_front-append}
+use Rattle.hu_input.specs.Input as spec
 
-with_front-nil : {R E : Type 0} (rest : Result (List R) E) → with_front [] rest ≡ rest
+pub with_front-nil : {R E : Type 0} (rest : Result (List R) E) → with_front [] rest ≡ rest
 with_front-nil (Ok more) = refl
 with_front-nil (Err e) = refl
 

@@ -1,6 +1,6 @@
 -- Parts one after the other.
-use Rattle.std.proofs.Common.{◌≡◌, ℕ, suc, ◌+◌, ◌<◌, ◌≤◌, List, ◌∷◌, ◌++◌, length, get_or, take, drop, sym, ap, ◌∙◌}
-use Rattle.std.proofs.Common.{subst, arith, length-append, take-append-drop}
+use Rattle.std.proofs.Common.{◌≡◌, ℕ, suc, ◌+◌, ◌<◌, ◌≤◌, List, ◌∷◌, ◌++◌, length, get_or, take, drop, sym, ap, ◌∙◌, subst, arith, length-append}
+use Rattle.std.proofs.Common.{take-append-drop}
 use Rattle.std.specs.Prelude.{flat_map, Result, Ok, Err, IsErr}
 use Rattle.std.specs.Io.KnownBytes.{Appends}
 use Rattle.std.proofs.KnownBytes.{Appends-trans}
@@ -9,15 +9,6 @@ use Rattle.std.proofs.Math.Seq.{drop-cons, take-append-add}
 use Rattle.std.proofs.lemmas.List.Concat.{flat_map-append}
 use Rattle.std.proofs.lemmas.List.{take-append-le}
 use Rattle.hu_io.specs.State.{SinkState, Appended, Broke, PutsAll}
-
--- the texts before a part, its own, and those after it
-pub flat_map-split : {X : Type 0} (f : X → List ℕ) (xs : List X) (i : ℕ) (d : X) → i < length xs
-    → flat_map f (take i xs) ++ (f (get_or xs i d) ++ flat_map f (drop (i + 1) xs)) ≡ flat_map f xs
-flat_map-split f xs i d within =
-    ap (λ k. flat_map f (take i xs) ++ (f (get_or xs i d) ++ flat_map f (drop k xs))) (add-one i)
-    ∙ sym (flat_map-append f (take i xs) (get_or xs i d ∷ drop (suc i) xs))
-    ∙ ap (λ l. flat_map f (take i xs ++ l)) (sym (drop-cons xs i d within))
-    ∙ ap (flat_map f) (take-append-drop i xs)
 
 take-inside : (k : ℕ) (front text rest : List ℕ) → k < length text → take (length front + k) (front ++ (text ++ rest)) ≡ front ++ take k text
 take-inside k front text rest within =

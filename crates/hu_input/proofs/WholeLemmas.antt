@@ -6,20 +6,17 @@ use Rattle.hu_base.specs.Base.{carried_of, sum_of}
 use Rattle.hu_io.specs.State.{FilesState}
 use Rattle.hu_input.specs.declared.reason.Reason.{Reason}
 use Rattle.hu_input.specs.declared.intake.LineStop.{LineStop}
-use Rattle.hu_input.specs.declared.intake.LineStop.TheVariants as line
 use Rattle.hu_input.specs.declared.input.InputStop.{InputStop}
 use Rattle.hu_input.specs.declared.input.InputStop.TheVariants.{Refused, ReadFailed, NoMemory}
 use Rattle.hu_input.specs.View.{View}
 use Rattle.hu_input.specs.Input.{Refusal, with_front}
-use Rattle.hu_input.specs.Input as spec
-use Rattle.hu_input.specs.Intake.{IsFresh, IfHas, IfRefused, IsStopAt, StopsAt, bytes_in, outcome, outcome_at}
-use Rattle.hu_input.specs.Intake.{RefusesLast, Closes, TookPiece, RefusesPiece, TookFile, RefusesFile}
+use Rattle.hu_input.specs.Intake.{IsFresh, IfHas, IfRefused, IsStopAt, StopsAt, bytes_in, outcome, outcome_at, RefusesLast, Closes, TookPiece, RefusesPiece}
+use Rattle.hu_input.specs.Intake.{TookFile, RefusesFile}
 use Rattle.hu_input.proofs.FrontLemmas.{begun_same}
 use Rattle.hu_input.proofs.FileLemmas.{stops_at}
-
-with_front-nil : {R E : Type 0} (rest : Result (List R) E) → with_front [] rest ≡ rest
-with_front-nil (Ok more) = refl
-with_front-nil (Err e) = refl
+use Rattle.hu_input.proofs.NamesLemmas.{with_front-nil}
+use Rattle.hu_input.specs.declared.intake.LineStop.TheVariants as line
+use Rattle.hu_input.specs.Input as spec
 
 -- what is so of the content of a file that is told and there
 abbrev pub IfThere : FilesState → List ℕ → (List ℕ → Type 0) → Type 0

@@ -1,8 +1,8 @@
 -- What sets earn, how many records hold them and whether they are closed, with a batch of further records.
-use Rattle.std.proofs.Common.{◌≡◌, ◌∙◌, ℕ, ◌+◌, ◌<◌, ℤ, pos, negsuc, ◌+ℤ◌, ◌≤ℤ◌, int_lt, Bool, true, false, not, cond}
-use Rattle.std.proofs.Common.{◌&&◌, ◌||◌, eqb, List, [], ◌∷◌, ◌++◌, refl, sym, ap, inl, inr, arith, flat_map}
+use Rattle.std.proofs.Common.{◌≡◌, ◌∙◌, ℕ, ◌+◌, ◌<◌, ℤ, pos, negsuc, ◌+ℤ◌, ◌≤ℤ◌, int_lt, Bool, true, false, not, cond, ◌&&◌, ◌||◌, eqb, List, [], ◌∷◌, ◌++◌}
+use Rattle.std.proofs.Common.{refl, sym, ap, inl, inr, arith, flat_map}
 use Rattle.std.specs.List.{AllByRecursion, list_all, list_any}
-use Rattle.std.proofs.lemmas.Bool.{and_parts, and_from}
+use Rattle.std.proofs.lemmas.Bool.{and_parts, and_from, or_parts}
 use Rattle.std.proofs.lemmas.Int.{ints}
 use Rattle.std.proofs.lemmas.List.Elements.{recursion_from_All}
 use Rattle.std.proofs.lemmas.List.Folds.{list_all-append}
@@ -11,15 +11,11 @@ use Rattle.hu_kind.specs.Record.{any_negative, has, holds, items_in, utility_in,
 use Rattle.hu_kind.specs.Database.{items_of, support, utility}
 use Rattle.hu_kind.specs.Itemsets.{goes_with, is_closed}
 use Rattle.hu_kind.proofs.lemmas.Members.{Member, Member-flat_map}
-use Rattle.hu_kind.proofs.lemmas.Occurring.{Member-ranking, counted, has-member}
+use Rattle.hu_kind.proofs.lemmas.Occurring.{Member-ranking, counted, has-member, utility-unheld}
+use Rattle.hu_kind.proofs.lemmas.Tests.{all-at_member}
 use Rattle.hu_kept.specs.Laws.{KeepsUntouched, KeepsClosedness, StaysClosed, NeverLoses}
 
 -- ---- tests of all elements
-
-pub all-at : {A : Type 0} (p : A → Bool) (x : A) (xs : List A) → list_all p xs ≡ true → Member x xs → p x ≡ true
-all-at p x [] h m = absurd m
-all-at p x (y ∷ ys) h (inl e) = ap p (sym e) ∙ (and_parts (p y) (list_all p ys) h).0
-all-at p x (y ∷ ys) h (inr m) = all-at p x ys (and_parts (p y) (list_all p ys) h).1 m
 
 all-from : {A : Type 0} (p : A → Bool) (xs : List A) → ((x : A) → p x ≡ true) → list_all p xs ≡ true
 all-from p [] f = refl
@@ -48,14 +44,6 @@ unheld r rs items h = by (holds items r) refl
         let one : ◌≡◌ {A = ℕ} (cond (holds items r) 1 0) 1 = rw e refl in
         absurd (omega (arith, sum_by-cons (λ y. cond (holds items y) 1 0) r rs, one))
     by false e = (e, omega (arith, sum_by-cons (λ y. cond (holds items y) 1 0) r rs))
-
-utility-unheld : (batch : List (List (ℕ × ℤ))) (items : List ℕ) → support batch items ≡ 0 → utility batch items ≡ pos 0
-utility-unheld [] items h = refl
-utility-unheld (r ∷ rs) items h =
-    let none = unheld r rs items h in
-    let here : utility_in items r ≡ pos 0 = rw (none.0) refl in
-    let ih = utility-unheld rs items none.1 in
-    omega (arith, ints, here, ih)
 
 goes_with-unheld : (batch : List (List (ℕ × ℤ))) (items : List ℕ) (i : ℕ) → support batch items ≡ 0 → goes_with batch items i ≡ true
 goes_with-unheld [] items i h = refl
@@ -88,7 +76,7 @@ goes_with-occurs : (records : List (List (ℕ × ℤ))) (items : List ℕ) (i : 
     → goes_with records items i ≡ true → Member i (items_of records)
 goes_with-occurs records items i held h =
     let found = counted (holds items) records held in
-    let one : (not (holds items found.0) || has i found.0) ≡ true = all-at (λ r. not (holds items r) || has i r) found.0 records h found.1 in
+    let one : (not (holds items found.0) || has i found.0) ≡ true = all-at_member (λ r. not (holds items r) || has i r) found.0 records h found.1 in
     let here : has i found.0 ≡ true = rw (found.2) at one in
     Member-ranking i (flat_map items_in records) (Member-flat_map items_in found.0 i records found.1 (has-member i found.0 here))
 
@@ -100,7 +88,7 @@ closed-at records items held closed i out = by (goes_with records items i) refl
     by false e = refl
     by true e =
         let one : (inside i items || not (goes_with records items i)) ≡ true =
-        all-at (λ i. inside i items || not (goes_with records items i)) i (items_of records) closed
+        all-at_member (λ i. inside i items || not (goes_with records items i)) i (items_of records) closed
         (goes_with-occurs records items i held e) in
         let no : false ≡ true = rw (out, e) at one in
         cc
@@ -132,10 +120,6 @@ keeps_closedness records batch items none held = by (is_closed records items) (i
 
 -- ---- values that are not below 0
 
-or_false : (a b : Bool) → (a || b) ≡ false → (a ≡ false) × (b ≡ false)
-or_false true b k = cc
-or_false false b k = (refl, k)
-
 not_below : (v : ℤ) → int_lt v (pos 0) ≡ false → pos 0 ≤ℤ v
 not_below (pos n) k = omega (arith, ints)
 not_below (negsuc n) k = cc
@@ -147,7 +131,7 @@ cond-least false v w h k = k
 value_of-least : (item : ℕ) (cells : List (ℕ × ℤ)) → any_negative cells ≡ false → pos 0 ≤ℤ value_of item cells
 value_of-least item [] h = omega (arith, ints)
 value_of-least item (cell ∷ cells) h =
-    let both = or_false (int_lt cell.1 (pos 0)) (any_negative cells) h in
+    let both = or_parts (int_lt cell.1 (pos 0)) (any_negative cells) h in
     cond-least (eqb item cell.0) cell.1 (value_of item cells) (not_below cell.1 both.0) (value_of-least item cells both.1)
 
 values_of-least : (items : List ℕ) (cells : List (ℕ × ℤ)) → any_negative cells ≡ false → pos 0 ≤ℤ values_of items cells

@@ -12,6 +12,7 @@ use Rattle.indexmap.specs.IndexSet.{insert_key}
 use Rattle.hu_kind.specs.declared.item.Item.{Item}
 use Rattle.hu_kind.specs.Record.{has}
 use Rattle.hu_kind.proofs.lemmas.Members.{Contains-from_member, Member, Member-append_left, Member-append_right, Member-from_contains}
+use Rattle.hu_kind.proofs.lemmas.Each.{get_or-within}
 use Rattle.hu_totals.specs.Weights.{same_item}
 use Rattle.hu_kept.specs.declared.holders.Lists.{Lists}
 use Rattle.hu_kept.specs.Holders.{listed, listed_in, IsListed, ListsAll}
@@ -205,12 +206,6 @@ listed-then first mid last cells more place a b = record {
     by : (item : ℕ) (found : Bool) → has item cells ≡ found → (has item cells || has item more) ≡ true → Contains (listed_in last item) place
     by item true e h = b.kept item place (a.own item e)
     by item false e h = b.own item (rw e at h)
-
--- within a list it is no matter what stands past its end
-pub get_or-within : {A : Type 0} (xs : List A) (i : ℕ) (d e : A) → i < length xs → get_or xs i d ≡ get_or xs i e
-get_or-within [] i d e within = absurd (omega arith)
-get_or-within (x ∷ xs) zero d e within = refl
-get_or-within (x ∷ xs) (suc i) d e within = get_or-within xs i d e (omega arith)
 
 pub lists-next : (records : List (List (ℕ × ℤ))) (i : ℕ) (cells : List (ℕ × ℤ)) (old new : Lists) → i < length records → cells ≡ get_or records i cells
     → ListsAll (take i records) old → IsListed old cells i new → ListsAll (take (i + 1) records) new

@@ -1,27 +1,27 @@
 -- An untouched pattern outside the first k stays outside: each that came before it still does.
-use Rattle.std.proofs.Common.{◌≡◌, ◌∙◌, ◌≢◌, ◌⊎◌, ℕ, zero, suc, ◌≤◌, ℤ, ◌<ℤ◌, ◌≤ℤ◌, int_le, Bool, true, false, Option}
-use Rattle.std.proofs.Common.{None, Some, List, [], ◌∷◌, ◌++◌, map, take, refl, sym, ap, subst, inl, inr, arith, filter}
-use Rattle.std.proofs.Common.{Contains, Ordering, Less, Equal, Greater}
+use Rattle.std.proofs.Common.{◌≡◌, ◌∙◌, ◌≢◌, ◌⊎◌, ℕ, zero, suc, ◌≤◌, ℤ, ◌<ℤ◌, ◌≤ℤ◌, int_le, Bool, true, false, Option, None, Some, List, [], ◌∷◌, ◌++◌, map}
+use Rattle.std.proofs.Common.{take, refl, sym, ap, subst, inl, inr, arith, filter, Contains, Ordering, Less, Equal, Greater}
 use Rattle.std.specs.List.{AllByRecursion, IsDistinct, count_by}
 use Rattle.std.specs.List.Sorted.{IsStrictlySortedBy}
 use Rattle.std.specs.Ordering.{int_cmp, int_eq, is_lt, nat_cmp}
 use Rattle.std.specs.Cmp.{int_cmp_is, nat_cmp_is}
 use Rattle.std.specs.Cmp.Lexicographic.{slice_cmp}
 use Rattle.std.specs.Cmp.Rules.{signed_items}
-use lib.Pointwise.{pointwise}
 use Rattle.std.proofs.lemmas.Cmp.{int_eq_equiv, lists_equiv, tied_itself}
 use Rattle.std.proofs.lemmas.Int.{ints, by_lt_z}
 use Rattle.std.proofs.lemmas.List.{length-map}
 use Rattle.std.proofs.lemmas.List.Kept.{IsStrictlySortedBy-filter}
 use Rattle.std.proofs.lemmas.List.Sums.{length-filter}
 use Rattle.std.proofs.lemmas.Map.Made.{is_member-Decides, length-le_from_is_member}
+use lib.Pointwise.{pointwise}
 use Rattle.hu_kind.specs.declared.entry.Entry.{Entry}
 use Rattle.hu_kind.specs.Order.{cut, entry_cmp, entry_cmp_total, ranking}
 use Rattle.hu_kind.specs.Answer.{answer, found}
 use Rattle.hu_kind.proofs.lemmas.Members.{Contains-from_member, Member, Member-filter, Member-from_contains, Member-from_filter, Member-from_map, Member-map}
+use Rattle.hu_kind.proofs.lemmas.Members.{Member-from_take}
 use Rattle.hu_kind.proofs.lemmas.Occurring.{by_members}
-use Rattle.hu_collect.proofs.lemmas.Cutting.{sorted-cut, sorted-ranking}
 use Rattle.hu_kind.proofs.lemmas.EntryOrder.{entry_exact, entry_order}
+use Rattle.hu_collect.proofs.lemmas.Cutting.{sorted-cut, sorted-ranking}
 use Rattle.hu_collect.proofs.lemmas.Floor.{utility-before}
 use Rattle.hu_totals.proofs.lemmas.SortedLists.{Member-from_ranking, Member-to_ranking}
 use Rattle.hu_kept.specs.Kept.{Keeping, answer_of, patterns_of, with_batch}
@@ -185,15 +185,9 @@ module _ (closed : Bool) (least : ℤ) (records batch : List (List (ℕ × ℤ))
 
 -- ---- the law
 
-Member-take : {A : Type 0} (x : A) (k : ℕ) (xs : List A) → Member x (take k xs) → Member x xs
-Member-take x zero xs m = absurd m
-Member-take x (suc k) [] m = absurd m
-Member-take x (suc k) (y ∷ ys) (inl e) = inl e
-Member-take x (suc k) (y ∷ ys) (inr m) = inr (Member-take x k ys m)
-
 pub Member-cut : (limit : Option ℕ) (x : Entry) (xs : List Entry) → Member x (cut limit xs) → Member x xs
 Member-cut None x xs m = m
-Member-cut (Some k) x xs m = Member-take x k xs m
+Member-cut (Some k) x xs m = Member-from_take x k xs m
 
 -- the keys of an answer are distinct
 pub answer-distinct : (kept : Keeping) → IsDistinct (pointwise int_eq) (map (λ e. e.key) (answer_of kept))
@@ -216,7 +210,7 @@ module _ (closed : Bool) (least : ℤ) (records batch : List (List (ℕ × ℤ))
   stays-outside None either m = Member-from_found closed least records x (found-before (IsFound-from_member closed least (records ++ batch) x m))
   stays-outside (Some k) (inl e) m = cc
   stays-outside (Some k) (inr none) m =
-      let was = found-before (IsFound-from_member closed least (records ++ batch) x (Member-take x k (ranked_patterns closed least (records ++ batch)) m)) in
+      let was = found-before (IsFound-from_member closed least (records ++ batch) x (Member-from_take x k (ranked_patterns closed least (records ++ batch)) m)) in
       let few = count-first entry_cmp entry_cmp_total x k (ranked_patterns closed least (records ++ batch)) (sorted closed least (records ++ batch)) m in
       let fewer = count-kept closed least records batch none x was.pattern in
       first-count entry_cmp entry_cmp_total x k (ranked_patterns closed least records) (sorted closed least records)

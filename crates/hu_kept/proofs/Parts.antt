@@ -1,12 +1,12 @@
 -- The old entries that a batch doesn't touch and the touched patterns make the answer with the batch.
-use Rattle.std.proofs.Common.{◌≡◌, ◌∙◌, ◌⊎◌, ℕ, ℤ, int_le, Bool, true, false, not, Option, None, List, [], ◌∷◌, ◌++◌}
-use Rattle.std.proofs.Common.{refl, sym, ap, inl, inr, append-nil, filter}
+use Rattle.std.proofs.Common.{◌≡◌, ◌∙◌, ◌⊎◌, ℕ, ℤ, int_le, Bool, true, false, not, Option, None, List, [], ◌∷◌, ◌++◌, refl, sym, ap, inl, inr, append-nil}
+use Rattle.std.proofs.Common.{filter}
 use Rattle.std.specs.List.{AllByRecursion}
 use Rattle.hu_kind.specs.declared.entry.Entry.{Entry}
 use Rattle.hu_kind.specs.Order.{cut, entry_cmp, ranking}
 use Rattle.hu_kind.specs.Answer.{answer, found}
-use Rattle.hu_kind.proofs.lemmas.Members.{Contains-from_member, Member, Member-append_cases, Member-append_left}
-use Rattle.hu_kind.proofs.lemmas.Members.{Member-append_right, Member-filter, Member-from_contains, Member-from_filter}
+use Rattle.hu_kind.proofs.lemmas.Members.{Contains-from_member, Member, Member-append_cases, Member-append_left, Member-append_right, Member-filter}
+use Rattle.hu_kind.proofs.lemmas.Members.{Member-from_contains, Member-from_filter, filter-all}
 use Rattle.hu_kind.proofs.lemmas.Occurring.{by_members}
 use Rattle.hu_collect.specs.Rule.{Rule, made, passes, rule_of}
 use Rattle.hu_collect.proofs.lemmas.Made.{kept-made, makes_by_members, makes_by_passing, makes_in_turn}
@@ -18,10 +18,6 @@ use Rattle.hu_kept.proofs.Outside.{Member-cut, stays-outside}
 use Rattle.hu_kept.proofs.Patterns.{IsPattern-from_member, Member-from_pattern, answer-patterns, pattern-after}
 
 -- ---- a list between the first k of another and that other makes what the other does
-
-filter-all : (p : Entry → Bool) (xs : List Entry) → AllByRecursion (λ x. p x ≡ true) xs → filter p xs ≡ xs
-filter-all p [] all = refl
-filter-all p (x ∷ xs) all = rw (all.0) (ap (λ ys. x ∷ ys) (filter-all p xs all.1))
 
 module _ (least : ℤ) (top : Option ℕ) (all some : List Entry) where
   abbrev rule : Rule

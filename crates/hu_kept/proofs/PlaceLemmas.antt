@@ -1,6 +1,6 @@
 -- The records at places that rise share with a batch what all records do, where each that holds an item of it is among them.
-use Rattle.std.proofs.Common.{◌≡◌, ◌∙◌, ℕ, suc, ◌+◌, ◌-◌, ◌<◌, ◌≤◌, ℤ, true, false, List, [], ◌∷◌, ◌++◌, length, get_or}
-use Rattle.std.proofs.Common.{refl, sym, ap, subst, inl, inr, arith, flat_map, Contains}
+use Rattle.std.proofs.Common.{◌≡◌, ◌∙◌, ℕ, suc, ◌+◌, ◌-◌, ◌<◌, ◌≤◌, ℤ, true, false, List, [], ◌∷◌, ◌++◌, length, get_or, refl, sym, ap, subst, inl, inr, arith}
+use Rattle.std.proofs.Common.{flat_map, Contains}
 use Rattle.std.specs.List.{AllByRecursion}
 use Rattle.std.specs.List.Sorted.{IsStrictlyIncreasing}
 use Rattle.std.proofs.lemmas.Bool.{cases_lt, cases_order}
@@ -9,10 +9,9 @@ use Rattle.hu_kind.specs.Order.{Ascend}
 use Rattle.hu_kind.specs.Record.{has}
 use Rattle.hu_kind.proofs.lemmas.Each.{each-weaker}
 use Rattle.hu_kind.proofs.lemmas.Members.{Member, Member-from_contains, Member-from_filter, Member-map}
-use Rattle.hu_kind.proofs.lemmas.Occurring.{above_all, at_member}
+use Rattle.hu_kind.proofs.lemmas.Occurring.{above_all, at_member, has-from_member}
 use Rattle.hu_kept.specs.Holders.{AreHolders}
 use Rattle.hu_kept.specs.Shared.{occurs_in, shared, shared_at, shared_cells, some_of}
-use Rattle.hu_kept.proofs.SharedRecords.{member-has}
 
 Ascend-rising-from : (x : ℕ) (xs : List ℕ) → IsStrictlyIncreasing (x ∷ xs) → Ascend (x ∷ xs)
 Ascend-rising-from x [] up = (tt, tt)
@@ -110,7 +109,7 @@ some-left batch cells some = by (shared_cells batch cells) refl
     by [] e = absurd (some (ap some_of e))
     by (c ∷ cs) e =
         let both = Member-from_filter (λ (cell : ℕ × ℤ). occurs_in batch cell.0) c cells (subst (Member c) (sym e) (inl refl)) in
-        (c.0, both.1, member-has c.0 cells (Member-map (λ (cell : ℕ × ℤ). cell.0) c cells both.0))
+        (c.0, both.1, has-from_member c.0 cells (Member-map (λ (cell : ℕ × ℤ). cell.0) c cells both.0))
 
 given-start : (f : List (ℕ × ℤ) → List (List (ℕ × ℤ))) (records : List (List (ℕ × ℤ))) (places : List ℕ)
     → flat_map (λ place. f (get_or records place [])) places ≡ flat_map (λ place. f (get_or records (place - 0) [])) places

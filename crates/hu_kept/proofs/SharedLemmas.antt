@@ -1,6 +1,6 @@
 -- A set whose items occur in a batch earns, is held and goes with items in what records share with the batch as in the records.
-use Rattle.std.proofs.Common.{◌≡◌, ◌∙◌, ℕ, ◌<◌, ℤ, pos, ◌+ℤ◌, Bool, true, false, not, cond}
-use Rattle.std.proofs.Common.{◌&&◌, ◌||◌, eqb, List, [], ◌∷◌, length, refl, sym, ap, inl, inr, arith}
+use Rattle.std.proofs.Common.{◌≡◌, ◌∙◌, ℕ, ◌<◌, ℤ, pos, ◌+ℤ◌, Bool, true, false, not, cond, ◌&&◌, ◌||◌, eqb, List, [], ◌∷◌, length, refl, sym, ap, inl, inr}
+use Rattle.std.proofs.Common.{arith}
 use Rattle.std.specs.List.{AllByRecursion, list_any}
 use Rattle.std.proofs.lemmas.Bool.{and_parts, ne_eqb}
 use Rattle.std.proofs.lemmas.Int.{ints}
@@ -9,31 +9,18 @@ use Rattle.hu_kind.specs.Record.{has, holds, utility_in, value_of, values_of}
 use Rattle.hu_kind.specs.Database.{support, utility}
 use Rattle.hu_kind.specs.Itemsets.{goes_with, is_closed}
 use Rattle.hu_kind.proofs.lemmas.Members.{Member, Member-from_filter, Member-from_flat_map, Member-from_map}
-use Rattle.hu_kind.proofs.lemmas.Occurring.{counted, has-member}
+use Rattle.hu_kind.proofs.lemmas.Occurring.{counted, has-member, holds-none}
+use Rattle.hu_kind.proofs.lemmas.Tests.{all-at_member, any-from_member}
 use Rattle.hu_kept.specs.Shared.{occurs_in, shared, shared_cells, some_of}
-use Rattle.hu_kept.proofs.Batches.{all-at, closed-at, closed-from, goes_with-append, inside, support-append, utility-append}
+use Rattle.hu_kept.proofs.Batches.{closed-at, closed-from, goes_with-append, inside, support-append, utility-append}
 
 -- the items of a set occur in a batch
 abbrev pub Occur : List (List (ℕ × ℤ)) → List ℕ → Type 0
 Occur batch items = AllByRecursion (λ item. occurs_in batch item ≡ true) items
 
-pub any-member : {A : Type 0} (p : A → Bool) (x : A) (xs : List A) → Member x xs → p x ≡ true → list_any p xs ≡ true
-any-member p x [] m h = absurd m
-any-member p x (y ∷ ys) (inl e) h = let here : p y ≡ true = ap p e ∙ h in rw here refl
-any-member p x (y ∷ ys) (inr m) h = by (p y) (any-member p x ys m h)
-  where
-    by : (b : Bool) → list_any p ys ≡ true → (b || list_any p ys) ≡ true
-    by true k = refl
-    by false k = k
-
 and_true : (b : Bool) → (b && true) ≡ b
 and_true true = refl
 and_true false = refl
-
--- a set with an item isn't held by no cells
-holds-none : (items : List ℕ) → 0 < length items → holds items [] ≡ false
-holds-none [] some = absurd (omega arith)
-holds-none (i ∷ is) some = refl
 
 module _ (batch : List (List (ℕ × ℤ))) where
   -- ---- cells
@@ -129,7 +116,7 @@ module _ (batch : List (List (ℕ × ℤ))) where
       shared-goes_with i records held h =
           let found = counted (holds items) (shared batch records) held in
           let one : (not (holds items found.0) || has i found.0) ≡ true =
-          all-at (λ r. not (holds items r) || has i r) found.0 (shared batch records) h found.1 in
+          all-at_member (λ r. not (holds items r) || has i r) found.0 (shared batch records) h found.1 in
           let here : has i found.0 ≡ true = rw (found.2) at one in
           let from = Member-from_flat_map (λ cells. some_of (shared_cells batch cells)) found.0 records found.1 in
           shared-occurs i from.0 (ap (has i) (some-is found.0 (shared_cells batch from.0) from.2) ∙ here)
@@ -141,7 +128,7 @@ module _ (batch : List (List (ℕ × ℤ))) where
     where
       each : (r : List (ℕ × ℤ)) → Member r batch → (is : List ℕ) → holds is r ≡ true → Occur batch is
       each r m [] h = tt
-      each r m (i ∷ is) h = let both = and_parts (has i r) (holds is r) h in (any-member (has i) r batch m both.0, each r m is both.1)
+      each r m (i ∷ is) h = let both = and_parts (has i r) (holds is r) h in (any-from_member (has i) r batch m both.0, each r m is both.1)
 
   module _ (items : List ℕ) (some : 0 < length items) (held : 0 < support batch items)
       (records : List (List (ℕ × ℤ))) (within : (r : List (ℕ × ℤ)) → Member r batch → Member r records) where
@@ -153,9 +140,9 @@ module _ (batch : List (List (ℕ × ℤ))) where
     goes_with-occurs i h =
         let found = counted (holds items) batch held in
         let one : (not (holds items found.0) || has i found.0) ≡ true =
-        all-at (λ r. not (holds items r) || has i r) found.0 records h (within found.0 found.1) in
+        all-at_member (λ r. not (holds items r) || has i r) found.0 records h (within found.0 found.1) in
         let here : has i found.0 ≡ true = rw (found.2) at one in
-        any-member (has i) found.0 batch found.1 here
+        any-from_member (has i) found.0 batch found.1 here
 
     module _ (occurs : 0 < support records items) where
       occurs' : 0 < support (shared batch records) items

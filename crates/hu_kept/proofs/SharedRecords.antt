@@ -1,7 +1,6 @@
 -- What records share with a batch are records, with no greater sums, and what the totals of a batch say of its items.
-use Rattle.std.proofs.Common.{◌≡◌, ◌∙◌, ℕ, zero, suc, ◌+◌, ◌<◌, ◌≤◌, ℤ, unsigned_abs, Bool, true, false, cond, eqb, nat_eq}
-use Rattle.std.proofs.Common.{List, [], ◌∷◌, ◌++◌, ◌||◌, Some, map, take, drop, length, get_or}
-use Rattle.std.proofs.Common.{refl, sym, ap, subst, inl, inr, arith, add-one, append-nil, filter, flat_map, sum_by, is_some}
+use Rattle.std.proofs.Common.{◌≡◌, ◌∙◌, ℕ, zero, suc, ◌+◌, ◌<◌, ◌≤◌, ℤ, unsigned_abs, Bool, true, false, cond, eqb, nat_eq, List, [], ◌∷◌, ◌++◌, ◌||◌, Some}
+use Rattle.std.proofs.Common.{map, take, drop, length, get_or, refl, sym, ap, subst, inl, inr, arith, add-one, append-nil, filter, flat_map, sum_by, is_some}
 use Rattle.std.specs.List.{All, AllByRecursion, list_any}
 use Rattle.std.specs.Map.{lookup}
 use Rattle.std.proofs.lemmas.Bool.{eq-eqb, eqb-true}
@@ -12,14 +11,14 @@ use Rattle.std.proofs.lemmas.List.Sums.{sum_by-append, sum_by-cons}
 use Rattle.hu_kind.specs.Order.{Ascend}
 use Rattle.hu_kind.specs.Record.{IsRecord, absolute_of, has, items_in}
 use Rattle.hu_kind.proofs.lemmas.Members.{Member, Member-flat_map, Member-from_filter, Member-from_flat_map, Member-from_map}
-use Rattle.hu_kind.proofs.lemmas.Occurring.{at_member, by_members, has-member}
+use Rattle.hu_kind.proofs.lemmas.Occurring.{at_member, by_members, has-member, has-from_member}
+use Rattle.hu_kind.proofs.lemmas.Tests.{any-member, any-from_member}
 use Rattle.hu_totals.specs.declared.totals.ItemTotal.{ItemTotal}
 use Rattle.hu_totals.specs.Totals.{first_seen, item_totals, total_of}
 use Rattle.hu_totals.proofs.lemmas.AddingLemmas.{Member-first_seen, Member-from_first_seen}
 use Rattle.hu_totals.proofs.lemmas.RankingRules.{All-from_each}
 use Rattle.hu_totals.proofs.lemmas.RecordCells.{Ascend-record}
 use Rattle.hu_kept.specs.Shared.{batch_items, occurs_in, shared, shared_at, shared_cells, some_of}
-use Rattle.hu_kept.proofs.SharedLemmas.{any-member}
 
 module _ (p : ℕ × ℤ → Bool) where
   -- ---- the rules of a record for the cells that pass a test
@@ -134,20 +133,6 @@ sum-next batch records places i before within so_far whole =
 
 -- ---- the items of a batch
 
-any-found : {A : Type 0} (p : A → Bool) (xs : List A) → list_any p xs ≡ true → (x : A) × Member x xs × (p x ≡ true)
-any-found p [] h = cc
-any-found p (x ∷ xs) h = by (p x) refl h (any-found p xs)
-  where
-    by : (b : Bool) → p x ≡ b → (b || list_any p xs) ≡ true → (list_any p xs ≡ true → (y : _) × Member y xs × (p y ≡ true))
-        → (y : _) × Member y (x ∷ xs) × (p y ≡ true)
-    by true e k ih = (x, inl refl, e)
-    by false e k ih = let r = ih k in (r.0, inr r.1, r.2)
-
-pub member-has : (item : ℕ) (cells : List (ℕ × ℤ)) → Member item (items_in cells) → has item cells ≡ true
-member-has item cells m =
-    let cell = Member-from_map (λ (c : ℕ × ℤ). c.0) item cells m in
-    any-member (λ c. eqb item c.0) cell.0 cells cell.1 (eq-eqb item cell.0.0 (sym cell.2))
-
 found-keys : (f : ℕ → ItemTotal) (item : ℕ) (keys : List ℕ)
     → is_some (lookup (nat_eq item) (map (λ key. (key, f key)) keys)) ≡ list_any (eqb item) keys
 found-keys f item [] = refl
@@ -160,18 +145,18 @@ found-keys f item (key ∷ keys) = by (eqb item key) (found-keys f item keys)
 
 pub occurs-member : (records : List (List (ℕ × ℤ))) (item : ℕ) → occurs_in records item ≡ true → Member item (batch_items records)
 occurs-member records item h =
-    let r = any-found (has item) records h in
+    let r = any-member (has item) records h in
     Member-first_seen item (flat_map items_in records) (Member-flat_map items_in r.0 item records r.1 (has-member item r.0 r.2))
 
 pub occurs-totals : (records : List (List (ℕ × ℤ))) (item : ℕ) → is_some (lookup (nat_eq item) (item_totals records)) ≡ occurs_in records item
 occurs-totals records item =
     let seen = first_seen (flat_map items_in records) in
     found-keys (total_of records) item seen ∙ same (list_any (eqb item) seen) (occurs_in records item) (λ h.
-    let key = any-found (eqb item) seen h in
+    let key = any-member (eqb item) seen h in
     let m = Member-from_first_seen key.0 (flat_map items_in records) key.1 in
     let r = Member-from_flat_map items_in key.0 records m in
-    any-member (has item) r.0 records r.1 (member-has item r.0 (subst (λ i. Member i (items_in r.0)) (sym (eqb-true item key.0 key.2)) r.2))) (λ h.
-    any-member (eqb item) item seen (occurs-member records item h) (eq-eqb item item refl))
+    any-from_member (has item) r.0 records r.1 (has-from_member item r.0 (subst (λ i. Member i (items_in r.0)) (sym (eqb-true item key.0 key.2)) r.2))) (λ h.
+    any-from_member (eqb item) item seen (occurs-member records item h) (eq-eqb item item refl))
   where
     same : (a b : Bool) → (a ≡ true → b ≡ true) → (b ≡ true → a ≡ true) → a ≡ b
     same true b f g = sym (f refl)

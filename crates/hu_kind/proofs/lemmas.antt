@@ -12,3 +12,6 @@ pub mod Occurring
 pub mod RankingLemmas
 pub mod RecordLemmas
 pub mod Written
+pub mod Tests
+pub mod CellPlaces
+pub mod Subsequences

@@ -69,6 +69,11 @@ subsequences (e ∷ es) = flat_map (λ s. map (led_by s) (subsequences es)) (sub
 abbrev pub sequence_key : List (List ℕ) → List ℤ
 sequence_key pattern = flat_map (λ items. map pos items ++ negsuc 0 ∷ []) pattern
 
+-- a key whose last itemset is ended, if there is one
+abbrev pub closed : List ℤ → List ℤ
+closed [] = []
+closed (n ∷ ns) = n ∷ ns ++ negsuc 0 ∷ []
+
 -- the entry of a sequence: its key, its utility and its support
 abbrev pub sequence_entry : List (List (List (ℕ × ℤ))) → List (List ℕ) → Entry
 sequence_entry records pattern =

@@ -1,6 +1,6 @@
 -- No set with so many later ranks earns more than its bound.
-use Rattle.std.proofs.Common.{◌≡◌, ℕ, zero, suc, ◌<◌, ◌≤◌, Bool, true, false, cond, eqb, nat_lt, int_lt, ◌&&◌, inl, inr}
-use Rattle.std.proofs.Common.{ℤ, pos, ◌+ℤ◌, ◌≤ℤ◌, List, [], ◌∷◌, ◌++◌, take, length, refl, sym, ap, ◌∙◌, subst, arith}
+use Rattle.std.proofs.Common.{◌≡◌, ℕ, zero, suc, ◌<◌, ◌≤◌, Bool, true, false, cond, eqb, nat_lt, int_lt, ◌&&◌, inl, inr, ℤ, pos, ◌+ℤ◌, ◌≤ℤ◌, List, [], ◌∷◌}
+use Rattle.std.proofs.Common.{◌++◌, take, length, refl, sym, ap, ◌∙◌, subst, arith}
 use Rattle.std.specs.List.{AllByRecursion, list_all}
 use Rattle.std.proofs.lemmas.Bool.{eq-eqb, ne_eqb, cases_eq, and_parts, and_from, and_right, lt-ltb, ltb-true}
 use Rattle.std.proofs.lemmas.Int.{ints}
@@ -10,9 +10,10 @@ use Rattle.hu_kind.specs.Order.{Ascend}
 use Rattle.hu_kind.proofs.lemmas.Ascending.{Ascend-right, Ascend-across}
 use Rattle.hu_kind.proofs.lemmas.Earned.{positive_part-upper}
 use Rattle.hu_kind.proofs.lemmas.Members.{Member-append_right}
-use Rattle.hu_kind.proofs.lemmas.Occurring.{at_member, above_all, by_members, has-member}
+use Rattle.hu_kind.proofs.lemmas.Occurring.{at_member, above_all, by_members, has-member, holds-append, values_of-append}
 use Rattle.hu_lengths.specs.Bound.{later_values, values_after, falling, sum_of, sized_most, sized_bound}
 use Rattle.hu_lengths.proofs.GreatestLemmas.{NoLoss, first_sum, falling-falls, falling-least, first_sum-least, first_sum-more, put-keeps, put-counts}
+use Rattle.hu_totals.proofs.lemmas.KeptLemmas.{values_of-skip, holds-skip}
 
 -- ---- the values after a set are those after its last rank
 
@@ -51,19 +52,6 @@ values_after-least last (cell ∷ cells) = by (nat_lt last cell.0) (int_lt (pos 
     by false c h rest = rest
 
 -- ---- sets without a record's first cell
-
-holds-past : (set : List ℕ) (cell : ℕ × ℤ) (cells : List (ℕ × ℤ)) → AllByRecursion (λ i. cell.0 < i) set → holds set (cell ∷ cells) ≡ holds set cells
-holds-past [] cell cells above = refl
-holds-past (i ∷ is) cell cells above =
-    let other : eqb i cell.0 ≡ false = ne_eqb i cell.0 (λ e. absurd (omega arith)) in
-    rw other (λ j. has i cells && holds-past is cell cells above.1 j)
-
-values_of-past : (set : List ℕ) (cell : ℕ × ℤ) (cells : List (ℕ × ℤ)) → AllByRecursion (λ i. cell.0 < i) set
-    → values_of set (cell ∷ cells) ≡ values_of set cells
-values_of-past [] cell cells above = refl
-values_of-past (i ∷ is) cell cells above =
-    let other : eqb i cell.0 ≡ false = ne_eqb i cell.0 (λ e. absurd (omega arith)) in
-    rw other (λ j. value_of i cells +ℤ values_of-past is cell cells above.1 j)
 
 -- ---- the greatest values after a rank
 
@@ -113,11 +101,11 @@ values_of-best last (suc n) (m ∷ ms) (cell ∷ cells) up after few rise h = el
   | inl e ↦
       let both = and_parts (has m (cell ∷ cells)) (holds ms (cell ∷ cells)) h in
       let above : AllByRecursion (λ i. cell.0 < i) ms = subst (λ x. AllByRecursion (λ i. x < i) ms) e up.0 in
-      let rest = values_of-best last n ms cells up.1 after.1 (omega (arith, few)) rise.1 (sym (holds-past ms cell cells above) ∙ both.1) in
+      let rest = values_of-best last n ms cells up.1 after.1 (omega (arith, few)) rise.1 (sym (holds-skip ms cell cells above) ∙ both.1) in
       let here : eqb m cell.0 ≡ true = eq-eqb m cell.0 e in
       let later : last < cell.0 = subst (λ x. last < x) e after.0 in
       let counts = best-counts last n cell cells later in
-      rw here (rw (values_of-past ms cell cells above) (omega (arith, ints, rest, counts)))
+      rw here (rw (values_of-skip ms cell cells above) (omega (arith, ints, rest, counts)))
   | inr ne ↦
       let both = and_parts (has m (cell ∷ cells)) (holds ms (cell ∷ cells)) h in
       let later : cell.0 < m = elim (has-member m (cell ∷ cells) both.0) [
@@ -125,25 +113,12 @@ values_of-best last (suc n) (m ∷ ms) (cell ∷ cells) up after few rise h = el
         | inr n ↦ at_member (λ i. cell.0 < i) m (items_in cells) rise.0 n
       ] in
       let above : AllByRecursion (λ i. cell.0 < i) (m ∷ ms) = (later, above_all cell.0 m ms later up.0) in
-      let rest = values_of-best last (suc n) (m ∷ ms) cells up after few rise.1 (sym (holds-past (m ∷ ms) cell cells above) ∙ h) in
+      let rest = values_of-best last (suc n) (m ∷ ms) cells up after few rise.1 (sym (holds-skip (m ∷ ms) cell cells above) ∙ h) in
       let keeps = best-keeps last (suc n) cell cells in
-      rw (values_of-past (m ∷ ms) cell cells above) (omega (arith, ints, rest, keeps))
+      rw (values_of-skip (m ∷ ms) cell cells above) (omega (arith, ints, rest, keeps))
 ]
 
 -- ---- the law
-
-holds-append : (set more : List ℕ) (cells : List (ℕ × ℤ)) → holds (set ++ more) cells ≡ (holds set cells && holds more cells)
-holds-append [] more cells = refl
-holds-append (s ∷ ss) more cells = by (has s cells) (holds-append ss more cells)
-  where
-    by : (b : Bool) → holds (ss ++ more) cells ≡ (holds ss cells && holds more cells)
-        → (b && holds (ss ++ more) cells) ≡ ((b && holds ss cells) && holds more cells)
-    by true ih = ih
-    by false ih = refl
-
-values_of-append : (set more : List ℕ) (cells : List (ℕ × ℤ)) → values_of (set ++ more) cells ≡ values_of set cells +ℤ values_of more cells
-values_of-append [] more cells = omega (arith, ints)
-values_of-append (s ∷ ss) more cells = let ih = values_of-append ss more cells in omega (arith, ints)
 
 module _ (before more : List ℕ) (last room : ℕ) (up : Ascend ((before ++ last ∷ []) ++ more)) (ends : Ascend (before ++ last ∷ []))
     (few : length more ≤ room) where

@@ -1,7 +1,7 @@
 -- Places of values and cells, and the nodes of a set's list.
-use Rattle.std.proofs.Common.{◌≡◌, ℕ, zero, suc, ◌<◌, ◌≤◌, ◌+◌, Bool, true, false, cond, not, ltb, nat_lt, int_lt, ◌&&◌, inl, inr, ℤ, pos, negsuc}
-use Rattle.std.proofs.Common.{◌+ℤ◌, ◌≤ℤ◌, unsigned_abs, unwrap_or, List, [], ◌∷◌, ◌++◌, map, take, drop, length, get_or}
-use Rattle.std.proofs.Common.{insert, refl, sym, ap, ◌∙◌, subst, arith, one-add, sum_by}
+use Rattle.std.proofs.Common.{◌≡◌, ℕ, zero, suc, ◌<◌, ◌≤◌, ◌+◌, Bool, true, false, cond, not, ltb, nat_lt, int_lt, ◌&&◌, inl, inr, ℤ, pos, negsuc, ◌+ℤ◌, ◌≤ℤ◌}
+use Rattle.std.proofs.Common.{unsigned_abs, unwrap_or, List, [], ◌∷◌, ◌++◌, map, take, drop, length, get_or, insert, refl, sym, ap, ◌∙◌, subst, arith, one-add}
+use Rattle.std.proofs.Common.{sum_by}
 use Rattle.std.specs.List.{AllByRecursion, position, position_or_len, list_all}
 use Rattle.std.proofs.lemmas.Bool.{cases_lt, lt-ltb, le-ltb}
 use Rattle.std.proofs.lemmas.Int.{ints}
@@ -19,29 +19,14 @@ use Rattle.hu_totals.specs.Ranked.{Ranking, IsRanking}
 use Rattle.hu_totals.specs.View.{dense_pair, pairs_in}
 use Rattle.hu_list.specs.declared.list.Node.{Node}
 use Rattle.hu_list.specs.Nodes.{rest_after, nodes_from, weight_of}
-use Rattle.hu_lengths.specs.Bound.{later_values, values_after, put, falling, sum_of, sized_most}
-use Rattle.hu_lengths.specs.Bound.{sized_bound, most_at, most_of, IsNodeAt, IsList, IsSizedBound, BoundsSized}
+use Rattle.hu_list.proofs.lemmas.Windows.{Window, window-here, window-next, window-all}
+use Rattle.hu_list.proofs.lemmas.Positions.{position_or_len-le}
+use Rattle.hu_lengths.specs.Bound.{later_values, values_after, put, falling, sum_of, sized_most, sized_bound, most_at, most_of, IsNodeAt, IsList, IsSizedBound}
+use Rattle.hu_lengths.specs.Bound.{BoundsSized}
 use Rattle.hu_lengths.proofs.GreatestLemmas.{first_sum, falling-least, first_sum-least, first_sum-within, sum_of-falling, take-put}
 use Rattle.hu_lengths.proofs.BoundLemmas.{later_values-last, values_after-least, utility-bounded}
 
 -- ---- places of values
-
-position_or_len-le : {A : Type 0} (p : A → Bool) (xs : List A) → position_or_len p xs ≤ length xs
-position_or_len-le p [] = omega arith
-position_or_len-le p (x ∷ xs) = by (p x) (position_or_len-le p xs)
-  where
-    by : (b : Bool) → position_or_len p xs ≤ length xs → cond (not b) (1 + position_or_len p xs) 0 ≤ length (x ∷ xs)
-    by true rest = omega arith
-    by false rest = omega (arith, rest)
-
-pub unwrap_or-position : {A : Type 0} (p : A → Bool) (xs : List A) → unwrap_or (position p xs) (length xs) ≡ position_or_len p xs
-unwrap_or-position p xs = elim (cases_lt (position_or_len p xs) (length xs)) [
-  | inl within ↦ let test : ltb (position_or_len p xs) (length xs) ≡ true = lt-ltb (position_or_len p xs) (length xs) within in rw test refl
-  | inr past ↦
-      let test : ltb (position_or_len p xs) (length xs) ≡ false = le-ltb (position_or_len p xs) (length xs) past in
-      let most = position_or_len-le p xs in
-      rw test (omega arith)
-]
 
 pub insert-put : (v : ℤ) (xs : List ℤ) → insert xs (position_or_len (λ other. int_lt other v) xs) v ≡ put v xs
 insert-put v [] = refl
@@ -122,20 +107,6 @@ rest-values set (cell ∷ cells) = by (list_all (λ rank. nat_lt rank cell.0) se
     by true false h rest = let none = part-none cell.1 h in omega (arith, ints, none, rest)
     by false c h rest = omega (arith, ints, rest)
 
--- records that stand in others from a place on
-record Window (all : List (List (ℕ × ℤ))) (place : ℕ) (records : List (List (ℕ × ℤ))) : Type 0 where
-  fits : place + length records ≤ length all
-  same : (i : ℕ) → i < length records → get_or all (place + i) [] ≡ get_or records i []
-
-window-here : {all records : List (List (ℕ × ℤ))} {place : ℕ} {cells : List (ℕ × ℤ)} → Window all place (cells ∷ records) → get_or all place [] ≡ cells
-window-here {all} {place = place} w = let e : place ≡ place + 0 = omega arith in ap (λ i. get_or all i []) e ∙ w.same 0 (omega arith)
-
-window-next : {all records : List (List (ℕ × ℤ))} {place : ℕ} {cells : List (ℕ × ℤ)} → Window all place (cells ∷ records) → Window all (place + 1) records
-window-next {all} {place = place} w = record {
-  fits = let fits = w.fits in omega (arith, fits);
-  same = λ i within. let e : place + 1 + i ≡ place + suc i = omega arith in ap (λ k. get_or all k []) e ∙ w.same (suc i) (omega arith);
-}
-
 module _ (all : List (List (ℕ × ℤ))) (before : List ℕ) (last : ℕ) (up : Ascend (before ++ last ∷ [])) where
   nodes-from : (place : ℕ) (records : List (List (ℕ × ℤ))) → Window all place records → AllByRecursion (λ cells. Ascend (items_in cells)) records
       → AllByRecursion (IsNodeAt all last) (nodes_from place records (before ++ last ∷ []))
@@ -186,9 +157,6 @@ module _ (all : List (List (ℕ × ℤ))) (before : List ℕ) (last : ℕ) (up :
           ≡ (cond b (sized_most (before ++ last ∷ []) room cells) (pos 0) +ℤ sized_bound records (before ++ last ∷ []) room)
       by true rest = λ j. positive_part (values_of (before ++ last ∷ []) cells +ℤ sum_of (take room (falling (same j)))) +ℤ rest j
       by false rest = omega (arith, ints, rest)
-
-window-all : (records : List (List (ℕ × ℤ))) → Window records 0 records
-window-all records = record { fits = omega arith; same = λ i within. let e : 0 + i ≡ i = omega arith in ap (λ k. get_or records k []) e }
 
 pub nodes-at : (r : Ranking) → IsRanking r → (nodes : List Node) (last : ℕ) → IsList r nodes last → AllByRecursion (IsNodeAt r.records last) nodes
 nodes-at r rules nodes last (set, list) =

@@ -1,14 +1,13 @@
 -- The children that are chosen to be entered, and their tails.
-use Rattle.std.proofs.Common.{◌≡◌, ℕ, zero, suc, ◌<◌, true, false, eqb, ℤ, ◌≤ℤ◌, ◌<ℤ◌, List, [], ◌∷◌, length, get_or}
-use Rattle.std.proofs.Common.{take, inl, inr, ◌⊎◌, sym, ◌∙◌, subst, arith, Contains, nat_eq}
+use Rattle.std.proofs.Common.{◌≡◌, ℕ, zero, suc, ◌<◌, false, eqb, ℤ, ◌≤ℤ◌, ◌<ℤ◌, List, [], ◌∷◌, length, get_or, take, inl, inr, ◌⊎◌, subst}
+use Rattle.std.proofs.Common.{arith, Contains, nat_eq}
 use Rattle.std.specs.List.{AllByRecursion, IsDistinct}
 use Rattle.std.specs.List.Sorted.{IsPermutation}
-use Rattle.std.proofs.lemmas.Bool.{eq-eqb, cases_eq, ne_eqb}
 use Rattle.std.proofs.lemmas.Int.{ints}
 use Rattle.std.proofs.lemmas.List.Sorted.{IsPermutation-map, IsPermutation-sym, Contains-permutation}
 use Rattle.std.proofs.lemmas.Map.Keys.{IsDistinct-IsPermutation}
 use Rattle.hu_kind.proofs.lemmas.Each.{each-take}
-use Rattle.hu_kind.proofs.lemmas.Occurring.{at_member, by_members}
+use Rattle.hu_kind.proofs.lemmas.Occurring.{at_member, by_members, eqb-flips}
 use Rattle.hu_kind.proofs.lemmas.Members.{Member, Member-from_contains, Contains-from_member}
 use Rattle.hu_search.specs.declared.child.Child.{Child}
 use Rattle.hu_search.specs.Children.{Fall, ranks_of}
@@ -52,12 +51,6 @@ distinct-take (suc n) (x ∷ xs) once = (front n xs once.0, distinct-take n xs o
     front (suc n) [] all = tt
     front (suc n) (c ∷ cs) all = (all.0, front n cs all.1)
 
-flips : (x y : ℕ) → nat_eq x y ≡ nat_eq y x
-flips x y = elim (cases_eq x y) [
-  | inl e ↦ let a : eqb x y ≡ true = eq-eqb x y e in let b : eqb y x ≡ true = eq-eqb y x (sym e) in a ∙ sym b
-  | inr ne ↦ let a : eqb x y ≡ false = ne_eqb x y ne in let b : eqb y x ≡ false = ne_eqb y x (λ e. ne (sym e)) in a ∙ sym b
-]
-
 pub chosen-is : (floor : ℤ) (children sorted : List Child) (n : ℕ) → IsPermutation children sorted → Fall sorted → IsDistinct nat_eq (ranks_of children)
     → ((d : Child) → n < length sorted → (get_or sorted n d).bound <ℤ floor) → AreChosen floor children (take n sorted)
 chosen-is floor children sorted n same fall once cut = record {
@@ -68,6 +61,6 @@ chosen-is floor children sorted n same fall once cut = record {
     | inl here ↦ inl (Contains-from_member child (take n sorted) here)
     | inr low ↦ inr low
   ];
-  once = distinct-take n sorted (IsDistinct-IsPermutation nat_eq flips (ranks_of children) (ranks_of sorted)
+  once = distinct-take n sorted (IsDistinct-IsPermutation nat_eq eqb-flips (ranks_of children) (ranks_of sorted)
       (IsPermutation-map (λ (child : Child). child.rank) children sorted same) once);
 }

@@ -1,38 +1,21 @@
 -- What passes over tails come to: sums of what sets with a rank more earn, bounds on them, and their tails.
-use Rattle.std.proofs.Common.{◌≡◌, ℕ, ◌+◌, ◌<◌, Bool, true, false, cond, eqb, nat_lt, ◌&&◌, ℤ, pos, ◌+ℤ◌, ◌≤ℤ◌, List}
-use Rattle.std.proofs.Common.{[], ◌∷◌, ◌++◌, length, filter, inl, inr, refl, sym, ap, ◌∙◌, subst, arith, append_assoc}
-use Rattle.std.proofs.Common.{append-nil}
+use Rattle.std.proofs.Common.{◌≡◌, ℕ, ◌+◌, ◌<◌, Bool, true, false, cond, eqb, nat_lt, ◌&&◌, ℤ, pos, ◌+ℤ◌, ◌≤ℤ◌, List, [], ◌∷◌, ◌++◌, length, filter, inl, inr}
+use Rattle.std.proofs.Common.{refl, sym, ap, ◌∙◌, subst, arith, append_assoc, append-nil}
 use Rattle.std.specs.List.{AllByRecursion}
-use Rattle.std.proofs.lemmas.Bool.{ne_eqb, eq-eqb, eqb-true, and_parts, or_cases, cases_eq, le-ltb}
+use Rattle.std.proofs.lemmas.Bool.{ne_eqb, eq-eqb, cases_eq, le-ltb}
 use Rattle.std.proofs.lemmas.Int.{ints}
 use Rattle.std.proofs.lemmas.List.Elements.{filter-append}
 use Rattle.hu_kind.specs.Order.{Ascend}
 use Rattle.hu_kind.specs.Record.{has, holds, value_of, values_of, items_in, positive_part}
 use Rattle.hu_kind.proofs.lemmas.Occurring.{at_member, has-member}
 use Rattle.hu_list.specs.declared.sums.Sum.{Sum}
-use Rattle.hu_totals.specs.Cells.{after, among, kept_gain}
-use Rattle.hu_totals.proofs.lemmas.AfterLemmas.{Ascend-after, after-all, holds-after, values_of-after}
 use Rattle.hu_list.specs.Tails.{TailOf, earned, held, grown_at, grown, has_cells, share, gain_with}
 use Rattle.hu_list.specs.Passes.{met, met_in, gaining, summing, sum_with, growing}
-use Rattle.hu_totals.proofs.lemmas.KeptLemmas.{positive-least, positive-above, values_of-kept}
+use Rattle.hu_totals.specs.Cells.{after, among, kept_gain}
+use Rattle.hu_totals.proofs.lemmas.AfterLemmas.{Ascend-after, after-all, holds-after, values_of-after}
+use Rattle.hu_totals.proofs.lemmas.KeptLemmas.{positive-least, positive-above, values_of-kept, has-among}
 
 -- ---- a rank in a tail's cells
-
--- a rank of a set that a tail holds stands in it
-has-among : (z : ℕ) (set : List ℕ) (cells : List (ℕ × ℤ)) → among z set ≡ true → holds set cells ≡ true → has z cells ≡ true
-has-among z [] cells m h = cc
-has-among z (s ∷ set) cells m h =
-    let both = and_parts (has s cells) (holds set cells) h in
-    elim (or_cases (eqb z s) (among z set) m) [
-      | inl e ↦ subst (λ r. has r cells ≡ true) (sym (eqb-true z s e)) both.0
-      | inr later ↦ has-among z set cells later both.1
-    ]
-
--- a rank that all cells are above doesn't stand among them
-has-below : (z : ℕ) (cells : List (ℕ × ℤ)) → AllByRecursion (λ y. z < y) (items_in cells) → has z cells ≡ false
-has-below z [] below = refl
-has-below z (cell ∷ cells) below = let other : eqb z cell.0 ≡ false =
-    ne_eqb z cell.0 (λ e. let low = below.0 in absurd (omega arith)) in rw other (has-below z cells below.1)
 
 -- what a pass leaves at a rank: what its cell makes, by the cells after it
 module _ {A : Type 0} (make : ℕ × ℤ → List (ℕ × ℤ) → A → A) (z : ℕ) where

@@ -1,41 +1,36 @@
 -- What the tails of a set say of its children.
-use Rattle.std.proofs.Common.{◌≡◌, ℕ, zero, suc, ◌+◌, ◌<◌, Bool, true, false, cond, eqb, ◌||◌, ◌&&◌, ℤ, pos, ◌≤ℤ◌, ◌<ℤ◌}
-use Rattle.std.proofs.Common.{Option, None, Some, List, [], ◌∷◌, ◌++◌, length, get_or, take, inl, inr, ◌⊎◌, refl, sym}
-use Rattle.std.proofs.Common.{ap, ◌∙◌, subst, arith, Contains, nat_eq, append-nil, IfSome, MatchOption, Result, Ok, Err}
-use Rattle.std.proofs.Common.{IfOk}
+use Rattle.std.proofs.Common.{◌≡◌, ℕ, zero, suc, ◌+◌, ◌<◌, Bool, true, false, cond, eqb, ◌||◌, ◌&&◌, ℤ, pos, ◌≤ℤ◌, ◌<ℤ◌, Option, None, Some, List, [], ◌∷◌}
+use Rattle.std.proofs.Common.{◌++◌, length, get_or, take, inl, inr, ◌⊎◌, refl, sym, ap, ◌∙◌, subst, arith, Contains, nat_eq, append-nil, IfSome, MatchOption}
+use Rattle.std.proofs.Common.{Result, Ok, Err, IfOk}
 use Rattle.std.specs.Prelude.{⊤}
 use Rattle.std.specs.List.{AllByRecursion, IsDistinct}
 use Rattle.std.proofs.Math.Bool.{or-true}
-use Rattle.std.proofs.lemmas.Bool.{eq-eqb, eqb-true, or_cases, false≢true}
+use Rattle.std.proofs.lemmas.Bool.{eq-eqb, eqb-true, or_cases, false≢true, false_from_ne_true}
 use Rattle.std.proofs.lemmas.Int.{ints}
 use Rattle.std.proofs.lemmas.List.{take_more}
 use Rattle.hu_kind.specs.Order.{Ascend}
 use Rattle.hu_kind.specs.Record.{has, items_in}
 use Rattle.hu_kind.proofs.lemmas.Members.{Member, Member-append_left, Member-append_right, Member-from_contains, Contains-from_member}
+use Rattle.hu_kind.proofs.lemmas.Occurring.{at_member, by_members, has-member}
+use Rattle.hu_kind.proofs.lemmas.Each.{each-weaker, each-left, each-right, each-append}
+use Rattle.hu_kind.proofs.lemmas.Ascending.{Ascend-right, Ascend-across}
 use Rattle.hu_totals.specs.Ranked.{Ranking}
+use Rattle.hu_totals.specs.Cells.{among}
+use Rattle.hu_totals.proofs.lemmas.KeptLemmas.{among-member}
 use Rattle.hu_collect.specs.State.{State, floor_in}
 use Rattle.hu_search.specs.declared.child.Child.{Child}
 use Rattle.hu_search.specs.Growth.{InTable}
 use Rattle.hu_search.specs.Children.{IsChild, AreEnough, ranks_of}
-use Rattle.hu_kind.proofs.lemmas.Occurring.{at_member, by_members, has-member}
-use Rattle.hu_kind.proofs.lemmas.Each.{each-weaker, each-left, each-right, each-append}
-use Rattle.hu_kind.proofs.lemmas.Ascending.{Ascend-right, Ascend-across}
-use Rattle.hu_totals.specs.Cells.{among}
 use Rattle.hu_list.specs.declared.sums.Sum.{Sum}
 use Rattle.hu_list.specs.Slots.{at}
 use Rattle.hu_list.specs.Tails.{TailOf, held, gain_with}
 use Rattle.hu_list.specs.Passes.{met_in, gaining, summing, no_sum}
 use Rattle.hu_list.specs.View.{IsTail}
 use Rattle.hu_list.specs.Level.{IsLeft, IsRefused, IsMost, IsLevel, AreKept, sum_of}
-use Rattle.hu_list.proofs.SlotLemmas.{at-absent, distinct-before, at-place, false_from}
+use Rattle.hu_list.proofs.SlotLemmas.{at-absent, distinct-before, at-place}
 use Rattle.hu_list.proofs.GrowthLemmas.{AllUp, gained, gained-out, gain-unheld, earned-gain, summed-support, summed-utility, summed-bound}
 
 -- ---- ranks among others, and members
-
-among-member : (z : ℕ) (xs : List ℕ) → Member z xs → among z xs ≡ true
-among-member z [] m = absurd m
-among-member z (x ∷ xs) (inl e) = let here : eqb z x ≡ true = eq-eqb z x (sym e) in rw here refl
-among-member z (x ∷ xs) (inr m) = let later = among-member z xs m in rw later (or-true (eqb z x))
 
 member-among : (z : ℕ) (xs : List ℕ) → among z xs ≡ true → Member z xs
 member-among z [] m = cc
@@ -213,7 +208,7 @@ value-at ranks gains i once within len =
 pub kept-fresh : (ranks kept : List ℕ) (i : ℕ) → IsDistinct nat_eq ranks → i < length ranks
     → ((z : ℕ) → among z kept ≡ true → among z (take i ranks) ≡ true) → among (get_or ranks i 0) kept ≡ false
 kept-fresh ranks kept i once within before =
-    false_from (among (get_or ranks i 0) kept) (λ m. false≢true (sym (distinct-before ranks i 0 once within) ∙ before (get_or ranks i 0) m))
+    false_from_ne_true (among (get_or ranks i 0) kept) (λ m. false≢true (sym (distinct-before ranks i 0 once within) ∙ before (get_or ranks i 0) m))
 
 module _ (ranks kept kept' : List ℕ) (i : ℕ) (stays : Bool) (within : i < length ranks) (is : kept' ≡ kept ++ cond stays (get_or ranks i 0 ∷ []) []) where
   kept-cases : (z : ℕ) → among z kept' ≡ true → (among z kept ≡ true) ⊎ ((stays ≡ true) × (z ≡ get_or ranks i 0))

@@ -1,6 +1,6 @@
 -- What the list of a set says of the set.
-use Rattle.std.proofs.Common.{◌≡◌, ℕ, ◌<◌, ◌≤◌, ◌+◌, ◌^◌, Bool, true, false, cond, ltb, ℤ, pos, ◌+ℤ◌, ◌≤ℤ◌, List, []}
-use Rattle.std.proofs.Common.{◌∷◌, ◌++◌, length, refl, sym, ap, ◌∙◌, subst, arith, sum_by}
+use Rattle.std.proofs.Common.{◌≡◌, ℕ, ◌<◌, ◌≤◌, ◌+◌, ◌^◌, Bool, true, false, cond, ltb, ℤ, pos, ◌+ℤ◌, ◌≤ℤ◌, List, [], ◌∷◌, ◌++◌, length, refl, sym, ap, ◌∙◌}
+use Rattle.std.proofs.Common.{subst, arith, sum_by}
 use Rattle.std.specs.List.{AllByRecursion, list_all}
 use Rattle.std.proofs.lemmas.Bool.{and_parts}
 use Rattle.std.proofs.lemmas.Int.{ints}
@@ -9,13 +9,13 @@ use Rattle.hu_kind.proofs.lemmas.Earned.{positive_part-upper}
 use Rattle.hu_kind.specs.Record.{holds, values_of, utility_in, positive_part, items_in, absolute_of}
 use Rattle.hu_kind.specs.Database.{utility, support}
 use Rattle.hu_kind.specs.Order.{Ascend}
-use Rattle.hu_kind.proofs.lemmas.Occurring.{by_members}
+use Rattle.hu_kind.proofs.lemmas.Occurring.{by_members, holds-append, values_of-append}
+use Rattle.hu_kind.proofs.lemmas.Ascending.{each-ascending, Ascend-right, Ascend-across}
 use Rattle.hu_totals.specs.Ranked.{Ranking, IsRanking}
 use Rattle.hu_list.specs.declared.list.Node.{Node}
 use Rattle.hu_list.specs.Nodes.{rest_after, node_of, nodes_from, list_of, weight_of, AreRanked}
 use Rattle.hu_list.specs.Bounds.{own_sum, bound_of, list_bound, BoundsGrown}
-use Rattle.hu_kind.proofs.lemmas.Ascending.{each-ascending, Ascend-right, Ascend-across}
-use Rattle.hu_list.proofs.SetLemmas.{weight-within, values_of-after, holds-append, values_of-append, list_all-below}
+use Rattle.hu_list.proofs.SetLemmas.{weight-within, values_of-after, list_all-below}
 
 pub own_sum-nodes : (place : ℕ) (records : List (List (ℕ × ℤ))) (set : List ℕ) → own_sum (nodes_from place records set) ≡ utility records set
 own_sum-nodes place [] set = refl

@@ -1,18 +1,18 @@
 -- The list of a set joined with two later ranks is the merge of three lists.
-use Rattle.std.proofs.Common.{◌≡◌, ℕ, suc, ◌<◌, ◌≤◌, ◌+◌, ◌^◌, Bool, true, false, cond, eqb, ltb, ◌&&◌, ℤ, pos, ◌+ℤ◌}
-use Rattle.std.proofs.Common.{◌-ℤ◌, unsigned_abs, Option, Some, None, List, [], ◌∷◌, ◌++◌, refl, sym, ap, ◌∙◌, subst}
-use Rattle.std.proofs.Common.{inl, inr, arith, sum_by, option_to_list}
+use Rattle.std.proofs.Common.{◌≡◌, ℕ, suc, ◌<◌, ◌≤◌, ◌+◌, ◌^◌, Bool, true, false, cond, eqb, ltb, ◌&&◌, ℤ, pos, ◌+ℤ◌, ◌-ℤ◌, unsigned_abs, Option, Some, None}
+use Rattle.std.proofs.Common.{List, [], ◌∷◌, ◌++◌, refl, sym, ap, ◌∙◌, subst, inl, inr, arith, sum_by, option_to_list}
 use Rattle.std.specs.List.{AllByRecursion, list_all}
 use Rattle.std.proofs.lemmas.Bool.{cases_lt, lt-ltb, le-ltb, ne_eqb, eq-eqb}
 use Rattle.std.proofs.lemmas.Int.{ints}
 use Rattle.std.proofs.lemmas.List.Sums.{sum_by-cons}
 use Rattle.hu_kind.specs.Record.{has, holds, values_of, items_in, positive_part, absolute_of}
 use Rattle.hu_kind.specs.Order.{Ascend}
+use Rattle.hu_kind.proofs.lemmas.Ascending.{each-ascending, Ascend-right}
+use Rattle.hu_kind.proofs.lemmas.Occurring.{holds-append, values_of-append}
 use Rattle.hu_list.specs.declared.list.Node.{Node}
 use Rattle.hu_list.specs.Nodes.{rest_after, node_of, nodes_from, list_of, weight_of}
 use Rattle.hu_list.specs.Joins.{from_place, first_own, joined_node, merged, nodes_before, Fits, AllFit, IsPrefix, Joins}
-use Rattle.hu_kind.proofs.lemmas.Ascending.{each-ascending, Ascend-right}
-use Rattle.hu_list.proofs.SetLemmas.{weight-within, holds-append, values_of-append}
+use Rattle.hu_list.proofs.SetLemmas.{weight-within}
 use Rattle.hu_list.proofs.ListLemmas.{weight-list}
 
 -- ---- nodes by their places

@@ -1,26 +1,25 @@
 -- Passes over cells and tails, a cell at a time.
-use Rattle.std.proofs.Common.{◌≡◌, ℕ, zero, suc, ◌+◌, ◌<◌, ◌≤◌, Bool, true, false, cond, eqb, ◌||◌, ℤ, unsigned_abs}
-use Rattle.std.proofs.Common.{◌+ℤ◌, List, [], ◌∷◌, length, get_or, drop, inl, inr, refl, sym, ap, ◌∙◌, subst, arith}
-use Rattle.std.proofs.Common.{add-one, sum_by}
+use Rattle.std.proofs.Common.{◌≡◌, ℕ, zero, suc, ◌+◌, ◌<◌, ◌≤◌, Bool, true, false, cond, eqb, ◌||◌, ℤ, unsigned_abs, ◌+ℤ◌, List, [], ◌∷◌, length, get_or, drop}
+use Rattle.std.proofs.Common.{inl, inr, refl, sym, ap, ◌∙◌, subst, arith, add-one, sum_by}
 use Rattle.std.specs.List.{AllByRecursion}
 use Rattle.std.proofs.Math.Bool.{or-true}
 use Rattle.std.proofs.lemmas.Bool.{ne_eqb, eq-eqb, cases_eq}
 use Rattle.std.proofs.lemmas.List.{drop_more}
+use Rattle.std.proofs.lemmas.Int.{ints}
+use Rattle.std.proofs.lemmas.List.Sums.{sum_by-cons}
 use Rattle.hu_kind.specs.Order.{Ascend}
 use Rattle.hu_kind.specs.Record.{items_in, has, absolute_of}
 use Rattle.hu_kind.proofs.lemmas.Earned.{positive_part-within}
 use Rattle.hu_kind.proofs.lemmas.Occurring.{at_member, has-member}
 use Rattle.hu_totals.specs.declared.ranked.Dense.{Dense}
-use Rattle.hu_totals.specs.View.{dense_pair}
-use Rattle.std.proofs.lemmas.Int.{ints}
-use Rattle.std.proofs.lemmas.List.Sums.{sum_by-cons}
-use Rattle.hu_list.specs.declared.tail.Tail.{Tail}
+use Rattle.hu_totals.specs.View.{dense_pair, cells_of}
 use Rattle.hu_totals.specs.Cells.{among, kept_gain}
+use Rattle.hu_totals.proofs.lemmas.KeptLemmas.{kept_gain-within}
+use Rattle.hu_list.specs.declared.tail.Tail.{Tail}
 use Rattle.hu_list.specs.Tails.{TailOf, share, size_of}
 use Rattle.hu_list.specs.declared.sums.Sum.{Sum}
 use Rattle.hu_list.specs.Passes.{met, met_in, gaining, summing, sum_with, SumsFit}
-use Rattle.hu_list.specs.View.{cells_of, tail_of, tails_of}
-use Rattle.hu_totals.proofs.lemmas.KeptLemmas.{kept_gain-within}
+use Rattle.hu_list.specs.View.{tail_of, tails_of}
 use Rattle.hu_list.proofs.ShareLemmas.{share-within}
 
 module _ {A : Type 0} (make : ℕ × ℤ → List (ℕ × ℤ) → A → A) where
@@ -51,13 +50,6 @@ module _ {A : Type 0} (make : ℕ × ℤ → List (ℕ × ℤ) → A → A) wher
   ]
 
 -- ---- the cells of a record from a place on
-
--- what holds of each rank holds of that at a place
-pub rank-at : (P : ℕ → Type 0) (cells : List Dense) (i : ℕ) (d : Dense) → AllByRecursion P (items_in (cells_of cells))
-    → i < length cells → P (get_or cells i d).rank
-rank-at P [] i d all within = absurd (omega arith)
-rank-at P (cell ∷ cells) zero d all within = all.0
-rank-at P (cell ∷ cells) (suc i) d all within = rank-at P cells i d all.1 (omega arith)
 
 -- the rank at a place is below those after it
 pub rank-below : (cells : List Dense) (i : ℕ) (d : Dense) → Ascend (items_in (cells_of cells)) → i < length cells

@@ -1,27 +1,17 @@
 -- Nodes and cells by their places in a list.
-use Rattle.std.proofs.Common.{◌≡◌, ℕ, zero, suc, ◌<◌, ◌≤◌, ◌+◌, ◌^◌, Bool, true, false, cond, not, eqb, ltb, leb, ℤ}
-use Rattle.std.proofs.Common.{◌+ℤ◌, ◌-ℤ◌, unsigned_abs, slice_get, Option, Some, None, unwrap_or, inl, inr, List, []}
-use Rattle.std.proofs.Common.{◌∷◌, map, length, get_or, take, drop, refl, sym, ap, ◌∙◌, subst, arith, one-add}
+use Rattle.std.proofs.Common.{◌≡◌, ℕ, zero, suc, ◌<◌, ◌≤◌, ◌+◌, ◌^◌, Bool, true, false, cond, not, eqb, ltb, leb, ℤ, ◌+ℤ◌, ◌-ℤ◌, unsigned_abs, slice_get}
+use Rattle.std.proofs.Common.{Option, Some, None, inl, inr, List, [], ◌∷◌, map, length, get_or, drop, refl, sym, ap, ◌∙◌, subst, arith}
+use Rattle.std.proofs.Common.{one-add}
 use Rattle.std.specs.List.{position, position_or_len}
 use Rattle.std.proofs.lemmas.Bool.{cases_lt, lt-ltb, le-ltb, lt-leb, le-leb, eqb-true, eq-eqb}
-use Rattle.std.proofs.lemmas.Int.{ints}
 use Rattle.std.proofs.lemmas.List.Quantifiers.{position-Some}
 use Rattle.std.proofs.lemmas.List.Sums.{sum_by-cons}
-use Rattle.hu_kind.proofs.lemmas.Earned.{positive_part-within}
-use Rattle.hu_kind.specs.Record.{gain, positive_part, absolute_of}
+use Rattle.hu_kind.specs.Record.{gain, absolute_of}
 use Rattle.hu_totals.specs.declared.ranked.Dense.{Dense}
 use Rattle.hu_totals.specs.View.{dense_pair}
 use Rattle.hu_list.specs.declared.list.Node.{Node}
 use Rattle.hu_list.specs.Joins.{from_place, first_own, joined_node, Fits}
 use Rattle.hu_list.specs.Nodes.{node_in}
-
-pub position_or_len-le : {A : Type 0} (p : A → Bool) (xs : List A) → position_or_len p xs ≤ length xs
-position_or_len-le p [] = omega arith
-position_or_len-le p (x ∷ xs) = by (p x) (position_or_len-le p xs)
-  where
-    by : (b : Bool) → position_or_len p xs ≤ length xs → cond (not b) (1 + position_or_len p xs) 0 ≤ length (x ∷ xs)
-    by true ih = omega arith
-    by false ih = omega arith
 
 pub from_place-drop : (place : ℕ) (nodes : List Node) → drop (position_or_len (λ node. leb place node.place) nodes) nodes ≡ from_place place nodes
 from_place-drop place [] = refl
@@ -35,15 +25,6 @@ from_place-drop place (node ∷ nodes) = elim (cases_lt node.place place) [
       let passed : leb place node.place ≡ true = le-leb place node.place here in
       let test : ltb node.place place ≡ false = le-ltb node.place place here in
       rw (passed, test) refl
-]
-
-pub unwrap_or-position : {A : Type 0} (p : A → Bool) (xs : List A) → unwrap_or (position p xs) (length xs) ≡ position_or_len p xs
-unwrap_or-position p xs = elim (cases_lt (position_or_len p xs) (length xs)) [
-  | inl within ↦ let test : ltb (position_or_len p xs) (length xs) ≡ true = lt-ltb (position_or_len p xs) (length xs) within in rw test refl
-  | inr past ↦
-      let test : ltb (position_or_len p xs) (length xs) ≡ false = le-ltb (position_or_len p xs) (length xs) past in
-      let most = position_or_len-le p xs in
-      rw test (omega arith)
 ]
 
 -- the cell of a rank, by its index
@@ -117,22 +98,6 @@ absolute_of-at (cell ∷ cells) (suc i) d within =
       absolute_of-at cells i d (omega arith),
       sum_by-cons (λ (c : ℕ × ℤ). unsigned_abs c.1) (dense_pair cell) (map dense_pair cells),
     )
-
--- the sum of the values above 0, cell by cell
-pub gain-more : (cells : List Dense) (i : ℕ) (d : Dense) → i < length cells → gain (map dense_pair (take (suc i) cells))
-    ≡ gain (map dense_pair (take i cells)) +ℤ positive_part (get_or cells i d).value
-gain-more [] i d within = absurd (omega arith)
-gain-more (cell ∷ cells) zero d within = omega (arith, ints)
-gain-more (cell ∷ cells) (suc i) d within = let ih = gain-more cells i d (omega arith) in omega (arith, ints)
-
-pub gain-take : (cells : List Dense) (i : ℕ) → unsigned_abs (gain (map dense_pair (take i cells))) ≤ absolute_of (map dense_pair cells)
-gain-take [] zero = omega arith
-gain-take [] (suc i) = omega arith
-gain-take (cell ∷ cells) zero = omega arith
-gain-take (cell ∷ cells) (suc i) =
-    let ih = gain-take cells i in
-    let part = positive_part-within cell.value in
-    omega (arith, ints, sum_by-cons (λ (c : ℕ × ℤ). unsigned_abs c.1) (dense_pair cell) (map dense_pair cells))
 
 -- the first node of a list
 slice_get-first : (x z : Node) (zs : List Node) → slice_get (z ∷ zs) 0 ≡ Some x → z ≡ x

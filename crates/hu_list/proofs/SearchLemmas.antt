@@ -1,27 +1,26 @@
 -- What a search over tails does, set by set.
-use Rattle.std.proofs.Common.{◌≡◌, ℕ, ◌+◌, ◌<◌, ◌≤◌, Bool, true, false, cond, ℤ, pos, ◌+ℤ◌, ◌≤ℤ◌, List, [], ◌∷◌, ◌++◌}
-use Rattle.std.proofs.Common.{length, map, sum_by, inl, inr, refl, sym, ap, ◌∙◌, subst, arith, append_assoc, Contains}
+use Rattle.std.proofs.Common.{◌≡◌, ℕ, ◌+◌, ◌<◌, ◌≤◌, Bool, true, false, cond, ℤ, pos, ◌+ℤ◌, ◌≤ℤ◌, List, [], ◌∷◌, ◌++◌, length, map, sum_by, inl, inr, refl, sym}
+use Rattle.std.proofs.Common.{ap, ◌∙◌, subst, arith, append_assoc, Contains}
 use Rattle.std.specs.List.{AllByRecursion}
 use Rattle.std.proofs.lemmas.Int.{ints}
+use Rattle.std.proofs.lemmas.List.Sums.{sum_by-cons}
 use Rattle.hu_kind.specs.declared.entry.Entry.{Entry}
 use Rattle.hu_kind.specs.Database.{utility, support}
 use Rattle.hu_kind.specs.Order.{Ascend}
 use Rattle.hu_kind.proofs.lemmas.Members.{Member, Member-map, Member-from_map, Member-from_contains, Contains-from_member}
 use Rattle.hu_kind.proofs.lemmas.Occurring.{at_member, by_members}
-use Rattle.hu_search.proofs.lemmas.UnrankLemmas.{InTable-occurs}
-use Rattle.hu_totals.specs.Ranked.{Ranking}
-use Rattle.hu_collect.specs.State.{State, floor_in, IsInOrder, Reached}
-use Rattle.hu_collect.specs.Rule.{passes}
-use Rattle.hu_collect.proofs.lemmas.Searching.{reached-none}
-use Rattle.hu_search.specs.declared.child.Child.{Child}
-use Rattle.hu_search.specs.Growth.{rank_entry, Grows}
-use Rattle.hu_search.specs.Children.{IsChild, AreChildren, AreEnough, AreOpen, IsBarren, IsBound, Counts, ranks_of}
 use Rattle.hu_kind.proofs.lemmas.Each.{each-weaker, each-right}
-use Rattle.std.proofs.lemmas.List.Sums.{sum_by-cons}
 use Rattle.hu_kind.specs.Record.{items_in, holds, values_of, absolute_of}
-use Rattle.hu_totals.specs.Ranked.{IsRanking}
 use Rattle.hu_kind.proofs.lemmas.Ascending.{each-ascending, each-in_range}
+use Rattle.hu_search.proofs.lemmas.UnrankLemmas.{InTable-occurs}
+use Rattle.hu_search.specs.declared.child.Child.{Child}
+use Rattle.hu_search.specs.Growth.{rank_entry}
+use Rattle.hu_search.specs.Children.{IsChild, AreChildren, AreEnough, AreOpen, IsBarren, IsBound, Counts, ranks_of}
+use Rattle.hu_search.proofs.lemmas.Children.{counts-before}
+use Rattle.hu_totals.specs.Ranked.{Ranking, IsRanking}
 use Rattle.hu_totals.specs.Cells.{among}
+use Rattle.hu_totals.proofs.lemmas.DenseLemmas.{each-rank}
+use Rattle.hu_collect.specs.State.{State, floor_in}
 use Rattle.hu_list.specs.Tails.{TailOf, tail_from, earned, held, size_of}
 use Rattle.hu_list.specs.View.{IsTail}
 use Rattle.hu_list.specs.Level.{IsLeft, IsMost, IsLevel, AreChosen}
@@ -46,13 +45,6 @@ next-below (x ∷ y ∷ xs) z up = next-below (y ∷ xs) z up.1
 -- the last rank of a set is in the table where all are
 pub last-in : (set : List ℕ) (z n : ℕ) → AllByRecursion (λ rank. rank < n) (set ++ z ∷ []) → z < n
 last-in set z n all = let last = each-right (λ rank. rank < n) set (z ∷ []) all in last.0
-
--- what counts later counted before
-counts-before : {s t : State} {e : Entry} → t.rule ≡ s.rule → floor_in s ≤ℤ floor_in t → Counts t e → Counts s e
-counts-before {e = e} same rises counts = record {
-  pass = subst (λ rule. passes rule e ≡ true) same counts.pass;
-  high = let high = counts.high in omega (arith, ints, rises, high);
-}
 
 -- ranks that are enough for a set are so later on, and for each set with one of its ranks more
 pub enough-later : (s t : State) (r : Ranking) (set : List ℕ) (z : ℕ) (ranks : List ℕ) → t.rule ≡ s.rule
@@ -106,9 +98,6 @@ chosen-children r set floor children chosen right are = by_members (IsChild r se
 
 -- ---- sets that lead to nothing
 
-pub barren-reached : (s : State) (r : Ranking) (set : List ℕ) → IsInOrder s → IsBarren s r set → Reached s (Grows r set) s
-barren-reached s r set ordered barren = reached-none {P = Grows r set} s ordered (λ e grows pass high. barren e grows (record { pass = pass; high = high }))
-
 -- nothing grows a set without tails
 pub empty-barren : (s : State) (r : Ranking) (set : List ℕ) (tails : List TailOf) → IsLeft r set tails → length tails ≡ 0 → IsBarren s r set
 empty-barren s r set [] left none entry grows counts = by grows.more grows.some grows.ascending grows.occurs
@@ -150,10 +139,6 @@ sizes-first (cells ∷ records) =
       sizes-first records,
     )
 
-items-below : (n : ℕ) (cells : List (ℕ × ℤ)) → AllByRecursion (λ cell. cell.0 < n) cells → AllByRecursion (λ rank. rank < n) (items_in cells)
-items-below n [] all = tt
-items-below n (cell ∷ cells) all = (all.0, items-below n cells all.1)
-
 each-first : (P : List (ℕ × ℤ) → Type 0) (Q : TailOf → Type 0) (records : List (List (ℕ × ℤ)))
     → ((cells : List (ℕ × ℤ)) → P cells → Q (tail_from cells)) → AllByRecursion P records
     → AllByRecursion Q (map tail_from records)
@@ -168,7 +153,7 @@ pub left-first : (r : Ranking) → IsRanking r → IsLeft r [] (map tail_from r.
 left-first r rules = record {
   rules = record {
     each = each-first (λ cells. Ascend (items_in cells) × AllByRecursion (λ cell. cell.0 < length r.items) cells) (IsTail (length r.items)) r.records
-        (λ cells both. record { ascending = both.0; in_range = items-below (length r.items) cells both.1 })
+        (λ cells both. record { ascending = both.0; in_range = each-rank (length r.items) cells both.1 })
         (both-each (λ cells. Ascend (items_in cells)) (λ cells. AllByRecursion (λ cell. cell.0 < length r.items) cells) r.records
         (each-ascending r.records rules.ascending) (each-in_range (length r.items) r.records rules.in_range));
     sizes = let fits = rules.sum_fits in omega (arith, sizes-first r.records, fits);

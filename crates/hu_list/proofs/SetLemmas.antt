@@ -1,6 +1,6 @@
 -- What an ascending set earns in a record whose ranks ascend, and what stands after it there.
-use Rattle.std.proofs.Common.{◌≡◌, ℕ, ◌<◌, ◌≤◌, ◌+◌, Bool, true, false, cond, eqb, ltb, ◌&&◌, ◌⊎◌, inl, inr, ℤ, pos}
-use Rattle.std.proofs.Common.{◌+ℤ◌, ◌≤ℤ◌, unsigned_abs, List, [], ◌∷◌, ◌++◌, refl, sym, ap, ◌∙◌, subst, arith}
+use Rattle.std.proofs.Common.{◌≡◌, ℕ, ◌<◌, ◌≤◌, ◌+◌, true, false, cond, eqb, ltb, ◌⊎◌, inl, inr, ℤ, pos, ◌+ℤ◌, ◌≤ℤ◌, unsigned_abs, List, [], ◌∷◌}
+use Rattle.std.proofs.Common.{refl, sym, ap, ◌∙◌, subst, arith}
 use Rattle.std.specs.List.{AllByRecursion, list_all}
 use Rattle.std.proofs.lemmas.Bool.{eq-eqb, ne_eqb, cases_eq, and_parts, and_from, lt-ltb, le-ltb}
 use Rattle.std.proofs.lemmas.Int.{ints}
@@ -10,23 +10,15 @@ use Rattle.hu_kind.specs.Order.{Ascend}
 use Rattle.hu_kind.proofs.lemmas.Earned.{positive_part-upper, positive_part-within}
 use Rattle.hu_kind.proofs.lemmas.Occurring.{at_member, above_all, has-member}
 use Rattle.hu_list.specs.Nodes.{rest_after}
+use Rattle.hu_totals.proofs.lemmas.KeptLemmas.{values_of-skip, holds-skip, part-least}
 
 -- ---- sets without a record's first cell
 
 has-past : (item : ℕ) (cell : ℕ × ℤ) (cells : List (ℕ × ℤ)) → cell.0 < item → has item (cell ∷ cells) ≡ has item cells
 has-past item cell cells above = let other : eqb item cell.0 ≡ false = ne_eqb item cell.0 (λ e. absurd (omega arith)) in rw other refl
 
-pub holds-past : (set : List ℕ) (cell : ℕ × ℤ) (cells : List (ℕ × ℤ)) → AllByRecursion (λ i. cell.0 < i) set → holds set (cell ∷ cells) ≡ holds set cells
-holds-past [] cell cells above = refl
-holds-past (i ∷ is) cell cells above = λ j. has-past i cell cells above.0 j && holds-past is cell cells above.1 j
-
 value_of-past : (item : ℕ) (cell : ℕ × ℤ) (cells : List (ℕ × ℤ)) → cell.0 < item → value_of item (cell ∷ cells) ≡ value_of item cells
 value_of-past item cell cells above = let other : eqb item cell.0 ≡ false = ne_eqb item cell.0 (λ e. absurd (omega arith)) in rw other refl
-
-pub values_of-past : (set : List ℕ) (cell : ℕ × ℤ) (cells : List (ℕ × ℤ)) → AllByRecursion (λ i. cell.0 < i) set
-    → values_of set (cell ∷ cells) ≡ values_of set cells
-values_of-past [] cell cells above = refl
-values_of-past (i ∷ is) cell cells above = λ j. value_of-past i cell cells above.0 j +ℤ values_of-past is cell cells above.1 j
 
 value_of-first : (item : ℕ) (cell : ℕ × ℤ) (cells : List (ℕ × ℤ)) → item ≡ cell.0 → value_of item (cell ∷ cells) ≡ cell.1
 value_of-first item cell cells e = let here : eqb item cell.0 ≡ true = eq-eqb item cell.0 e in rw here refl
@@ -40,7 +32,7 @@ first_held s ss cell cells up rise h = elim (cases_eq s cell.0) [
   | inl e ↦
       let above : AllByRecursion (λ i. cell.0 < i) ss = subst (λ x. AllByRecursion (λ i. x < i) ss) e up.0 in
       let both = and_parts (has s (cell ∷ cells)) (holds ss (cell ∷ cells)) h in
-      inl (e, above, sym (holds-past ss cell cells above) ∙ both.1)
+      inl (e, above, sym (holds-skip ss cell cells above) ∙ both.1)
   | inr ne ↦
       let both = and_parts (has s (cell ∷ cells)) (holds ss (cell ∷ cells)) h in
       let later : cell.0 < s = elim (has-member s (cell ∷ cells) both.0) [
@@ -48,20 +40,16 @@ first_held s ss cell cells up rise h = elim (cases_eq s cell.0) [
         | inr m ↦ at_member (λ i. cell.0 < i) s (items_in cells) rise.0 m
       ] in
       let above : AllByRecursion (λ i. cell.0 < i) (s ∷ ss) = (later, above_all cell.0 s ss later up.0) in
-      inr (above, sym (holds-past (s ∷ ss) cell cells above) ∙ h)
+      inr (above, sym (holds-skip (s ∷ ss) cell cells above) ∙ h)
 ]
 
 -- ---- what stands after a set
-
-counted-least : (b : Bool) (value : ℤ) → pos 0 ≤ℤ cond b (positive_part value) (pos 0)
-counted-least true value = (positive_part-upper value).1
-counted-least false value = omega (arith, ints)
 
 pub rest_after-least : (set : List ℕ) (cells : List (ℕ × ℤ)) → pos 0 ≤ℤ rest_after set cells
 rest_after-least set [] = omega (arith, ints)
 rest_after-least set (cell ∷ cells) =
     let ih = rest_after-least set cells in
-    let one = counted-least (list_all (λ rank. ltb rank cell.0) set) cell.1 in
+    let one = part-least (list_all (λ rank. ltb rank cell.0) set) cell.1 in
     omega (arith, ints)
 
 -- ranks below all of a record's don't matter
@@ -91,7 +79,7 @@ weight-within (cell ∷ cells) [] up rise h =
 weight-within (cell ∷ cells) (s ∷ ss) up rise h = elim (first_held s ss cell cells up rise h) [
   | inl first ↦
       let value = value_of-first s cell cells first.0 in
-      let rest = values_of-past ss cell cells first.1 in
+      let rest = values_of-skip ss cell cells first.1 in
       let here = rest_after-not s ss cell cells (omega (arith, first.0)) in
       let skip = rest_after-skip s ss cells (subst (λ x. AllByRecursion (λ i. x < i) (items_in cells)) (sym first.0) rise.0) in
       let ih = weight-within cells ss up.1 rise.1 first.2 in
@@ -99,7 +87,7 @@ weight-within (cell ∷ cells) (s ∷ ss) up rise h = elim (first_held s ss cell
       let after : rest_after (s ∷ ss) (cell ∷ cells) ≡ rest_after ss cells = here ∙ skip in
       rw (values, after) (omega (arith, ints, sum_by-cons (λ c. unsigned_abs c.1) cell cells, ih))
   | inr later ↦
-      let values = values_of-past (s ∷ ss) cell cells later.0 in
+      let values = values_of-skip (s ∷ ss) cell cells later.0 in
       let above : cell.0 < s = later.0.0 in
       let after = rest_after-not s ss cell cells (omega arith) in
       let ih = weight-within cells (s ∷ ss) up rise.1 later.1 in
@@ -115,7 +103,7 @@ values_of-after (cell ∷ cells) set [] up rise h after = rest_after-least set (
 values_of-after (cell ∷ cells) set (m ∷ ms) up rise h after = elim (first_held m ms cell cells up rise h) [
   | inl first ↦
       let value = value_of-first m cell cells first.0 in
-      let rest = values_of-past ms cell cells first.1 in
+      let rest = values_of-skip ms cell cells first.1 in
       let values : values_of (m ∷ ms) (cell ∷ cells) ≡ cell.1 +ℤ values_of ms cells = λ j. value j +ℤ rest j in
       let here : list_all (λ rank. ltb rank cell.0) set ≡ true = subst (λ x. list_all (λ rank. ltb rank x) set ≡ true) first.0 after.0 in
       let counts : rest_after set (cell ∷ cells) ≡ positive_part cell.1 +ℤ rest_after set cells =
@@ -124,26 +112,13 @@ values_of-after (cell ∷ cells) set (m ∷ ms) up rise h after = elim (first_he
       let part = (positive_part-upper cell.1).0 in
       rw (values, counts) (omega (arith, ints, ih, part))
   | inr later ↦
-      let values = values_of-past (m ∷ ms) cell cells later.0 in
-      let one = counted-least (list_all (λ rank. ltb rank cell.0) set) cell.1 in
+      let values = values_of-skip (m ∷ ms) cell cells later.0 in
+      let one = part-least (list_all (λ rank. ltb rank cell.0) set) cell.1 in
       let ih = values_of-after cells set (m ∷ ms) up rise.1 later.1 after in
       rw values (omega (arith, ints, ih, one))
 ]
 
 -- ---- two sets
-
-pub holds-append : (set more : List ℕ) (cells : List (ℕ × ℤ)) → holds (set ++ more) cells ≡ (holds set cells && holds more cells)
-holds-append [] more cells = refl
-holds-append (s ∷ ss) more cells = by (has s cells) (holds-append ss more cells)
-  where
-    by : (b : Bool) → holds (ss ++ more) cells ≡ (holds ss cells && holds more cells) → (b && holds (ss ++ more) cells)
-        ≡ ((b && holds ss cells) && holds more cells)
-    by true ih = ih
-    by false ih = refl
-
-pub values_of-append : (set more : List ℕ) (cells : List (ℕ × ℤ)) → values_of (set ++ more) cells ≡ values_of set cells +ℤ values_of more cells
-values_of-append [] more cells = omega (arith, ints)
-values_of-append (s ∷ ss) more cells = let ih = values_of-append ss more cells in omega (arith, ints)
 
 pub list_all-below : (set : List ℕ) (m : ℕ) → AllByRecursion (λ rank. rank < m) set → list_all (λ rank. ltb rank m) set ≡ true
 list_all-below [] m all = refl

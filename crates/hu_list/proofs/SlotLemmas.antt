@@ -1,18 +1,14 @@
 -- Slots of ranks, and lists that go along with them.
-use Rattle.std.proofs.Common.{◌≡◌, ◌≢◌, ℕ, zero, suc, ◌+◌, ◌<◌, Bool, true, false, cond, eqb, ◌||◌, List, [], ◌∷◌, ◌++◌}
-use Rattle.std.proofs.Common.{length, get_or, set, take, replicate, inl, inr, refl, sym, ap, ◌∙◌, subst, arith, nat_eq}
+use Rattle.std.proofs.Common.{◌≡◌, ◌≢◌, ℕ, zero, suc, ◌+◌, ◌<◌, Bool, true, false, cond, eqb, ◌||◌, List, [], ◌∷◌, ◌++◌, length, get_or, set, take, replicate}
+use Rattle.std.proofs.Common.{inl, inr, refl, sym, ap, ◌∙◌, subst, arith, nat_eq}
 use Rattle.std.specs.List.{AllByRecursion, IsDistinct}
 use Rattle.std.proofs.Math.Bool.{or-true}
-use Rattle.std.proofs.lemmas.Bool.{ne_eqb, eq-eqb, eqb-true, or_cases, cases_eq}
+use Rattle.std.proofs.lemmas.Bool.{ne_eqb, eq-eqb, eqb-true, or_cases, cases_eq, false_from_ne_true}
 use Rattle.std.proofs.lemmas.List.{take_all, length-set, length-append, get_or-set_same, get_or-set_other, get_or_append_left, get_or-append-add}
 use Rattle.hu_list.specs.Slots.{IsPlace, at, AreSlots}
 use Rattle.hu_totals.specs.Cells.{among}
 
 -- ---- ranks among others
-
-pub false_from : (b : Bool) → (b ≡ true → ⊥) → b ≡ false
-false_from true h = absurd (h refl)
-false_from false h = refl
 
 -- a rank among the first of some stands at a place
 among-place : (rank n : ℕ) (ranks : List ℕ) → among rank (take n ranks) ≡ true → (i : ℕ) × (i < n) × (i < length ranks) × (get_or ranks i 0 ≡ rank)
@@ -32,7 +28,7 @@ among-at (r ∷ ranks) (suc i) rank within e = let later = among-at ranks i rank
 
 pub slots-absent : (places ranks : List ℕ) (rank : ℕ) → AreSlots places ranks
     → ((i : ℕ) → i < length ranks → rank < length places → get_or places rank 0 ≡ i → get_or ranks i 0 ≡ rank → ⊥) → among rank ranks ≡ false
-slots-absent places ranks rank slots none = false_from (among rank ranks) (λ m.
+slots-absent places ranks rank slots none = false_from_ne_true (among rank ranks) (λ m.
     let at = among-place rank (length ranks) ranks (subst (λ rs. among rank rs ≡ true) (sym (take_all (length ranks) ranks (omega arith))) m) in
     let slot = slots at.0 at.2 in
     none at.0 at.2 (subst (λ r. r < length places) at.3 slot.0) (subst (λ r. get_or places r 0 ≡ at.0) at.3 slot.1) at.3)
@@ -42,7 +38,7 @@ pub slots-place : (places ranks : List ℕ) (rank place : ℕ) → AreSlots plac
 slots-place places ranks rank place slots is within here = record {
   within = within;
   here = here;
-  first = false_from (among rank (take place ranks)) (λ m.
+  first = false_from_ne_true (among rank (take place ranks)) (λ m.
       let at = among-place rank place ranks m in
       let slot = slots at.0 at.2 in
       let same : get_or places rank 0 ≡ at.0 = subst (λ r. get_or places r 0 ≡ at.0) at.3 slot.1 in

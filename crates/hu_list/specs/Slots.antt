@@ -1,20 +1,5 @@
 -- Some ranks below a number, each once, and lists that go along with them.
-use Rattle.std.specs.Prelude.{
-  ◌≡◌,
-  ℕ,
-  ◌<◌,
-  ◌==◌,
-  Bool,
-  false,
-  List,
-  [],
-  ◌∷◌,
-  length,
-  take,
-  slice_index_or,
-  if◌then◌else◌,
-}
-use Rattle.std.specs.List.{list_any}
+use Rattle.std.specs.Prelude.{◌≡◌, ℕ, ◌<◌, ◌==◌, false, List, [], ◌∷◌, length, take, slice_index_or, if◌then◌else◌}
 use Rattle.hu_totals.specs.Cells.{among}
 
 -- some of the ranks below a number

@@ -15,9 +15,9 @@ use Rattle.std.specs.Prelude.{
   length,
   if◌then◌else◌,
 }
-use Rattle.std.specs.List.{filter, flat_map}
+use Rattle.std.specs.List.{flat_map}
 use Rattle.hu_kind.specs.Record.{has, holds, value_of, values_of, positive_part, absolute_of}
-use Rattle.hu_totals.specs.Cells.{after, among, kept_gain}
+use Rattle.hu_totals.specs.Cells.{after, kept_gain}
 
 -- what a set earns in a record that holds it, and the record's cells after the set's last rank
 pub record TailOf : Type 0 where

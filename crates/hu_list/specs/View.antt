@@ -1,18 +1,13 @@
 -- A search's tails are seen without lives: each as what its set earned and its cells as pairs (rank, value).
-use Rattle.std.specs.Prelude.{ℕ, ◌<◌, ◌^◌, ℤ, List, map}
+use Rattle.std.specs.Prelude.{ℕ, ◌<◌, ◌^◌, List, map}
 use Rattle.std.specs.List.{AllByRecursion, sum_by}
 use Rattle.std.specs.declared.vec.Vec.{Vec}
 use Rattle.std.specs.declared.alloc.Global.{Global}
 use Rattle.hu_kind.specs.Order.{Ascend}
 use Rattle.hu_kind.specs.Record.{items_in}
-use Rattle.hu_totals.specs.declared.ranked.Dense.{Dense}
-use Rattle.hu_totals.specs.View.{dense_pair}
+use Rattle.hu_totals.specs.View.{cells_of}
 use Rattle.hu_list.specs.declared.tail.Tail.{Tail}
 use Rattle.hu_list.specs.Tails.{TailOf, size_of}
-
--- cells as pairs
-abbrev pub cells_of : List Dense → List (ℕ × ℤ)
-cells_of cells = map dense_pair cells
 
 -- a tail without lives
 abbrev pub tail_of : Tail → TailOf

@@ -1,38 +1,16 @@
 -- The cells of a row, by their places.
-use Rattle.std.proofs.Common.{◌≡◌, ℕ, zero, suc, ◌<◌, ◌≤◌, ◌+◌, true, false, eqb, ℤ, ◌+ℤ◌, unsigned_abs, List, [], ◌∷◌}
-use Rattle.std.proofs.Common.{length, get_or, drop, take, refl, sym, ap, ◌∙◌, inl, inr, arith, add-one, ◌-◌}
-use Rattle.std.proofs.Common.{length-drop}
+use Rattle.std.proofs.Common.{◌≡◌, ℕ, zero, suc, ◌<◌, ◌≤◌, ◌+◌, true, false, eqb, ℤ, ◌+ℤ◌, unsigned_abs, List, [], ◌∷◌, length, get_or, drop, take, refl, sym}
+use Rattle.std.proofs.Common.{arith, add-one, ◌-◌, length-drop}
 use Rattle.std.proofs.lemmas.List.{take_all}
-use Rattle.std.specs.List.{AllByRecursion}
-use Rattle.std.specs.List.Sorted.{IsPartitionPoint, IsNonDecreasingBy}
-use Rattle.std.proofs.lemmas.Bool.{eq-eqb, ne_eqb, cases_lt, cases_order}
+use Rattle.std.specs.List.Sorted.{IsPartitionPoint}
+use Rattle.std.proofs.lemmas.Bool.{eq-eqb, ne_eqb}
 use Rattle.std.proofs.lemmas.List.Sums.{sum_by-cons}
 use Rattle.hu_kind.specs.declared.item.Cell.{Cell}
 use Rattle.hu_kind.specs.Cell.{pairs_of, pair_of}
 use Rattle.hu_kind.specs.Record.{items_in, absolute_of}
 use Rattle.hu_kind.specs.Order.{Ascend}
+use Rattle.hu_kind.proofs.lemmas.CellPlaces.{no_cell-past, above-at}
 use Rattle.hu_plain.specs.Row.{Cells, grown_row}
-
-above-at : (x : ℕ) (cells : List Cell) (k : ℕ) (d : Cell) → AllByRecursion (λ y. x < y) (items_in (pairs_of cells)) → k < length cells
-    → x < (get_or cells k d).item.0
-above-at x [] k d above within = absurd (omega arith)
-above-at x (cell ∷ cells) zero d above within = above.0
-above-at x (cell ∷ cells) (suc k) d above within = above-at x cells k d above.1 (omega arith)
-
--- the items ascend strictly from place to place
-pub rises : (cells : List Cell) (i j : ℕ) (d : Cell) → Ascend (items_in (pairs_of cells)) → i < j → j < length cells
-    → (get_or cells i d).item.0 < (get_or cells j d).item.0
-rises [] i j d up before within = absurd (omega arith)
-rises (cell ∷ cells) i zero d up before within = absurd (omega arith)
-rises (cell ∷ cells) zero (suc j) d up before within = above-at cell.item.0 cells j d up.0 (omega arith)
-rises (cell ∷ cells) (suc i) (suc j) d up before within = rises cells i j d up.1 (omega arith) (omega arith)
-
--- they don't fall
-pub IsNonDecreasingBy-ascend : (cells : List Cell) → Ascend (items_in (pairs_of cells)) → IsNonDecreasingBy (λ cell. cell.item.0) cells
-IsNonDecreasingBy-ascend cells up i j d upto within = elim (cases_lt i j) [
-  | inl before ↦ let rise = rises cells i j d up before within in omega arith
-  | inr after ↦ let same : i ≡ j = omega arith in rw same (omega arith)
-]
 
 -- the row grown by the item at a place
 pub grown_row-at : (item : ℕ) (sum : ℤ) (cells : List Cell) (k : ℕ) (d : Cell) → Ascend (items_in (pairs_of cells)) → k < length cells
@@ -60,17 +38,7 @@ pub grown_row-past : (item : ℕ) (sum : ℤ) (cells : List Cell) (place : ℕ) 
     → IsPartitionPoint (λ cell. cell.item.0 < item) (λ cell. item ≤ cell.item.0) cells place
     → ((d : Cell) → place < length cells → (get_or cells place d).item.0 ≡ item → ⊥)
     → grown_row item sum (pairs_of cells) ≡ []
-grown_row-past item sum cells place up split other = grown_row-none item sum cells absent
-  where
-    absent : (k : ℕ) (d : Cell) → k < length cells → (get_or cells k d).item.0 ≡ item → ⊥
-    absent k d within e = elim (cases_order k place) [
-      | inl here ↦ other d (omega arith) (ap (λ i. (get_or cells i d).item.0) (sym here) ∙ e)
-      | inr (inl before) ↦ let low = split.0 k d (omega arith) before in omega arith
-      | inr (inr after) ↦
-          let low = split.1 place d (omega arith) (omega arith) in
-          let rise = rises cells place k d up after within in
-          omega arith
-    ]
+grown_row-past item sum cells place up split other = grown_row-none item sum cells (no_cell-past item cells place up split other)
 
 -- a cell's value is within the sum
 pub absolute_of-at : (cells : List Cell) (k : ℕ) (d : Cell) → k < length cells

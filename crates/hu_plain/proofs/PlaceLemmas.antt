@@ -1,8 +1,7 @@
 -- Places, by their indices.
-use Rattle.std.proofs.Common.{◌≡◌, ℕ, zero, suc, ◌<◌, ◌≤◌, ◌+◌, ◌^◌, true, false, eqb, ℤ, pos, negsuc, ◌+ℤ◌}
-use Rattle.std.proofs.Common.{unsigned_abs, Option, None, Some, unwrap_or, IsNone, IfSome, IfNone, ◌↔◌, List, [], ◌∷◌}
-use Rattle.std.proofs.Common.{◌++◌, map, length, get_or, take, drop, refl, sym, ap, ◌∙◌, subst, inl, inr, arith, sum_by}
-use Rattle.std.proofs.Common.{flat_map, Contains, append_assoc, length-append, drop-cons, add-one}
+use Rattle.std.proofs.Common.{◌≡◌, ℕ, zero, suc, ◌<◌, ◌≤◌, ◌+◌, ◌^◌, true, false, eqb, ℤ, pos, negsuc, ◌+ℤ◌, unsigned_abs, Option, None, Some, unwrap_or}
+use Rattle.std.proofs.Common.{IsNone, IfSome, IfNone, ◌↔◌, List, [], ◌∷◌, ◌++◌, map, length, get_or, take, drop, refl, sym, ap, ◌∙◌, subst, inl, inr, arith}
+use Rattle.std.proofs.Common.{sum_by, flat_map, Contains, append_assoc, length-append, drop-cons, add-one}
 use Rattle.std.specs.Global.{Vec}
 use Rattle.std.specs.List.{AllByRecursion}
 use Rattle.std.proofs.lemmas.Int.{ints}
@@ -14,26 +13,27 @@ use Rattle.hu_kind.specs.declared.entry.Entry.{Entry}
 use Rattle.hu_kind.specs.declared.item.Item.{Item}
 use Rattle.hu_kind.specs.Cell.{pairs_of}
 use Rattle.hu_kind.specs.Record.{items_in, absolute_of, IsItemset}
-use Rattle.hu_kind.specs.Sequence.{better, sequence_patterns}
+use Rattle.hu_kind.specs.Sequence.{better, sequence_patterns, closed}
 use Rattle.hu_kind.specs.Order.{Ascend}
 use Rattle.hu_kind.proofs.lemmas.Ascending.{Ascend-adjacent}
 use Rattle.hu_kind.proofs.lemmas.Members.{Member-map, Contains-from_member, Member-from_contains}
+use Rattle.hu_kind.proofs.lemmas.Subsequences.{AreRising}
 use Rattle.hu_collect.specs.Laws.{SameMembers}
 use Rattle.hu_plain.specs.declared.places.Step.{Step}
 use Rattle.hu_plain.specs.declared.places.Step.TheVariants.{Into, After}
 use Rattle.hu_plain.specs.declared.places.Place.{Place}
 use Rattle.hu_plain.specs.Row.{Cells, RowOf, grown_rows, weight_of, IsRising, AreRows}
 use Rattle.hu_plain.specs.View.{numbers_of, rows_in}
-use Rattle.hu_plain.specs.Growth.{closed, grown_utility, prefix_entry, Grows}
-use Rattle.hu_plain.specs.Place.{PlaceOf, Places, after, all_stepped, begun, best_of, best_sum, first_places, fresh}
-use Rattle.hu_plain.specs.Place.{grown_best, itemsets_of, reach_of, ArePlaces, IsAscending, AreAscending, IsBegun}
+use Rattle.hu_plain.specs.Growth.{grown_utility, prefix_entry, Grows}
+use Rattle.hu_plain.specs.Place.{PlaceOf, Places, after, all_stepped, begun, best_of, best_sum, first_places, fresh, grown_best, itemsets_of, reach_of}
+use Rattle.hu_plain.specs.Place.{ArePlaces, IsAscending, AreAscending, IsBegun}
 use Rattle.hu_plain.specs.PlaceView.{all_places, following, joining, pushed, step_after, step_into, place_of, places_of, HasSteps}
 use Rattle.hu_plain.proofs.Reach.{ahead, ahead-upto, reach_with, best-within, next-within, reaches-stepped}
 use Rattle.hu_plain.proofs.RowLemmas.{item-of_number}
 use Rattle.hu_plain.proofs.SearchLemmas.{entry_with, popped}
 use Rattle.hu_plain.proofs.PlaceGrowth.{grown_best-alone}
 use Rattle.hu_plain.proofs.Steps.{IsGrown, rising-fresh, ascending-stepped, begun-stepped, taken-following, taken-joining}
-use Rattle.hu_plain.proofs.Subsequences.{AreRising, grows-pattern, pattern-grows}
+use Rattle.hu_plain.proofs.Subsequences.{itemsets-later, grows-pattern, pattern-grows}
 
 -- what holds of each element as it is seen holds of the one at an index
 pub each-at : {A B : Type 0} (f : A → B) (P : B → Type 0) (xs : List A) (i : ℕ) (d : A) → AllByRecursion P (map f xs) → i < length xs
@@ -169,10 +169,6 @@ within-next places k d best next bound within so_far e =
 reach-later : (elements : List Cells) → reach_of (map (λ cells. ([], cells)) elements) ≡ 0
 reach-later [] = refl
 reach-later (e ∷ es) = let ih = reach-later es in omega arith
-
-itemsets-later : (elements : List Cells) → itemsets_of (map (λ cells. ([], cells)) elements) ≡ elements
-itemsets-later [] = refl
-itemsets-later (e ∷ es) = ap (λ ds. e ∷ ds) (itemsets-later es)
 
 reach-first : (elements : List Cells) → reach_of (first_places elements) ≤ sum_by absolute_of elements
 reach-first elements =

@@ -1,6 +1,6 @@
 -- What a search makes of a prefix.
-use Rattle.std.proofs.Common.{◌≡◌, ◌+◌, ℕ, ℤ, Option, None, Some, IsNone, IfSome, length-append, List, [], ◌∷◌, ◌++◌}
-use Rattle.std.proofs.Common.{length, refl, sym, ap, ◌∙◌, arith, ◌↔◌, append-nil}
+use Rattle.std.proofs.Common.{◌≡◌, ℕ, ℤ, Option, None, Some, IsNone, IfSome, length-append, List, [], ◌∷◌, ◌++◌, length, refl, sym, ap, ◌∙◌, arith, ◌↔◌}
+use Rattle.std.proofs.Common.{append-nil}
 use Rattle.std.proofs.lemmas.List.{length-map, same_from_push}
 use Rattle.hu_kind.specs.declared.entry.Entry.{Entry}
 use Rattle.hu_plain.specs.declared.row.Row.{Row}

@@ -18,7 +18,8 @@ use Rattle.hu_collect.proofs.lemmas.Searching.{reached-as, some-as}
 use Rattle.hu_plain.specs.declared.places.Step.{Step}
 use Rattle.hu_plain.specs.declared.places.Step.TheVariants.{Into, After}
 use Rattle.hu_plain.specs.Row.{Cells, RowOf, IsRising}
-use Rattle.hu_plain.specs.Growth.{closed, grown_support, grown_utility, growth_entry, prefix_entry, stepped_key, IsSet, Grows, IsGrowth}
+use Rattle.hu_kind.specs.Sequence.{closed}
+use Rattle.hu_plain.specs.Growth.{grown_support, grown_utility, growth_entry, prefix_entry, stepped_key, IsSet, Grows, IsGrowth}
 use Rattle.hu_plain.specs.Place.{PlaceOf, Places, after, all_stepped, begun, best_from, best_of, best_sum, fresh}
 use Rattle.hu_plain.specs.Place.{grown_best, into, itemsets_of, occurs_at, stepped, IsAscending, AreAscending, IsBegun}
 use Rattle.hu_plain.specs.PlaceView.{following, joining, HasSteps}

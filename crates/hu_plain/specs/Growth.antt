@@ -1,29 +1,9 @@
 -- What a search for sequences makes of a prefix: a prefix grows by further items in its last itemset and further itemsets
 -- after it. The key of a prefix stays open: its last itemset has no -1 yet.
-use Rattle.std.specs.Prelude.{
-  ◌≡◌,
-  refl,
-  ℕ,
-  ◌+◌,
-  ◌<◌,
-  ◌⊎◌,
-  ℤ,
-  pos,
-  negsuc,
-  ◌+ℤ◌,
-  None,
-  is_some,
-  unwrap_or,
-  List,
-  [],
-  ◌∷◌,
-  ◌++◌,
-  map,
-  length,
-}
+use Rattle.std.specs.Prelude.{◌≡◌, refl, ℕ, ◌+◌, ◌<◌, ◌⊎◌, ℤ, pos, ◌+ℤ◌, None, is_some, unwrap_or, List, [], ◌∷◌, ◌++◌, map, length}
 use Rattle.std.specs.List.{count_by, AllByRecursion}
 use Rattle.hu_kind.specs.declared.entry.Entry.{Entry}
-use Rattle.hu_kind.specs.Sequence.{sequence_key}
+use Rattle.hu_kind.specs.Sequence.{closed, sequence_key}
 use Rattle.hu_kind.specs.Worked.{later_is_greatest, sequence_entry_of}
 use Rattle.hu_kind.specs.Order.{Ascend}
 use Rattle.hu_plain.specs.declared.places.Step.{Step}
@@ -39,11 +19,6 @@ grown_utility (places ∷ rows) items rest =
 -- in how many records a grown prefix occurs
 abbrev pub grown_support : List Places → List ℕ → List (List ℕ) → ℕ
 grown_support rows items rest = count_by (λ places. is_some (grown_best items rest places)) rows
-
--- a key whose last itemset is ended, if there is one
-abbrev pub closed : List ℤ → List ℤ
-closed [] = []
-closed (n ∷ ns) = n ∷ ns ++ negsuc 0 ∷ []
 
 -- the key of a prefix with a step more, its last itemset open
 abbrev pub stepped_key : List ℤ → Step → List ℤ

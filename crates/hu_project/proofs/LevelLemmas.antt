@@ -1,6 +1,6 @@
 -- A level of a search over projected rows: its children, and the levels below it.
-use Rattle.std.proofs.Common.{◌≡◌, ℕ, ◌<◌, Bool, true, false, cond, nat_lt, ℤ, int_le, ◌≤ℤ◌, T, List, [], ◌∷◌, ◌++◌, length, sym, refl, ap, ◌∙◌}
-use Rattle.std.proofs.Common.{subst, arith, append_assoc, Contains, inl, inr, ◌⊎◌}
+use Rattle.std.proofs.Common.{◌≡◌, ℕ, ◌<◌, Bool, true, false, cond, nat_lt, ℤ, int_le, ◌≤ℤ◌, T, List, [], ◌∷◌, ◌++◌, length, sym, refl, ap, ◌∙◌, subst, arith}
+use Rattle.std.proofs.Common.{append_assoc, Contains, inl, inr, ◌⊎◌}
 use Rattle.std.specs.List.{AllByRecursion, filter, flat_map}
 use Rattle.std.specs.List.Sorted.{IsPermutation}
 use Rattle.std.proofs.lemmas.Bool.{false≢true, ltb-true, lt-ltb}
@@ -12,8 +12,8 @@ use Rattle.hu_kind.specs.Order.{Ascend}
 use Rattle.hu_kind.specs.Record.{items_in}
 use Rattle.hu_kind.proofs.lemmas.Ascending.{Ascend-right, Ascend-push}
 use Rattle.hu_kind.proofs.lemmas.Each.{each-append, each-right}
-use Rattle.hu_kind.proofs.lemmas.Members.{Member, Member-map, Member-from_map, Member-flat_map, Member-from_flat_map, Member-filter}
-use Rattle.hu_kind.proofs.lemmas.Members.{Member-from_filter, Member-from_contains, Contains-from_member}
+use Rattle.hu_kind.proofs.lemmas.Members.{Member, Member-map, Member-from_map, Member-flat_map, Member-from_flat_map, Member-filter, Member-from_filter}
+use Rattle.hu_kind.proofs.lemmas.Members.{Member-from_contains, Contains-from_member}
 use Rattle.hu_kind.proofs.lemmas.Occurring.{by_members}
 use Rattle.hu_totals.specs.Ranked.{Ranking}
 use Rattle.hu_collect.specs.Rule.{passes}
@@ -29,6 +29,7 @@ use Rattle.hu_rows.proofs.lemmas.Counted.{AreCounted-narrowed, AreCounted-handed
 use Rattle.hu_search.specs.declared.child.Child.{Child}
 use Rattle.hu_search.specs.Growth.{rank_entry, Grows}
 use Rattle.hu_search.specs.Children.{IsChild, AreChildren, ranks_of, Counts, AreEnough, IsBarren, IsBound, AreOpen}
+use Rattle.hu_search.proofs.lemmas.Children.{counts-before}
 use Rattle.hu_project.specs.Children.{child_with, child_if, bounded, open_if}
 use Rattle.hu_project.specs.Level.{IsLater, IsLevel, IsNarrow, AreTold, IsAfter}
 
@@ -55,12 +56,6 @@ firsts P Q (z ∷ ranks) all = (all.0.0, firsts P Q ranks all.1)
 each-first : (P Q : ℕ → Type 0) (rows : List RowOf) → EachRank (λ z. P z × Q z) rows → EachRank P rows
 each-first P Q [] all = tt
 each-first P Q (row ∷ rows) all = (firsts P Q (items_in row.cells) all.0, each-first P Q rows all.1)
-
-counts-before : {s t : State} {e : Entry} → t.rule ≡ s.rule → floor_in s ≤ℤ floor_in t → Counts t e → Counts s e
-counts-before {e = e} same rises counts = record {
-  pass = subst (λ rule. passes rule e ≡ true) same counts.pass;
-  high = let high = counts.high in omega (arith, ints, rises, high);
-}
 
 -- ---- the children of a level
 

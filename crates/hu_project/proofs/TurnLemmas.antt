@@ -4,6 +4,7 @@ use Rattle.std.specs.List.{AllByRecursion}
 use Rattle.std.proofs.lemmas.Int.{ints}
 use Rattle.hu_kind.specs.Order.{Ascend}
 use Rattle.hu_kind.proofs.lemmas.Each.{each-get}
+use Rattle.hu_kind.proofs.lemmas.Ascending.{few-from}
 use Rattle.hu_totals.specs.Ranked.{Ranking}
 use Rattle.hu_collect.specs.State.{State, floor_in, IsInOrder, Reached, ReachedSome}
 use Rattle.hu_collect.proofs.lemmas.Searching.{reached-rule, reached-floor, reached-in_order, reached-none}
@@ -64,14 +65,6 @@ module _ {old now : State} {r : Ranking} {set : List ℕ} {part : Open} {at : �
 
     pub so_far-some : {next : State} → ReachedSome now (Grows r (set ++ (get_or part.children.items at d).rank ∷ [])) next → ReachedSome old (Grows r set) next
     so_far-some some = upto-some r set so_far.prepared.ranks part.children.items at d within so_far.made some
-
-pub barren-none : (s : State) (r : Ranking) (set : List ℕ) → IsInOrder s → IsBarren s r set → Reached s (Grows r set) s
-barren-none s r set ordered barren = reached-none {P = Grows r set} s ordered (λ e p pass high. barren e p (record { pass = pass; high = high }))
-
--- ranks that ascend below a number are at most so many
-few-from : (n low : ℕ) (xs : List ℕ) → Ascend xs → AllByRecursion (λ x. x < n) xs → AllByRecursion (λ x. low < x) xs → low < n → length xs + low < n
-few-from n low [] up below above h = omega arith
-few-from n low (x ∷ xs) up below above h = let first = above.0 in omega (arith, few-from n x xs up.1 below.1 up.0 below.0)
 
 pub few-ranks : (n : ℕ) (xs : List ℕ) → Ascend xs → AllByRecursion (λ x. x < n) xs → length xs ≤ n
 few-ranks n [] up below = omega arith

@@ -1,35 +1,15 @@
 -- The cells of a record, by their places.
-use Rattle.std.proofs.Common.{◌≡◌, ℕ, zero, suc, ◌<◌, ◌≤◌, true, false, eqb, ℤ, unsigned_abs, Some, None, List, [], ◌∷◌, length, get_or, refl, sym, ap, ◌∙◌, inl, inr, arith}
-use Rattle.std.specs.List.{AllByRecursion}
-use Rattle.std.specs.List.Sorted.{IsPartitionPoint, IsNonDecreasingBy}
-use Rattle.std.proofs.lemmas.Bool.{eq-eqb, ne_eqb, cases_lt, cases_order}
+use Rattle.std.proofs.Common.{◌≡◌, ℕ, zero, suc, ◌<◌, ◌≤◌, true, false, eqb, ℤ, unsigned_abs, Some, None, List, [], ◌∷◌, length, get_or, refl, sym, ap, ◌∙◌}
+use Rattle.std.proofs.Common.{inl, inr, arith}
+use Rattle.std.specs.List.Sorted.{IsPartitionPoint}
+use Rattle.std.proofs.lemmas.Bool.{eq-eqb, ne_eqb, cases_order}
 use Rattle.std.proofs.lemmas.List.Sums.{sum_by-cons}
 use Rattle.hu_kind.specs.declared.item.Cell.{Cell}
 use Rattle.hu_kind.specs.Cell.{pairs_of, pair_of}
 use Rattle.hu_kind.specs.Record.{items_in, absolute_of}
 use Rattle.hu_kind.specs.Order.{Ascend}
+use Rattle.hu_kind.proofs.lemmas.CellPlaces.{above-at, rises}
 use Rattle.hu_proof.specs.Places.{value_in}
-
-above-at : (x : ℕ) (cells : List Cell) (k : ℕ) (d : Cell) → AllByRecursion (λ y. x < y) (items_in (pairs_of cells)) → k < length cells
-    → x < (get_or cells k d).item.0
-above-at x [] k d above within = absurd (omega arith)
-above-at x (cell ∷ cells) zero d above within = above.0
-above-at x (cell ∷ cells) (suc k) d above within = above-at x cells k d above.1 (omega arith)
-
--- the items ascend strictly from place to place
-rises : (cells : List Cell) (i j : ℕ) (d : Cell) → Ascend (items_in (pairs_of cells)) → i < j → j < length cells
-    → (get_or cells i d).item.0 < (get_or cells j d).item.0
-rises [] i j d up before within = absurd (omega arith)
-rises (cell ∷ cells) i zero d up before within = absurd (omega arith)
-rises (cell ∷ cells) zero (suc j) d up before within = above-at cell.item.0 cells j d up.0 (omega arith)
-rises (cell ∷ cells) (suc i) (suc j) d up before within = rises cells i j d up.1 (omega arith) (omega arith)
-
--- they don't fall
-pub IsNonDecreasingBy-ascend : (cells : List Cell) → Ascend (items_in (pairs_of cells)) → IsNonDecreasingBy (λ cell. cell.item.0) cells
-IsNonDecreasingBy-ascend cells up i j d upto within = elim (cases_lt i j) [
-  | inl before ↦ let rise = rises cells i j d up before within in omega arith
-  | inr after ↦ let same : i ≡ j = omega arith in rw same (omega arith)
-]
 
 -- the value at the place of an item
 pub value_in-at : (item : ℕ) (cells : List Cell) (k : ℕ) (d : Cell) → Ascend (items_in (pairs_of cells)) → k < length cells

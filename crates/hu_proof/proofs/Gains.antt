@@ -1,15 +1,16 @@
 -- No prefix earns more with later items than its bound.
-use Rattle.std.proofs.Common.{◌≡◌, ℕ, Bool, true, false, cond, eqb, ◌&&◌, ℤ, pos, ◌+ℤ◌, ◌≤ℤ◌, List, [], ◌∷◌, ◌++◌, refl, sym, subst, ◌∙◌, ap, inl, inr, arith}
+use Rattle.std.proofs.Common.{◌≡◌, ℕ, Bool, true, false, cond, eqb, ◌&&◌, ℤ, pos, ◌+ℤ◌, ◌≤ℤ◌, List, [], ◌∷◌, ◌++◌, refl, sym, subst, inl, inr, arith}
 use Rattle.std.proofs.lemmas.Bool.{cases_eq, eq-eqb, ne_eqb}
 use Rattle.std.proofs.lemmas.Int.{ints}
-use Rattle.hu_kind.specs.Record.{has, holds, value_of, values_of, utility_in, positive_part}
+use Rattle.hu_kind.specs.Record.{holds, value_of, values_of, utility_in, positive_part}
 use Rattle.hu_kind.specs.Database.{utility}
 use Rattle.hu_kind.proofs.lemmas.Earned.{positive_part-upper}
 use Rattle.hu_kind.proofs.lemmas.Members.{Member}
-use Rattle.hu_kind.proofs.lemmas.Occurring.{at_member}
+use Rattle.hu_kind.proofs.lemmas.Occurring.{at_member, holds-append, values_of-append}
 use Rattle.hu_proof.specs.Bounds.{is_among, later_gain, bound_in, cut_bound}
 use Rattle.hu_proof.specs.Places.{Apart, Follows}
-use Rattle.hu_proof.proofs.Orders.{among-member, member-among, not_among, each-follows, Apart-follows}
+use Rattle.hu_proof.proofs.Orders.{member-among, each-follows, Apart-follows}
+use Rattle.hu_proof.proofs.lemmas.OrderMembers.{among-member, not_among}
 
 -- ---- values of later items
 
@@ -65,14 +66,6 @@ values_of-follows later xs cells apart f =
 and-assoc : (a b c : Bool) → (a && (b && c)) ≡ ((a && b) && c)
 and-assoc true b c = refl
 and-assoc false b c = refl
-
-pub holds-append : (xs ys : List ℕ) (cells : List (ℕ × ℤ)) → holds (xs ++ ys) cells ≡ (holds xs cells && holds ys cells)
-holds-append [] ys cells = refl
-holds-append (x ∷ xs) ys cells = ap (λ b. has x cells && b) (holds-append xs ys cells) ∙ and-assoc (has x cells) (holds xs cells) (holds ys cells)
-
-pub values_of-append : (xs ys : List ℕ) (cells : List (ℕ × ℤ)) → values_of (xs ++ ys) cells ≡ values_of xs cells +ℤ values_of ys cells
-values_of-append [] ys cells = omega (arith, ints)
-values_of-append (x ∷ xs) ys cells = let ih = values_of-append xs ys cells in omega (arith, ints)
 
 utility_in-bound : (prefix later xs : List ℕ) (cells : List (ℕ × ℤ)) → Apart later → Follows later xs
     → utility_in (prefix ++ xs) cells ≤ℤ bound_in prefix later cells

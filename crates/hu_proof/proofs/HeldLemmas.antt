@@ -1,7 +1,6 @@
 -- The places of a prefix, and the sums over all records.
-use Rattle.std.proofs.Common.{◌≡◌, ℕ, ◌+◌, ◌<◌, ◌≤◌, ◌^◌, Bool, true, false, cond, eqb, ◌&&◌, ◌||◌, ℤ, pos, ◌+ℤ◌}
-use Rattle.std.proofs.Common.{unsigned_abs, Option, None, Some, List, [], ◌∷◌, ◌++◌, map, filter, length, refl, sym, ap}
-use Rattle.std.proofs.Common.{◌∙◌, subst, inl, inr, arith, sum_by}
+use Rattle.std.proofs.Common.{◌≡◌, ℕ, ◌+◌, ◌<◌, ◌≤◌, ◌^◌, Bool, true, false, cond, eqb, ◌&&◌, ◌||◌, ℤ, pos, ◌+ℤ◌, unsigned_abs, Option, None, Some, List, []}
+use Rattle.std.proofs.Common.{◌∷◌, ◌++◌, map, filter, length, refl, sym, ap, ◌∙◌, subst, inl, inr, arith, sum_by}
 use Rattle.std.specs.List.{AllByRecursion, list_any}
 use Rattle.std.proofs.lemmas.Bool.{cases_Bool, cases_eq, eq-eqb, ne_eqb}
 use Rattle.std.proofs.lemmas.Int.{ints}
@@ -10,14 +9,16 @@ use Rattle.hu_kind.specs.First.{first_some}
 use Rattle.hu_kind.specs.Record.{has, holds, value_of, values_of, positive_part, absolute_of}
 use Rattle.hu_kind.specs.Database.{utility, support}
 use Rattle.hu_kind.proofs.lemmas.Members.{Member, Member-append_right}
+use Rattle.hu_kind.proofs.lemmas.Occurring.{holds-append, values_of-append}
 use Rattle.hu_proof.specs.declared.token.Token.{Token}
 use Rattle.hu_proof.specs.Bounds.{is_among, after, later_gain, cut_bound, stands_with}
 use Rattle.hu_proof.specs.Check.{Node, first_such, left_out, wrong_bound, prefix_fault, utility_fault, child_fault, cut_fault, faults_of, line_fault}
 use Rattle.hu_proof.specs.Judged.{token_items, missing, bound_fault_at, bound_faults, missing_fault, fault_at, line_fault_at}
 use Rattle.hu_proof.specs.Places.{PlaceOf, held, narrowed, earned, shares, later_size, Apart, IsRoomy, HasRoom, Rises, AllAscend}
 use Rattle.hu_proof.specs.Text.{Said}
-use Rattle.hu_proof.proofs.Gains.{holds-append, values_of-append}
-use Rattle.hu_proof.proofs.Orders.{among-member, member-among, not_among, Apart-left, Apart-right}
+use Rattle.hu_proof.proofs.Orders.{member-among, Apart-left, Apart-right}
+use Rattle.hu_proof.proofs.lemmas.OrderMembers.{among-member, not_among}
+use Rattle.hu_proof.proofs.PlaceLemmas.{size-monotone}
 
 -- ---- sums
 
@@ -161,11 +162,6 @@ sizes-apart xs ys (cell ∷ cells) apart =
     let bit = later_size-bit (is_among cell.0 xs) (is_among cell.0 ys) (unsigned_abs cell.1)
     (λ a b. apart-parts xs ys apart cell.0 (among-member cell.0 xs a) (among-member cell.0 ys b)) in
     omega (arith, sum_by-cons (λ (c : ℕ × ℤ). unsigned_abs c.1) cell cells)
-
-size-monotone : (a b : Bool) (n : ℕ) → (a ≡ true → b ≡ true) → cond a n 0 ≤ cond b n 0
-size-monotone true b n w = let here : b ≡ true = w refl in rw here (omega arith)
-size-monotone false true n w = omega arith
-size-monotone false false n w = omega arith
 
 sizes-monotone : (x : ℕ) (xs : List ℕ) (cells : List (ℕ × ℤ)) → later_size xs cells ≤ later_size (x ∷ xs) cells
 sizes-monotone x xs [] = omega arith

@@ -1,3 +1,4 @@
+pub mod lemmas
 mod Orders
 mod Gains
 mod Sets

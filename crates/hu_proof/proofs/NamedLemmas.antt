@@ -4,14 +4,14 @@ use Rattle.std.proofs.Common.{length, get_or, map, refl, sym, ap, ◌∙◌, sub
 use Rattle.std.specs.Prelude.{is_some}
 use Rattle.std.specs.List.{AllByRecursion, list_any}
 use Rattle.std.proofs.lemmas.Bool.{cases_eq, eq-eqb, ne_eqb, both_ways, or_left, or_right}
+use Rattle.std.proofs.lemmas.List.{drop_more, get_or-map}
 use Rattle.hu_kind.specs.First.{first_some}
 use Rattle.hu_kind.specs.Record.{has, value_of, positive_part}
-use Rattle.std.proofs.lemmas.List.{drop_more, get_or-map}
 use Rattle.hu_kind.proofs.lemmas.FirstLemmas.{first_here, first_skip}
 use Rattle.hu_kind.proofs.lemmas.Each.{each-weaker}
 use Rattle.hu_kind.proofs.lemmas.Members.{Member}
 use Rattle.hu_kind.proofs.lemmas.Occurring.{at_member, by_members}
-use Rattle.hu_answer.proofs.lemmas.Tests.{any-from_member}
+use Rattle.hu_kind.proofs.lemmas.Tests.{same_bool, any-from_member}
 use Rattle.hu_proof.specs.declared.fault.CheckFault.{CheckFault}
 use Rattle.hu_proof.specs.declared.token.Token.{Token}
 use Rattle.hu_proof.specs.Bounds.{is_among, after, later_gain}
@@ -19,8 +19,9 @@ use Rattle.hu_proof.specs.Check.{wrong_bound_of}
 use Rattle.hu_proof.specs.Judged.{token_items, missing, missing_fault, bound_fault_at, bound_faults}
 use Rattle.hu_proof.specs.Places.{PlaceOf, shares, Apart, Follows, IsRoomy, HasRoom}
 use Rattle.hu_proof.specs.Slots.{named_at, shares_at, NamesAll}
-use Rattle.hu_proof.proofs.Orders.{among-member, member-among, Member-after, Apart-after, not_after_itself, each-follows, Apart-follows}
+use Rattle.hu_proof.proofs.Orders.{member-among, Member-after, Apart-after, not_after_itself, each-follows, Apart-follows}
 use Rattle.hu_proof.proofs.PlaceLemmas.{later_size-monotone}
+use Rattle.hu_proof.proofs.lemmas.OrderMembers.{among-member}
 
 -- ---- what stands after an item that stands after another
 
@@ -84,11 +85,6 @@ Member-following x y later (t ∷ ts) apart f m k n = elim (cases_eq x t) [
     rest z out (inl e) = absurd (out (sym e))
     rest z out (inr k) = k
 
-same_test : (a b : Bool) → (a ≡ true → b ≡ true) → (b ≡ true → a ≡ true) → a ≡ b
-same_test true b there back = sym (there refl)
-same_test false true there back = back refl
-same_test false false there back = refl
-
 -- ---- all later items of a place are named
 
 all-named : (later named : List ℕ) (places : List PlaceOf) → missing later named places ≡ None → (x : ℕ) → Member x later
@@ -133,7 +129,7 @@ gain-named x later named (cell ∷ cells) apart f m all =
     let ih = gain-named x later named cells apart f m (λ y k h. all y k (or_right (eqb y cell.0) (has y cells) h)) in
     let here : has cell.0 (cell ∷ cells) ≡ true = or_left (eqb cell.0 cell.0) (has cell.0 cells) (eq-eqb cell.0 cell.0 refl) in
     let same : is_among cell.0 (after x later) ≡ is_among cell.0 (after x named) =
-    same_test (is_among cell.0 (after x later)) (is_among cell.0 (after x named))
+    same_bool (is_among cell.0 (after x later)) (is_among cell.0 (after x named))
     (λ h. let k = among-member cell.0 (after x later) h in member-among cell.0 (after x named)
     (Member-following x cell.0 later named apart f m (all cell.0 (Member-after cell.0 x later k) here) k))
     (λ h. member-among cell.0 (after x later) (Member-followed x cell.0 later named apart f m (among-member cell.0 (after x named) h))) in

@@ -1,22 +1,16 @@
 -- Orders of items, what stands after an item in one, and lists whose items stand in it one after the other.
 use Rattle.std.proofs.Common.{◌≡◌, ℕ, Bool, true, false, cond, eqb, List, [], ◌∷◌, ◌++◌, refl, sym, subst, inl, inr, filter}
 use Rattle.std.specs.List.{AllByRecursion}
-use Rattle.std.proofs.lemmas.Bool.{cond_both, eq-eqb, eqb-true, ne_eqb, false_from_ne_true}
+use Rattle.std.proofs.lemmas.Bool.{cond_both, eq-eqb, eqb-true, ne_eqb}
 use Rattle.hu_kind.proofs.lemmas.Each.{each-weaker}
 use Rattle.hu_kind.proofs.lemmas.Members.{Member, Member-append_left, Member-append_right, Member-append_cases}
 use Rattle.hu_kind.proofs.lemmas.Occurring.{at_member}
-use Rattle.hu_answer.proofs.lemmas.Tests.{any-member, any-from_member}
+use Rattle.hu_kind.proofs.lemmas.Tests.{any-from_member}
 use Rattle.hu_proof.specs.Bounds.{is_among, after}
 use Rattle.hu_proof.specs.Places.{Apart, Follows}
 
-pub among-member : (x : ℕ) (xs : List ℕ) → is_among x xs ≡ true → Member x xs
-among-member x xs h = let r = any-member (λ i. eqb x i) xs h in subst (λ y. Member y xs) (sym (eqb-true x r.0 r.2)) r.1
-
 pub member-among : (x : ℕ) (xs : List ℕ) → Member x xs → is_among x xs ≡ true
 member-among x xs m = any-from_member (λ i. eqb x i) x xs m (eq-eqb x x refl)
-
-pub not_among : (x : ℕ) (xs : List ℕ) → (Member x xs → ⊥) → is_among x xs ≡ false
-not_among x xs out = false_from_ne_true (is_among x xs) (λ h. out (among-member x xs h))
 
 -- what stands after an item stands in the order
 pub Member-after : (y x : ℕ) (xs : List ℕ) → Member y (after x xs) → Member y xs

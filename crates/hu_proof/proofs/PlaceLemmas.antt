@@ -1,7 +1,6 @@
 -- Steps over the places of a prefix, and that their sums fit.
-use Rattle.std.proofs.Common.{◌≡◌, ℕ, zero, suc, ◌+◌, ◌<◌, ◌≤◌, ◌^◌, Bool, true, false, cond, eqb, ℤ, pos, ◌+ℤ◌, ◌≤ℤ◌}
-use Rattle.std.proofs.Common.{unsigned_abs, Option, None, Some, List, [], ◌∷◌, ◌++◌, length, take, drop, get_or, refl}
-use Rattle.std.proofs.Common.{sym, ap, ◌∙◌, subst, inl, inr, arith}
+use Rattle.std.proofs.Common.{◌≡◌, ℕ, zero, suc, ◌+◌, ◌<◌, ◌≤◌, ◌^◌, Bool, true, false, cond, eqb, ℤ, pos, ◌+ℤ◌, ◌≤ℤ◌, unsigned_abs, Option, None, Some, List}
+use Rattle.std.proofs.Common.{[], ◌∷◌, ◌++◌, length, take, drop, get_or, refl, sym, ap, ◌∙◌, subst, inl, inr, arith}
 use Rattle.std.proofs.lemmas.Bool.{eq-eqb, ne_eqb, cases_Bool, cases_eq}
 use Rattle.std.proofs.lemmas.Int.{ints}
 use Rattle.std.proofs.lemmas.List.{drop_more, take_more, map-append}
@@ -12,7 +11,8 @@ use Rattle.hu_kind.proofs.lemmas.Members.{Member}
 use Rattle.hu_proof.specs.declared.place.Place.{Place}
 use Rattle.hu_proof.specs.Bounds.{is_among, after, later_gain}
 use Rattle.hu_proof.specs.Places.{PlaceOf, place_of, places_of, value_in, narrowed, later_size, Apart, IsRoomy, HasRoom, Rises, Stands}
-use Rattle.hu_proof.proofs.Orders.{among-member, member-among, not_among, Member-after, not_after_itself}
+use Rattle.hu_proof.proofs.Orders.{member-among, Member-after, not_after_itself}
+use Rattle.hu_proof.proofs.lemmas.OrderMembers.{among-member, not_among}
 
 -- ---- sums of the absolute values of later items
 
@@ -104,7 +104,7 @@ narrowed-none x place e = rw (value_in-none x place.0 e) refl
 
 -- ---- shares
 
-size-monotone : (a b : Bool) (n : ℕ) → (a ≡ true → b ≡ true) → cond a n 0 ≤ cond b n 0
+pub size-monotone : (a b : Bool) (n : ℕ) → (a ≡ true → b ≡ true) → cond a n 0 ≤ cond b n 0
 size-monotone true b n w = let here : b ≡ true = w refl in rw here (omega arith)
 size-monotone false true n w = omega arith
 size-monotone false false n w = omega arith

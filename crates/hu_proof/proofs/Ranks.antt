@@ -1,16 +1,16 @@
 -- Items of an order by how many stand before them.
-use Rattle.std.proofs.Common.{◌≡◌, ℕ, zero, suc, ◌+◌, ◌<◌, ◌≤◌, true, false, eqb, nat_eq, List, [], ◌∷◌, length, drop}
-use Rattle.std.proofs.Common.{get_or, position, None, Some, refl, sym, ap, ◌∙◌, subst, inr, arith}
+use Rattle.std.proofs.Common.{◌≡◌, ℕ, zero, suc, ◌+◌, ◌<◌, ◌≤◌, true, false, eqb, nat_eq, List, [], ◌∷◌, length, drop, get_or, position, None, Some, refl, sym}
+use Rattle.std.proofs.Common.{ap, ◌∙◌, subst, inr, arith}
 use Rattle.std.specs.List.{position_or_len}
 use Rattle.std.proofs.lemmas.Bool.{eqb-true, eq-eqb, ne_eqb}
 use Rattle.std.proofs.lemmas.Bool.Decides.{nat_tests}
 use Rattle.std.proofs.lemmas.List.Quantifiers.{position-Some}
 use Rattle.std.proofs.lemmas.List.Sums.{fails_before_first}
-use Rattle.hu_kind.proofs.lemmas.Members.{Member}
+use Rattle.hu_kind.proofs.lemmas.Members.{Member, Member-get}
 use Rattle.hu_proof.specs.Bounds.{is_among, after}
 use Rattle.hu_proof.specs.Places.{Apart}
-use Rattle.hu_proof.proofs.Orders.{member-among, not_among}
-use Rattle.hu_proof.proofs.OrderLemmas.{Member-get}
+use Rattle.hu_proof.proofs.Orders.{member-among}
+use Rattle.hu_proof.proofs.lemmas.OrderMembers.{not_among}
 
 -- an item stands at a place of an order
 pub record StandsAt (order : List ℕ) (item rank : ℕ) : Type 0 where

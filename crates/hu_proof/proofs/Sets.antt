@@ -1,6 +1,6 @@
 -- Sets whose items don't ascend: what they earn, and their ranking.
-use Rattle.std.proofs.Common.{◌≡◌, ℕ, ◌+◌, ◌<◌, ◌≤◌, Bool, true, false, cond, ◌&&◌, ℤ, pos, ◌+ℤ◌, ◌≤ℤ◌, List, [], ◌∷◌}
-use Rattle.std.proofs.Common.{◌++◌, length, refl, sym, ◌∙◌, ap, inl, inr, arith}
+use Rattle.std.proofs.Common.{◌≡◌, ℕ, ◌+◌, ◌<◌, ◌≤◌, Bool, true, false, cond, ◌&&◌, ℤ, pos, ◌+ℤ◌, ◌≤ℤ◌, List, [], ◌∷◌, ◌++◌, length, refl, sym, ◌∙◌, ap, inl}
+use Rattle.std.proofs.Common.{inr, arith}
 use Rattle.std.specs.List.{AllByRecursion, list_any}
 use Rattle.std.specs.Ordering.{nat_cmp, match_ordering, MatchOrdering}
 use Rattle.std.specs.declared.cmp.Ordering.{Ordering}
@@ -14,11 +14,10 @@ use Rattle.hu_kind.specs.Record.{has, holds, value_of, values_of, utility_in}
 use Rattle.hu_kind.specs.Database.{utility, support}
 use Rattle.hu_kind.specs.Order.{Ascend, ranking}
 use Rattle.hu_kind.proofs.lemmas.Members.{Member}
-use Rattle.hu_kind.proofs.lemmas.Occurring.{at_member, by_members, each-ranking, Member-ranking, Ascend-ranking, count-member}
-use Rattle.hu_answer.proofs.lemmas.Tests.{any-member, any-from_member}
+use Rattle.hu_kind.proofs.lemmas.Occurring.{at_member, by_members, each-ranking, Member-ranking, Ascend-ranking, count-member, holds-append}
+use Rattle.hu_kind.proofs.lemmas.Tests.{any-member, any-from_member}
 use Rattle.hu_proof.specs.Bounds.{stands_with}
 use Rattle.hu_proof.specs.Places.{Apart}
-use Rattle.hu_proof.proofs.Gains.{holds-append}
 
 pub Member-from_ranking : (z : ℕ) (xs : List ℕ) → Member z (ranking nat_cmp xs) → Member z xs
 Member-from_ranking z xs m = at_member (λ y. Member y xs) z (ranking nat_cmp xs)

@@ -1,7 +1,7 @@
 -- The values of a record by their slots: what they add to the bounds is what the prefix may earn.
-use Rattle.std.proofs.Common.{◌≡◌, ℕ, zero, suc, ◌+◌, ◌<◌, ◌≤◌, Bool, true, false, cond, eqb, leb, nat_eq, ℤ, pos, negsuc, ◌+ℤ◌}
-use Rattle.std.proofs.Common.{unsigned_abs, Option, None, Some, position, List, [], ◌∷◌, ◌++◌, length, drop, get_or, refl}
-use Rattle.std.proofs.Common.{set, to_z, of_z, ◌^◌, sym, ap, ◌∙◌, subst, inl, inr, arith, sum_by, IsPermutation}
+use Rattle.std.proofs.Common.{◌≡◌, ℕ, zero, suc, ◌+◌, ◌<◌, ◌≤◌, Bool, true, false, cond, eqb, leb, nat_eq, ℤ, pos, negsuc, ◌+ℤ◌, unsigned_abs, Option, None}
+use Rattle.std.proofs.Common.{Some, position, List, [], ◌∷◌, ◌++◌, length, drop, get_or, refl, set, to_z, of_z, ◌^◌, sym, ap, ◌∙◌, subst, inl, inr, arith}
+use Rattle.std.proofs.Common.{sum_by, IsPermutation}
 use Rattle.std.specs.Prelude.{⊤}
 use Rattle.std.specs.Int.{w128}
 use Rattle.std.specs.List.{AllByRecursion}
@@ -21,10 +21,11 @@ use Rattle.hu_proof.specs.declared.slots.Slotted.{Slotted}
 use Rattle.hu_proof.specs.Bounds.{is_among, after, later_gain}
 use Rattle.hu_proof.specs.Places.{PlaceOf, later_size, Apart, IsRoomy, Rises, Stands}
 use Rattle.hu_proof.specs.Slots.{bound_at, part, slotted, slotted_one, gain_in, size_in, gained, named_at, share_at, shares_at}
-use Rattle.hu_proof.proofs.Orders.{member-among, not_among}
+use Rattle.hu_proof.proofs.Orders.{member-among}
 use Rattle.hu_proof.proofs.Ranks.{StandsAt, StandsAt-position, not_among-position, not_among-drop, Member-drop, not_in-drop, after-drop}
 use Rattle.hu_proof.proofs.Lowest.{stands-at}
 use Rattle.hu_proof.proofs.PlaceLemmas.{room-share}
+use Rattle.hu_proof.proofs.lemmas.OrderMembers.{not_among}
 
 -- ---- parts
 

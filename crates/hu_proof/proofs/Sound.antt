@@ -1,7 +1,6 @@
 -- An accepted text opens all that reaches the minimum, and what it opens is the answer.
-use Rattle.std.proofs.Common.{◌≡◌, ℕ, ◌<◌, Bool, true, false, cond, nat_lt, ◌==◌, ℤ, pos, ◌≤ℤ◌, Option, None, Some}
-use Rattle.std.proofs.Common.{List, [], ◌∷◌, map, length, drop, filter, flat_map, refl, sym, subst, ◌∙◌, ap, inl, arith}
-use Rattle.std.proofs.Common.{Contains}
+use Rattle.std.proofs.Common.{◌≡◌, ℕ, ◌<◌, Bool, true, false, cond, nat_lt, ◌==◌, ℤ, pos, ◌≤ℤ◌, Option, None, Some, List, [], ◌∷◌, map, length, drop, filter}
+use Rattle.std.proofs.Common.{flat_map, refl, sym, subst, ◌∙◌, ap, inl, arith, Contains}
 use Rattle.std.specs.Ordering.{nat_cmp, int_eq}
 use Rattle.std.specs.Str.{bytes_eq}
 use Rattle.std.proofs.lemmas.Bool.{and_parts, eqb-true}
@@ -24,9 +23,10 @@ use Rattle.hu_proof.specs.Check.{root, walk, is_order, order_fault, from_order, 
 use Rattle.hu_proof.specs.Opened.{opened, prefix_entry}
 use Rattle.hu_proof.specs.Laws.{OpensAllFound, OpensTheAnswer}
 use Rattle.hu_proof.specs.Places.{Apart}
-use Rattle.hu_proof.proofs.Orders.{among-member, member-among, Apart-follows, Follows-filter}
+use Rattle.hu_proof.proofs.Orders.{member-among, Apart-follows, Follows-filter}
 use Rattle.hu_proof.proofs.Sets.{Member-from_ranking, utility-ranking, support-ranking, Ascend-same, Apart-ranking, support-earning}
 use Rattle.hu_proof.proofs.Walks.{Walked, walked}
+use Rattle.hu_proof.proofs.lemmas.OrderMembers.{among-member}
 
 -- a text without a fault has an order, and its lines from the third on are a walk without one
 record Accepted (records : List (List (ℕ × ℤ))) (least : ℤ) (lines : List (List ℕ)) : Type 0 where

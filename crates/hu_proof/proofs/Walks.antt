@@ -1,7 +1,6 @@
 -- What a walk without a fault has opened.
-use Rattle.std.proofs.Common.{◌≡◌, ℕ, ◌+◌, Bool, true, false, not, cond, eqb, ◌&&◌, ℤ, pos, ◌≤ℤ◌, ◌<ℤ◌, Option, None}
-use Rattle.std.proofs.Common.{Some, option_map, List, [], ◌∷◌, ◌++◌, map, filter, refl, sym, subst, ◌∙◌, ap, inl, inr}
-use Rattle.std.proofs.Common.{arith, append_assoc, append-nil}
+use Rattle.std.proofs.Common.{◌≡◌, ℕ, ◌+◌, Bool, true, false, not, cond, eqb, ◌&&◌, ℤ, pos, ◌≤ℤ◌, ◌<ℤ◌, Option, None, Some, option_map, List, [], ◌∷◌, ◌++◌}
+use Rattle.std.proofs.Common.{map, filter, refl, sym, subst, ◌∙◌, ap, inl, inr, arith, append_assoc, append-nil}
 use Rattle.std.specs.Prelude.{int_le, is_none}
 use Rattle.std.specs.Bool.{then_some}
 use Rattle.std.specs.List.{AllByRecursion, list_any}
@@ -15,19 +14,19 @@ use Rattle.hu_kind.specs.Database.{utility}
 use Rattle.hu_kind.specs.First.{first_some}
 use Rattle.hu_kind.proofs.lemmas.Each.{each-append}
 use Rattle.hu_kind.proofs.lemmas.Members.{Member, Member-append_left, Member-append_right, Member-map, Member-filter}
-use Rattle.hu_answer.proofs.lemmas.Tests.{any-member}
+use Rattle.hu_kind.proofs.lemmas.Tests.{any-member}
 use Rattle.hu_proof.specs.declared.fault.CheckFault.{CheckFault}
 use Rattle.hu_proof.specs.declared.token.Token.{Token}
 use Rattle.hu_proof.specs.Bounds.{is_among, after, cut_bound, stands_with}
-use Rattle.hu_proof.specs.Check.{Node, grown, children, first_such, wrong_child, left_out, token_bound, wrong_bound}
-use Rattle.hu_proof.specs.Check.{not_cut, prefix_fault, utility_fault, child_fault, left_fault, bound_fault, cut_fault}
-use Rattle.hu_proof.specs.Check.{faults_of, line_fault, opened_by, walk}
+use Rattle.hu_proof.specs.Check.{Node, grown, children, first_such, wrong_child, left_out, token_bound, wrong_bound, not_cut, prefix_fault, utility_fault}
+use Rattle.hu_proof.specs.Check.{child_fault, left_fault, bound_fault, cut_fault, faults_of, line_fault, opened_by, walk}
 use Rattle.hu_proof.specs.Opened.{prefixes_in}
 use Rattle.hu_proof.specs.Text.{Said, said_of}
 use Rattle.hu_proof.specs.Places.{Apart, Follows}
-use Rattle.hu_proof.proofs.Orders.{among-member, Member-after, Apart-grown, Apart-left, Apart-right, Apart-after}
+use Rattle.hu_proof.proofs.Orders.{Member-after, Apart-grown, Apart-left, Apart-right, Apart-after}
 use Rattle.hu_proof.proofs.Gains.{utility-cut_bound}
 use Rattle.hu_proof.proofs.Sets.{stands_with-grown}
+use Rattle.hu_proof.proofs.lemmas.OrderMembers.{among-member}
 
 -- ---- options that are none
 

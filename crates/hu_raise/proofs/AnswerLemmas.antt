@@ -1,11 +1,9 @@
 -- The first k itemsets by a floor that k single items reach.
-use Rattle.std.proofs.Common.{◌≡◌, ◌≢◌, ◌↔◌, ℕ, ◌<◌, ◌≤◌, Bool, true, false, eqb, ◌||◌, ℤ, unsigned_abs, ◌≤ℤ◌, int_le}
-use Rattle.std.proofs.Common.{Some, List, [], ◌∷◌, ◌++◌, map, filter, length, take, refl, sym, ap, ◌∙◌, subst, inl, inr}
-use Rattle.std.proofs.Common.{arith, flat_map, Contains, Ordering, Less, Equal, Greater}
+use Rattle.std.proofs.Common.{◌≡◌, ◌≢◌, ◌↔◌, ℕ, ◌<◌, ◌≤◌, Bool, true, false, ℤ, unsigned_abs, ◌≤ℤ◌, int_le, Some, List, [], ◌∷◌, ◌++◌, map, filter, length}
+use Rattle.std.proofs.Common.{take, refl, sym, ap, ◌∙◌, subst, inl, inr, arith, flat_map, Contains, Ordering, Less, Equal, Greater}
 use Rattle.std.specs.Int.Signed.{≤ℤ_refl}
 use Rattle.std.specs.Ordering.{eq_by_cmp, is_eq}
 use Rattle.std.specs.List.{AllByRecursion, IsDistinct}
-use Rattle.std.proofs.lemmas.Bool.{eq-eqb}
 use Rattle.std.proofs.lemmas.Int.{ints, clamps}
 use Rattle.std.proofs.lemmas.Cmp.{eq_by_cmp_equiv}
 use Rattle.std.proofs.lemmas.List.{length-take, length-map}
@@ -13,20 +11,19 @@ use Rattle.std.proofs.lemmas.Map.Made.{length-le_from_is_member}
 use Rattle.std.proofs.lemmas.Map.Views.{list_any-from_Contains, Contains-from_any}
 use Rattle.hu_kind.specs.declared.entry.Entry.{Entry}
 use Rattle.hu_kind.specs.Order.{entry_cmp, entry_cmp_total, ranking}
-use Rattle.hu_kind.specs.Record.{has, holds, items_in}
+use Rattle.hu_kind.specs.Record.{holds, items_in}
 use Rattle.hu_kind.specs.Database.{utility}
 use Rattle.hu_kind.specs.Itemsets.{item_entry, item_patterns, occurring_sets}
 use Rattle.hu_kind.specs.Answer.{found}
-use Rattle.hu_kind.proofs.lemmas.Members.{Member, Contains-from_member, Member-from_contains, Member-map}
-use Rattle.hu_kind.proofs.lemmas.Members.{Member-from_map, Member-filter, Member-from_filter, Member-append_right}
-use Rattle.hu_kind.proofs.lemmas.Members.{Member-append_cases, Member-from_flat_map}
-use Rattle.hu_kind.proofs.lemmas.Occurring.{at_member, by_members, count-member, Member-from_occurs}
+use Rattle.hu_kind.proofs.lemmas.Members.{Member, Contains-from_member, Member-from_contains, Member-map, Member-from_map, Member-filter, Member-from_filter}
+use Rattle.hu_kind.proofs.lemmas.Members.{Member-append_right, Member-append_cases, Member-from_flat_map, filter-all}
+use Rattle.hu_kind.proofs.lemmas.Occurring.{at_member, by_members, count-member, Member-from_occurs, has-from_member}
+use Rattle.hu_kind.proofs.lemmas.EntryOrder.{entry_exact}
+use Rattle.hu_kind.proofs.lemmas.Each.{each-take}
 use Rattle.hu_totals.specs.Totals.{first_seen}
 use Rattle.hu_totals.proofs.lemmas.AddingLemmas.{Once-first_seen, Member-from_first_seen}
 use Rattle.hu_totals.proofs.lemmas.SortedLists.{Once, Member-from_ranking, Member-to_ranking}
 use Rattle.hu_collect.specs.Rule.{Rule, rule_of, passes, made, last_utility, floor_of}
-use Rattle.hu_collect.proofs.lemmas.Cutting.{AllByRecursion-take}
-use Rattle.hu_kind.proofs.lemmas.EntryOrder.{entry_exact}
 use Rattle.hu_collect.proofs.lemmas.Floor.{floor_by-full}
 use Rattle.hu_collect.proofs.lemmas.Made.{makes_in_turn, makes_by_members, makes_by_reaching, kept-made}
 use Rattle.hu_raise.proofs.NumberLists.{Once-filter}
@@ -73,16 +70,6 @@ distinct-singles records (x ∷ xs) o = (apart xs o.0, distinct-singles records 
     apart [] out = tt
     apart (y ∷ ys) out = (single-apart records x y (λ e. out (inl (sym e))), apart ys (λ m. out (inr m)))
 
--- an item of a record is found there
-has-from_member : (item : ℕ) (cells : List (ℕ × ℤ)) → Member item (items_in cells) → has item cells ≡ true
-has-from_member item [] m = absurd m
-has-from_member item (cell ∷ cells) (inl e) = rw (eq-eqb item cell.0 (sym e)) refl
-has-from_member item (cell ∷ cells) (inr m) = by (eqb item cell.0) (has item cells) (has-from_member item cells m)
-  where
-    by : (b h : Bool) → h ≡ true → (b || h) ≡ true
-    by true h e = refl
-    by false h e = e
-
 -- an item that occurs is a pattern
 occurs-single : (records : List (List (ℕ × ℤ))) (item : ℕ) → Member item (flat_map items_in records) → Member (item ∷ []) (occurring_sets records)
 occurs-single records item m =
@@ -121,10 +108,6 @@ module _ (records : List (List (ℕ × ℤ))) (floor : ℤ) where
       let m = singles-high q (Member-from_contains q xs (Contains-from_any same_entry-is q xs h)) in
       list_any-from_Contains equiv q ys (Contains-from_member q ys (Member-to_ranking entry_cmp entry_exact q high m))) in
       omega (arith, length-map items (single records))
-
-filter-all : (p : Entry → Bool) (xs : List Entry) → AllByRecursion (λ x. p x ≡ true) xs → filter p xs ≡ xs
-filter-all p [] all = refl
-filter-all p (x ∷ xs) all = rw (all.0) (ap (λ ys. x ∷ ys) (filter-all p xs all.1))
 
 last-reaches : (floor : ℤ) (d : ℤ) (xs : List Entry) → 0 < length xs → AllByRecursion (λ x. floor ≤ℤ x.utility) xs → floor ≤ℤ last_utility d xs
 last-reaches floor d [] some all = absurd (omega arith)
@@ -208,7 +191,7 @@ module _ (k : ℕ) (floor least : ℤ) (patterns : List Entry) (some : 1 ≤ k) 
       let ranked = by_members (λ e. floor ≤ℤ e.utility) (ranking entry_cmp (found floor patterns))
       (λ e m. at_member (λ e. floor ≤ℤ e.utility) e (found floor patterns) each-high (Member-from_ranking entry_cmp e (found floor patterns) m)) in
       subst (AllByRecursion (λ e. floor ≤ℤ e.utility)) (sym kept-is)
-      (AllByRecursion-take (λ e. floor ≤ℤ e.utility) k (ranking entry_cmp (found floor patterns)) ranked)
+      (each-take (λ e. floor ≤ℤ e.utility) k (ranking entry_cmp (found floor patterns)) ranked)
 
   -- the floor over the first k that reach a floor is no less
   floor-kept : floor ≤ℤ floor_of rule kept

@@ -1,9 +1,8 @@
 -- The utilities of items, place by place.
 use Rattle.std.proofs.Common.{◌≡◌, ℕ, ◌+◌, ◌<◌, Bool, true, false, cond, ℤ, pos, int_le, List, [], ◌∷◌, ◌++◌, take, length, refl, sym, ap, ◌∙◌, option_to_list}
 use Rattle.std.specs.List.{slice_get}
-use Rattle.std.proofs.lemmas.List.{take_more}
-use Rattle.std.proofs.lemmas.Option.{slice_get-get_or}
 use Rattle.hu_totals.specs.declared.totals.ItemTotal.{ItemTotal}
+use Rattle.hu_totals.proofs.lemmas.WeightLemmas.{place_more}
 use Rattle.hu_raise.specs.StartFloor.{earned}
 
 earned-append : (xs ys : List (ℕ × ItemTotal)) → earned (xs ++ ys) ≡ earned xs ++ earned ys
@@ -15,9 +14,6 @@ earned-append (x ∷ xs) ys = by (int_le (pos 1) x.1.utility) (earned-append xs 
         ≡ cond b (x.1.utility ∷ earned xs) (earned xs) ++ earned ys
     by true ih = ap (λ us. x.1.utility ∷ us) ih
     by false ih = ih
-
-place_more : {X : Type 0} (xs : List X) (i : ℕ) (d : X) → i < length xs → take (i + 1) xs ≡ take i xs ++ option_to_list (slice_get xs i)
-place_more xs i d within = take_more xs i d within ∙ ap (λ one. take i xs ++ option_to_list one) (sym (slice_get-get_or xs i d within))
 
 no_entry : ℕ × ItemTotal
 no_entry = (0, record { utility = pos 0; positive = pos 0; support = 0; twu = pos 0 })

@@ -6,7 +6,6 @@ pub mod AnswerLemmas
 pub mod EarnedLemmas
 pub mod StartLemmas
 pub mod SumLemmas
-pub mod CellLemmas
 pub mod PairLemmas
 pub mod VectorLemmas
 pub mod TableLemmas

@@ -1,16 +1,16 @@
 -- Lists of numbers: what passes a test, and ranges.
-use Rattle.std.proofs.Common.{◌≡◌, ℕ, zero, suc, ◌+◌, ◌<◌, ◌≤◌, Bool, true, false, cond, List, [], ◌∷◌, ◌++◌, length}
-use Rattle.std.proofs.Common.{get_or, take, filter, sym, ◌∙◌, inl, inr, arith, append-nil}
+use Rattle.std.proofs.Common.{◌≡◌, ℕ, zero, suc, ◌+◌, ◌<◌, ◌≤◌, Bool, true, false, cond, List, [], ◌∷◌, ◌++◌, length, get_or, take, filter, sym, ◌∙◌, inl, inr}
+use Rattle.std.proofs.Common.{arith, append-nil}
 use Rattle.std.specs.List.{range_with_len}
 use Rattle.std.specs.List.Sorted.{IsStrictlyIncreasing}
 use Rattle.std.specs.Ordering.{nat_cmp}
-use Rattle.std.proofs.lemmas.Bool.{cases_eq}
 use Rattle.std.proofs.lemmas.Cmp.{nat_cmp_total}
 use Rattle.std.proofs.lemmas.List.Elements.{filter_more}
 use Rattle.std.proofs.lemmas.List.Kept.{IsStrictlyIncreasing-filter}
 use Rattle.std.proofs.lemmas.List.FromFn.{length-range_with_len, get_or-range_with_len}
 use Rattle.std.proofs.lemmas.Map.Keys.{sorted_from_strictly_increasing}
 use Rattle.hu_kind.proofs.lemmas.Members.{Member, Member-filter, Member-from_filter}
+use Rattle.hu_kind.proofs.lemmas.Ascending.{Member-range}
 use Rattle.hu_totals.proofs.lemmas.SortedLists.{Once, sorted_same}
 
 -- ---- what passes a test
@@ -36,13 +36,6 @@ filter-more_no p xs i before after within so_far fails is =
     is ∙ sym (append-nil before) ∙ (λ j. so_far j ++ cond (sym fails j) (get_or xs i 0 ∷ []) []) ∙ sym (filter_more p xs i 0 within)
 
 -- ---- ranges
-
-Member-range : (a n x : ℕ) → a ≤ x → x < a + n → Member x (range_with_len a n)
-Member-range a zero x low high = absurd (omega arith)
-Member-range a (suc n) x low high = elim (cases_eq a x) [
-  | inl e ↦ inl e
-  | inr apart ↦ inr (Member-range (a + 1) n x (omega arith) (omega arith))
-]
 
 pub Member-from_range : (a n x : ℕ) → Member x (range_with_len a n) → (a ≤ x) × (x < a + n)
 Member-from_range a zero x m = absurd m

@@ -1,7 +1,6 @@
 -- Sums by rank.
-use Rattle.std.proofs.Common.{◌≡◌, ◌≢◌, ℕ, zero, suc, ◌<◌, Bool, true, false, cond, nat_eq, ◌&&◌, ◌||◌, ℤ, pos, negsuc}
-use Rattle.std.proofs.Common.{◌+ℤ◌, ◌≤ℤ◌, ◌<ℤ◌, int_le, int_lt, List, [], ◌∷◌, ◌++◌, length, get_or, set, replicate}
-use Rattle.std.proofs.Common.{filter, refl, sym, ap, ◌∙◌, subst, inl, inr, arith, append-nil, ◌^◌, FitsSigned}
+use Rattle.std.proofs.Common.{◌≡◌, ◌≢◌, ℕ, zero, suc, ◌<◌, Bool, true, false, cond, nat_eq, ◌&&◌, ◌||◌, ℤ, pos, negsuc, ◌+ℤ◌, ◌≤ℤ◌, ◌<ℤ◌, int_le, int_lt, List}
+use Rattle.std.proofs.Common.{[], ◌∷◌, ◌++◌, length, get_or, set, replicate, filter, refl, sym, ap, ◌∙◌, subst, inl, inr, arith, append-nil, ◌^◌, FitsSigned}
 use Rattle.std.specs.Int.{w128}
 use Rattle.std.specs.Int.Signed.{≤ℤ_refl}
 use Rattle.std.specs.List.{All, list_any, range_with_len, IsDistinct}
@@ -17,15 +16,10 @@ use Rattle.std.proofs.lemmas.List.Sorted.{IsNonDecreasingBy-from_sort, Contains-
 use Rattle.std.proofs.lemmas.Map.Keys.{IsDistinct-push, IsDistinct-IsPermutation, IsStrictlyIncreasing-from_distinct}
 use Rattle.std.proofs.lemmas.Map.Views.{list_any-from_Contains, Contains-from_any}
 use Rattle.hu_kind.proofs.lemmas.Members.{Member, Contains-from_member, Member-from_contains, Member-filter, Member-from_filter}
+use Rattle.hu_kind.proofs.lemmas.Occurring.{eqb-flips}
 use Rattle.hu_totals.proofs.lemmas.SortedLists.{Once-from_distinct, IsDistinct-from_once}
 use Rattle.hu_raise.specs.Sums.{first_rank, sum_at, ranks_reaching, AreSums}
 use Rattle.hu_raise.proofs.NumberLists.{Once-filter, ascending_same, filter-range_ascends, Member-filter_range}
-
-flips : (x y : ℕ) → nat_eq x y ≡ nat_eq y x
-flips x y = elim (cases_eq x y) [
-  | inl e ↦ eq-eqb x y e ∙ sym (eq-eqb y x (sym e))
-  | inr ne ↦ ne_eqb x y ne ∙ sym (ne_eqb y x (λ e. ne (sym e)))
-]
 
 -- ---- no sum
 
@@ -204,7 +198,7 @@ module _ (floor : ℤ) (sums : List ℤ) (touched : List ℕ) (are : AreSums sum
       (Once-filter reaches touched (Once-from_distinct touched are.once))) in
       let rise =
       IsStrictlyIncreasing-from_distinct sorted (IsNonDecreasingBy-from_sort (λ x. x) sorted up)
-      (IsDistinct-IsPermutation nat_eq flips found sorted same once) in
+      (IsDistinct-IsPermutation nat_eq eqb-flips found sorted same once) in
       ascending_same sorted (ranks_reaching floor sums) rise (filter-range_ascends reaches 0 (length sums)) to back
     where
       to : (x : ℕ) → Member x sorted → Member x (ranks_reaching floor sums)

@@ -1,13 +1,13 @@
 -- Cells and rows of the same ranks added.
-use Rattle.std.proofs.Common.{◌≡◌, ℕ, zero, suc, ◌+◌, ◌^◌, ◌<◌, ◌≤◌, Bool, true, false, cond, eqb, ◌&&◌, ◌||◌, ℤ, pos, unsigned_abs, ◌+ℤ◌, List, []}
-use Rattle.std.proofs.Common.{◌∷◌, length, get_or, set, take, drop, ◌⊎◌, inl, inr, refl, sym, ap, ◌∙◌, arith}
+use Rattle.std.proofs.Common.{◌≡◌, ℕ, zero, suc, ◌+◌, ◌^◌, ◌<◌, ◌≤◌, Bool, true, false, cond, eqb, ◌&&◌, ◌||◌, ℤ, pos, unsigned_abs, ◌+ℤ◌, List, [], ◌∷◌}
+use Rattle.std.proofs.Common.{length, get_or, set, take, drop, ◌⊎◌, inl, inr, refl, sym, ap, ◌∙◌, arith}
 use Rattle.std.proofs.lemmas.Int.{ints}
 use Rattle.std.proofs.lemmas.List.{get_or-map, length-map, map-set}
-use Rattle.std.proofs.lemmas.List.Sums.{sum_by-cons, get_or-le-sum_by}
+use Rattle.std.proofs.lemmas.List.Sums.{sum_by-cons}
 use Rattle.hu_kind.specs.Record.{has, holds, value_of, values_of, items_in, absolute_of}
 use Rattle.hu_totals.specs.declared.ranked.Dense.{Dense}
-use Rattle.hu_totals.specs.View.{dense_pair}
-use Rattle.hu_rows.specs.View.{cells_of}
+use Rattle.hu_totals.specs.View.{dense_pair, cells_of}
+use Rattle.hu_totals.proofs.lemmas.DenseLemmas.{value-within}
 use Rattle.hu_rows.specs.Rows.{RowOf, over_row, count_in, size_of, ranks_of}
 use Rattle.hu_rows.specs.Merging.{added, added_cells}
 
@@ -137,13 +137,6 @@ pub drop-cells_of : (cells : List Dense) (n : ℕ) → cells_of (drop n cells) �
 drop-cells_of cells zero = refl
 drop-cells_of [] (suc n) = refl
 drop-cells_of (cell ∷ cells) (suc n) = drop-cells_of cells n
-
-pub value-within : (cells : List Dense) (i : ℕ) (d : Dense) → i < length cells → unsigned_abs (get_or cells i d).value ≤ absolute_of (cells_of cells)
-value-within cells i d within = omega (
-  arith,
-  ap (λ (c : ℕ × ℤ). unsigned_abs c.1) (get_or-cells_of cells i d within),
-  get_or-le-sum_by (λ (c : ℕ × ℤ). unsigned_abs c.1) (cells_of cells) i (dense_pair d) (omega (arith, length-map cells dense_pair)),
-)
 
 module _ (first others now : List Dense) (i : ℕ) (d : Dense) (is : cells_of now ≡ added_cells (cells_of first) (take i (cells_of others)))
     (len : length now ≡ length first) (within : i < length first) (within' : i < length others) where

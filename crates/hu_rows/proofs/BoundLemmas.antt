@@ -1,19 +1,19 @@
 -- No set of kept ranks earns more over rows than the bounds, and bounds grow row by row.
-use Rattle.std.proofs.Common.{◌≡◌, ℕ, ◌≤◌, Bool, true, false, cond, eqb, ◌&&◌, IsTrue, ℤ, pos, unsigned_abs, ◌+ℤ◌, ◌≤ℤ◌, List, [], ◌∷◌}
-use Rattle.std.proofs.Common.{◌++◌, inl, inr, refl, sym, ap, ◌∙◌, subst, arith, sum_by}
+use Rattle.std.proofs.Common.{◌≡◌, ℕ, ◌≤◌, Bool, true, false, cond, eqb, ◌&&◌, IsTrue, ℤ, pos, unsigned_abs, ◌+ℤ◌, ◌≤ℤ◌, List, [], ◌∷◌, ◌++◌, inl, inr, refl}
+use Rattle.std.proofs.Common.{sym, ap, ◌∙◌, subst, arith, sum_by}
 use Rattle.std.specs.List.{AllByRecursion}
-use Rattle.std.proofs.lemmas.Bool.{eqb-true, and_parts, or_cases}
+use Rattle.std.proofs.lemmas.Bool.{eqb-true, or_cases}
 use Rattle.std.proofs.lemmas.Int.{ints}
 use Rattle.std.proofs.lemmas.List.Sums.{sum_by-cons}
 use Rattle.hu_kind.specs.Order.{Ascend}
 use Rattle.hu_kind.specs.Record.{has, holds, value_of, values_of}
 use Rattle.hu_kind.proofs.lemmas.Earned.{positive_part-within}
-use Rattle.hu_rows.specs.Rows.{RowOf, AreRows, over, over_row, ranks_of, size_of}
-use Rattle.hu_totals.proofs.lemmas.KeptLemmas.{positive-least, positive-above, kept_gain-within, values_of-kept}
 use Rattle.hu_kind.proofs.lemmas.Each.{each-weaker}
+use Rattle.hu_rows.specs.Rows.{RowOf, AreRows, over, over_row, ranks_of, size_of}
+use Rattle.hu_rows.specs.Bounds.{local_share, subtree_share, local_bound, subtree_bound, set_to, IsKeptSet, BoundsEach, BoundsLeast}
+use Rattle.hu_totals.proofs.lemmas.KeptLemmas.{positive-least, positive-above, kept_gain-within, values_of-kept, has-among}
 use Rattle.hu_totals.specs.Cells.{after, among, kept_gain}
 use Rattle.hu_totals.proofs.lemmas.AfterLemmas.{Ascend-after, absolute_of-after, holds-after, values_of-after}
-use Rattle.hu_rows.specs.Bounds.{local_share, subtree_share, local_bound, subtree_bound, set_to, IsKeptSet, BoundsEach, BoundsLeast}
 
 -- ---- what a set of kept ranks earns in a row is within the row's share
 
@@ -25,16 +25,6 @@ true_from false h = cc
 kept_set : (keep set : List ℕ) → AllByRecursion (λ rank. IsTrue (among rank keep)) set → AllByRecursion (λ rank. among rank keep ≡ true) set
 kept_set keep set kept =
     each-weaker (λ rank. IsTrue (among rank keep)) (λ rank. among rank keep ≡ true) set (λ rank h. true_from (among rank keep) h) kept
-
--- a rank of a set that a row holds stands in it
-has-among : (z : ℕ) (set : List ℕ) (cells : List (ℕ × ℤ)) → among z set ≡ true → holds set cells ≡ true → has z cells ≡ true
-has-among z [] cells m h = cc
-has-among z (s ∷ set) cells m h =
-    let both = and_parts (has s cells) (holds set cells) h in
-    elim (or_cases (eqb z s) (among z set) m) [
-      | inl e ↦ subst (λ r. has r cells ≡ true) (sym (eqb-true z s e)) both.0
-      | inr later ↦ has-among z set cells later both.1
-    ]
 
 over_row-local : (keep set : List ℕ) (z : ℕ) (row : RowOf) → Ascend (ranks_of row) → IsKeptSet keep set → among z set ≡ true
     → over_row set row ≤ℤ cond (has z row.cells) (local_share keep row) (pos 0)

@@ -1,7 +1,6 @@
 -- Cells as they lie in memory: whether their ranks ascend, and where a rank stands.
-use Rattle.std.proofs.Common.{◌≡◌, ◌≢◌, ◌↔◌, ℕ, zero, suc, ◌+◌, ◌-◌, ◌<◌, ◌≤◌, Bool, true, false, cond, ◌^◌, eqb, inl, inr, ℤ, pos, ◌+ℤ◌, List, []}
-use Rattle.std.proofs.Common.{◌∷◌, map, length, get_or, take, drop, refl, sym, ap, ◌∙◌, subst, arith, nat_cmp, Less, Greater, Result, Ok, Err}
-use Rattle.std.proofs.Common.{MatchOption, sum_by}
+use Rattle.std.proofs.Common.{◌≡◌, ◌≢◌, ◌↔◌, ℕ, zero, suc, ◌+◌, ◌-◌, ◌<◌, ◌≤◌, Bool, true, false, cond, ◌^◌, eqb, inl, inr, ℤ, pos, ◌+ℤ◌, List, [], ◌∷◌, map}
+use Rattle.std.proofs.Common.{length, get_or, take, drop, refl, sym, ap, ◌∙◌, subst, arith, nat_cmp, Less, Greater, Result, Ok, Err, MatchOption, sum_by}
 use Rattle.std.specs.List.{All, AllByRecursion, AllAdjacentBelow}
 use Rattle.std.specs.List.Sorted.{IsBinarySearchResult, IsSearchInRange}
 use Rattle.std.specs.Ordering.{ordering_index}
@@ -16,19 +15,19 @@ use Rattle.hu_kind.specs.Database.{utility, support}
 use Rattle.hu_kind.specs.Order.{Ascend}
 use Rattle.hu_kind.specs.Record.{has, holds, values_of, items_in, absolute_of}
 use Rattle.hu_kind.proofs.lemmas.Occurring.{above_all}
+use Rattle.hu_kind.proofs.lemmas.Each.{each-from_all, each-get}
+use Rattle.hu_kind.proofs.lemmas.Ascending.{each-ascending}
 use Rattle.hu_totals.specs.declared.ranked.Dense.{Dense}
 use Rattle.hu_totals.specs.Ranked.{Ranking, IsRanking}
-use Rattle.hu_totals.specs.View.{dense_pair}
+use Rattle.hu_totals.specs.View.{dense_pair, cells_of}
+use Rattle.hu_totals.specs.Cells.{after}
+use Rattle.hu_totals.proofs.lemmas.AfterLemmas.{IsPlace, IsPlace-at}
 use Rattle.hu_rows.specs.declared.rows.Row.{Row}
 use Rattle.hu_rows.specs.Rows.{RowOf, AreRows, AreCounted, over, count_over, size_of, count_of, ranks_of, unmerged}
 use Rattle.hu_rows.specs.Projection.{projected_row}
-use Rattle.hu_rows.specs.View.{cells_of, row_of, rows_of, row_with, KeepRules}
-use Rattle.hu_totals.specs.Cells.{after}
-use Rattle.hu_totals.proofs.lemmas.AfterLemmas.{IsPlace, IsPlace-at}
+use Rattle.hu_rows.specs.View.{row_of, rows_of, row_with, KeepRules}
 use Rattle.hu_rows.proofs.AddedCells.{get_or-cells_of, drop-cells_of}
 use Rattle.hu_rows.proofs.RankOrder.{ranks, length-ranks, get_or-ranks}
-use Rattle.hu_kind.proofs.lemmas.Each.{each-from_all, each-get}
-use Rattle.hu_kind.proofs.lemmas.Ascending.{each-ascending}
 use Rattle.hu_rows.specs.Tally.{AreBelow}
 
 -- ---- ranks that ascend

@@ -1,23 +1,14 @@
 -- Rows narrowed cell by cell and row by row, as they lie in memory.
-use Rattle.std.proofs.Common.{◌≡◌, ℕ, zero, suc, ◌+◌, ◌<◌, ◌≤◌, Bool, true, false, cond, eqb, nat_lt, ℤ, List, [], ◌∷◌, ◌++◌, length, get_or, take}
-use Rattle.std.proofs.Common.{refl, sym, ap, ◌∙◌, arith, append-nil}
-use Rattle.std.specs.List.{AllByRecursion}
+use Rattle.std.proofs.Common.{◌≡◌, ℕ, suc, ◌+◌, ◌<◌, ◌≤◌, Bool, true, false, cond, eqb, nat_lt, ℤ, List, [], ◌∷◌, ◌++◌, length, get_or, take, refl, sym, ap}
+use Rattle.std.proofs.Common.{◌∙◌, arith, append-nil}
 use Rattle.std.proofs.lemmas.Bool.{eqb-true, lt-ltb, le-ltb}
 use Rattle.std.proofs.lemmas.List.{take_more, map-append, length-map}
 use Rattle.std.proofs.lemmas.Grind.{flat_map-append}
-use Rattle.hu_kind.specs.Record.{items_in}
 use Rattle.hu_totals.specs.declared.ranked.Dense.{Dense}
-use Rattle.hu_totals.specs.View.{dense_pair}
+use Rattle.hu_totals.specs.View.{dense_pair, cells_of}
 use Rattle.hu_rows.specs.declared.rows.Row.{Row}
 use Rattle.hu_rows.specs.Handed.{only, narrowed, narrowed_row}
-use Rattle.hu_rows.specs.View.{cells_of, row_of, rows_of, row_with}
-
--- what holds of each rank holds of that at a place
-pub rank-each : (P : ℕ → Type 0) (cells : List Dense) (i : ℕ) (d : Dense) → AllByRecursion P (items_in (cells_of cells)) → i < length cells
-    → P (get_or cells i d).rank
-rank-each P [] i d all within = absurd (omega arith)
-rank-each P (cell ∷ cells) zero d all within = all.0
-rank-each P (cell ∷ cells) (suc i) d all within = rank-each P cells i d all.1 (omega arith)
+use Rattle.hu_rows.specs.View.{row_of, rows_of, row_with}
 
 -- ---- cells
 

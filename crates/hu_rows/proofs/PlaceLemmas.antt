@@ -1,6 +1,6 @@
 -- Places of ranks in rows, and the rows that they give.
-use Rattle.std.proofs.Common.{◌≡◌, ℕ, zero, suc, ◌+◌, ◌-◌, ◌<◌, ◌≤◌, Bool, true, false, cond, eqb, nat_lt, ◌≢◌, ◌&&◌, ℤ, ◌+ℤ◌, List, []}
-use Rattle.std.proofs.Common.{◌∷◌, ◌++◌, length, get_or, set, take, drop, map, refl, sym, ap, ◌∙◌, subst, inl, inr, arith, append-nil, append_assoc}
+use Rattle.std.proofs.Common.{◌≡◌, ℕ, zero, suc, ◌+◌, ◌-◌, ◌<◌, ◌≤◌, Bool, true, false, cond, eqb, nat_lt, ◌≢◌, ◌&&◌, ℤ, ◌+ℤ◌, List, [], ◌∷◌, ◌++◌, length}
+use Rattle.std.proofs.Common.{get_or, set, take, drop, map, refl, sym, ap, ◌∙◌, subst, inl, inr, arith, append-nil, append_assoc}
 use Rattle.std.specs.declared.vec.Vec.{Vec}
 use Rattle.std.specs.declared.alloc.Global.{Global}
 use Rattle.std.specs.List.{AllByRecursion}
@@ -10,15 +10,16 @@ use Rattle.std.proofs.lemmas.Grind.{flat_map-append}
 use Rattle.hu_kind.specs.Order.{Ascend}
 use Rattle.hu_kind.specs.Record.{has, value_of, items_in}
 use Rattle.hu_totals.specs.declared.ranked.Dense.{Dense}
-use Rattle.hu_totals.specs.View.{dense_pair}
+use Rattle.hu_totals.specs.View.{dense_pair, cells_of}
+use Rattle.hu_totals.specs.Cells.{after}
+use Rattle.hu_totals.proofs.lemmas.AfterLemmas.{IsPlace, IsPlace-at}
+use Rattle.hu_totals.proofs.lemmas.RecordCells.{has-below}
 use Rattle.hu_rows.specs.declared.rows.Row.{Row}
 use Rattle.hu_rows.specs.declared.places.Place.{Place}
 use Rattle.hu_rows.specs.Rows.{RowOf, ranks_of}
-use Rattle.hu_totals.specs.Cells.{after}
-use Rattle.hu_totals.proofs.lemmas.AfterLemmas.{IsPlace, IsPlace-at}
 use Rattle.hu_rows.specs.Handed.{handed, handed_if, handed_row, row_if_some, row_after, row_at, no_row, no_cell, places_at, IsWithin, ArePlaces}
 use Rattle.hu_rows.specs.Places.{lists_in, places_from, places_in}
-use Rattle.hu_rows.specs.View.{cells_of, row_of, rows_of, row_with}
+use Rattle.hu_rows.specs.View.{row_of, rows_of, row_with}
 use Rattle.hu_rows.proofs.AddedCells.{drop-cells_of}
 
 -- ---- a row projected at a place
@@ -128,18 +129,11 @@ head-at (a ∷ all) (suc i) c cells e =
     let w = r.1 in
     (r.0, (omega arith), ap (λ n. drop n (a ∷ all)) next ∙ r.2)
 
-has-above : (z : ℕ) (cells : List (ℕ × ℤ)) → AllByRecursion (λ y. z < y) (items_in cells) → has z cells ≡ false
-has-above z [] above = refl
-has-above z (cell ∷ cells) above =
-    let first = above.0 in
-    let no : eqb z cell.0 ≡ false = ne_eqb z cell.0 (λ e. absurd (omega arith)) in
-    rw no (has-above z cells above.1)
-
-has-below : (z low : ℕ) (cells : List (ℕ × ℤ)) → AllByRecursion (λ y. low < y) (items_in cells) → has z cells ≡ true → low < z
-has-below z low [] above h = cc
-has-below z low (cell ∷ cells) above h = elim (or_cases (eqb z cell.0) (has z cells) h) [
+above-all : (z low : ℕ) (cells : List (ℕ × ℤ)) → AllByRecursion (λ y. low < y) (items_in cells) → has z cells ≡ true → low < z
+above-all z low [] above h = cc
+above-all z low (cell ∷ cells) above h = elim (or_cases (eqb z cell.0) (has z cells) h) [
   | inl e ↦ let same = eqb-true z cell.0 e in let first = above.0 in omega arith
-  | inr later ↦ has-below z low cells above.1 later
+  | inr later ↦ above-all z low cells above.1 later
 ]
 
 either : {A : Type 0} (b : Bool) (x : A) → cond b x x ≡ x
@@ -182,7 +176,7 @@ module _ (p : ℕ → Bool) (rows : List RowOf) (r z : ℕ) where
           (cond (nat_lt z c.0) (c ∷ after z cells) (after z cells))) []
           ≡ cond b (row_if_some ((get_or rows r no_row).before +ℤ value_of z cells) (get_or rows r no_row).count (after z cells)) []
       by true h =
-          let low : c.0 < z = has-below z c.0 cells up.0 h in
+          let low : c.0 < z = above-all z c.0 cells up.0 h in
           let not_after : nat_lt z c.0 ≡ false = le-ltb z c.0 (omega arith) in
           rw not_after refl
       by false h = refl
@@ -202,7 +196,7 @@ module _ (p : ℕ → Bool) (rows : List RowOf) (r z : ℕ) where
       elim (cases_eq z c.0) [
         | inl e ↦
             let here : eqb z c.0 ≡ true = eq-eqb z c.0 e in
-            let gone : has z (d ∷ cells) ≡ false = ap (λ n. has n (d ∷ cells)) e ∙ has-above c.0 (d ∷ cells) up.0 in
+            let gone : has z (d ∷ cells) ≡ false = ap (λ n. has n (d ∷ cells)) e ∙ has-below c.0 (d ∷ cells) up.0 in
             let none : map (row_at rows) (places_from p r (i + 1) (d ∷ cells) z) ≡ [] = rest ∙ ap (λ rs. cond (p z) rs []) (handed-none (d ∷ cells) gone)
             ∙ either (p z) [] in
             let first : row_at rows (record { row = r; cell = i })

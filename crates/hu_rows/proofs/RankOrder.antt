@@ -1,13 +1,13 @@
 -- Ranks compared from the last backwards.
-use Rattle.std.proofs.Common.{◌≡◌, ℕ, zero, suc, ◌+◌, ◌-◌, ◌<◌, ◌≤◌, pos, List, [], ◌∷◌, length, get_or, take, reverse, ◌⊎◌, inl, inr, refl, sym, ap}
-use Rattle.std.proofs.Common.{◌∙◌, arith, nat_cmp, Ordering, Less, Equal, Greater}
+use Rattle.std.proofs.Common.{◌≡◌, ℕ, zero, suc, ◌+◌, ◌-◌, ◌<◌, ◌≤◌, pos, List, [], ◌∷◌, length, get_or, take, reverse, ◌⊎◌, inl, inr, refl, sym, ap, ◌∙◌}
+use Rattle.std.proofs.Common.{arith, nat_cmp, Ordering, Less, Equal, Greater}
 use Rattle.std.specs.Ordering.{ordering_then}
 use Rattle.std.specs.Cmp.Lexicographic.{slice_cmp}
 use Rattle.std.proofs.lemmas.List.{take_more, reverse-append}
 use Rattle.std.proofs.lemmas.Bool.Decides.{nat_tests}
 use Rattle.hu_kind.specs.Record.{items_in}
 use Rattle.hu_totals.specs.declared.ranked.Dense.{Dense}
-use Rattle.hu_rows.specs.View.{cells_of}
+use Rattle.hu_totals.specs.View.{cells_of}
 
 -- the ranks of cells
 abbrev pub ranks : List Dense → List ℕ

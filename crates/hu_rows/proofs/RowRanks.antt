@@ -1,11 +1,11 @@
 -- The ranks of rows are those of ranked records.
 use Rattle.std.proofs.Common.{ℕ, ℤ, ◌<◌, List, [], ◌∷◌, map, length, Contains, All, inl, inr, refl}
 use Rattle.std.specs.List.{AllByRecursion}
-use Rattle.hu_kind.specs.Record.{items_in}
 use Rattle.hu_kind.proofs.lemmas.Each.{each-from_all}
 use Rattle.hu_kind.proofs.lemmas.Members.{Member, Member-from_contains, Contains-from_member, Member-flat_map, Member-from_flat_map}
 use Rattle.hu_kind.proofs.lemmas.Occurring.{at_member, by_members}
 use Rattle.hu_totals.specs.Ranked.{Ranking, IsRanking}
+use Rattle.hu_totals.proofs.lemmas.DenseLemmas.{each-rank}
 use Rattle.hu_rows.specs.Rows.{RowOf, ranks_of, ranks_in, unmerged}
 use Rattle.hu_rows.specs.Tally.{AreBelow}
 
@@ -14,10 +14,6 @@ AreBelow-ranks n rows low =
     by_members (λ row. AllByRecursion (λ rank. rank < n) (ranks_of row)) rows
     (λ row m. by_members (λ rank. rank < n) (ranks_of row)
     (λ rank k. low rank (Contains-from_member rank (ranks_in rows) (Member-flat_map ranks_of row rank rows m k))))
-
-each-rank : (n : ℕ) (cells : List (ℕ × ℤ)) → AllByRecursion (λ cell. cell.0 < n) cells → AllByRecursion (λ rank. rank < n) (items_in cells)
-each-rank n [] all = tt
-each-rank n (cell ∷ cells) all = (all.0, each-rank n cells all.1)
 
 each-record : (n : ℕ) (records : List (List (ℕ × ℤ))) → ((cells : List (ℕ × ℤ)) → Member cells records → AllByRecursion (λ cell. cell.0 < n) cells)
     → AreBelow n (map unmerged records)

@@ -1,28 +1,29 @@
 -- Settings of bins as they are written: one rank, one cell and one row more.
-use Rattle.std.proofs.Common.{◌≡◌, ℕ, zero, suc, ◌+◌, ◌^◌, ◌<◌, ◌≤◌, Bool, true, false, cond, eqb, ◌&&◌, ◌||◌, ℤ, pos, unsigned_abs, ◌+ℤ◌, ◌-ℤ◌, List}
-use Rattle.std.proofs.Common.{[], ◌∷◌, ◌++◌, length, get_or, set, take, drop, to_z, of_z, inl, inr, refl, sym, ap, ◌∙◌, subst, arith, sum_by}
+use Rattle.std.proofs.Common.{◌≡◌, ℕ, zero, suc, ◌+◌, ◌^◌, ◌<◌, ◌≤◌, Bool, true, false, cond, eqb, ◌&&◌, ◌||◌, ℤ, pos, unsigned_abs, ◌+ℤ◌, ◌-ℤ◌, List, [], ◌∷◌}
+use Rattle.std.proofs.Common.{◌++◌, length, get_or, set, take, drop, to_z, of_z, inl, inr, refl, sym, ap, ◌∙◌, subst, arith, sum_by}
 use Rattle.std.specs.Int.{w128}
 use Rattle.std.specs.List.{AllByRecursion}
 use Rattle.std.proofs.lemmas.Bool.{ne_eqb, eq-eqb, eqb-true, or_cases, cases_eq}
 use Rattle.std.proofs.lemmas.Int.{ints}
-use Rattle.std.proofs.lemmas.List.{length-map, length-set, get_or-set_same, get_or-set_other, take_more, drop_more, map-append, take-map}
-use Rattle.std.proofs.lemmas.List.Sums.{sum_by-cons, sum_by-take-le}
+use Rattle.std.proofs.lemmas.List.{length-map, length-set, get_or-set_same, get_or-set_other, take-map}
 use Rattle.hu_kind.specs.Order.{Ascend}
 use Rattle.hu_kind.specs.Record.{has, items_in, absolute_of, positive_part}
+use Rattle.hu_kind.proofs.lemmas.Ascending.{few-from}
 use Rattle.hu_totals.specs.declared.ranked.Dense.{Dense}
-use Rattle.hu_totals.specs.View.{dense_pair}
+use Rattle.hu_totals.specs.View.{dense_pair, cells_of}
+use Rattle.hu_totals.proofs.lemmas.KeptLemmas.{kept_gain-within}
+use Rattle.hu_totals.specs.Cells.{among, kept_gain}
+use Rattle.hu_totals.proofs.lemmas.AfterLemmas.{rank-above}
+use Rattle.hu_totals.proofs.lemmas.GainLemmas.{cells_of-more, kept_gain-append, kept_gain-rest, place-within}
 use Rattle.hu_rows.specs.declared.rows.Row.{Row}
 use Rattle.hu_rows.specs.Rows.{RowOf, size_of}
 use Rattle.hu_rows.specs.Bounds.{value_at, local_share, subtree_share, local_bound, subtree_bound, set_to, AreKept}
 use Rattle.hu_rows.specs.Setting.{IsSetting, kept_part, local_part, subtree_part}
-use Rattle.hu_rows.specs.View.{cells_of, row_of, rows_of}
+use Rattle.hu_rows.specs.View.{row_of, rows_of}
 use Rattle.hu_rows.proofs.AddedCells.{get_or-cells_of}
 use Rattle.hu_rows.proofs.CellChecks.{IsPlace-cells}
-use Rattle.hu_totals.proofs.lemmas.KeptLemmas.{kept_gain-within}
 use Rattle.hu_rows.proofs.BoundLemmas.{local_bound-within, subtree_bound-within, local_bound-push, subtree_bound-push, local_share-within}
 use Rattle.hu_rows.proofs.RunLemmas.{rows_of-more, sum_by-more}
-use Rattle.hu_totals.specs.Cells.{among, kept_gain}
-use Rattle.hu_totals.proofs.lemmas.AfterLemmas.{rank-above}
 
 -- ---- a setting
 
@@ -77,12 +78,6 @@ value_at-out kept values rank share out other = elim (cases_eq other rank) [
 ]
 
 -- ---- a setting begun anew
-
-few-from : (n low : ℕ) (keep : List ℕ) → Ascend keep → AllByRecursion (λ r. r < n) keep → AllByRecursion (λ r. low < r) keep → low < n → length keep + low < n
-few-from n low [] up below above h = omega arith
-few-from n low (r ∷ keep) up below above h =
-    let first = above.0 in
-    omega (arith, few-from n r keep up.1 below.1 up.0 below.0)
 
 -- ranks that ascend below a number are at most so many
 pub few-kept : (n : ℕ) (keep : List ℕ) → AreKept n keep → length keep ≤ n
@@ -168,10 +163,6 @@ given-push kept share cells cell rank fresh = elim (cases_eq rank cell.0) [
     two true false = omega (arith, ints)
     two false h = omega (arith, ints)
 
-cells_of-more : (cells : List Dense) (i : ℕ) (d : Dense) → i < length cells
-    → cells_of (take (i + 1) cells) ≡ cells_of (take i cells) ++ dense_pair (get_or cells i d) ∷ []
-cells_of-more cells i d within = ap cells_of (take_more cells i d within) ∙ map-append dense_pair (take i cells) (get_or cells i d ∷ [])
-
 pub fresh-at : (cells : List Dense) (i : ℕ) (d : Dense) → Ascend (items_in (cells_of cells)) → i < length cells
     → has (get_or cells i d).rank (cells_of (take i cells)) ≡ false
 fresh-at cells i d up within =
@@ -202,27 +193,11 @@ given-fresh kept share cells i d up within = rw (fresh-at cells i d up within) (
 
 -- ---- the gain so far
 
-kept_gain-append : (keep : List ℕ) (cells others : List (ℕ × ℤ)) → kept_gain keep (cells ++ others) ≡ kept_gain keep cells +ℤ kept_gain keep others
-kept_gain-append keep [] others = omega (arith, ints)
-kept_gain-append keep (cell ∷ cells) others = omega (arith, ints, kept_gain-append keep cells others)
-
 pub kept_gain-more : (keep : List ℕ) (cells : List Dense) (i : ℕ) (d : Dense) → i < length cells
     → kept_gain keep (cells_of (take (i + 1) cells)) ≡ kept_gain keep (cells_of (take i cells)) +ℤ kept_part keep (dense_pair (get_or cells i d))
 kept_gain-more keep cells i d within =
     let more = ap (kept_gain keep) (cells_of-more cells i d within) in
     omega (arith, ints, more, kept_gain-append keep (cells_of (take i cells)) (dense_pair (get_or cells i d) ∷ []))
-
-pub kept_gain-rest : (keep : List ℕ) (cells : List Dense) (i : ℕ) (d : Dense) → i < length cells
-    → kept_gain keep (cells_of (drop i cells)) ≡ kept_part keep (dense_pair (get_or cells i d)) +ℤ kept_gain keep (cells_of (drop (i + 1) cells))
-kept_gain-rest keep cells i d within = ap (λ cs. kept_gain keep (cells_of cs)) (drop_more cells i d within)
-
-absolute-take : (cells : List Dense) (i : ℕ) → absolute_of (cells_of (take i cells)) ≤ absolute_of (cells_of cells)
-absolute-take cells i =
-    let same = ap absolute_of (take-map dense_pair i cells) in
-    omega (arith, same, sum_by-take-le (λ (c : ℕ × ℤ). unsigned_abs c.1) (cells_of cells) i)
-
-pub kept_gain-take : (keep : List ℕ) (cells : List Dense) (i : ℕ) → unsigned_abs (kept_gain keep (cells_of (take i cells))) ≤ absolute_of (cells_of cells)
-kept_gain-take keep cells i = omega (arith, kept_gain-within keep (cells_of (take i cells)), absolute-take cells i)
 
 -- the subtree share at a place
 pub subtree_share-at : (keep : List ℕ) (row : Row) (i : ℕ) (d : Dense) → Ascend (items_in (cells_of row.cells.now)) → i < length row.cells.now
@@ -292,22 +267,6 @@ subtree-room rows keep i d rank value within is fits =
     )
 
 -- ---- the cells from a place on
-
-absolute-drop : (cells : List Dense) (i : ℕ) → absolute_of (cells_of (drop i cells)) ≤ absolute_of (cells_of cells)
-absolute-drop cells zero = omega arith
-absolute-drop [] (suc i) = omega arith
-absolute-drop (cell ∷ cells) (suc i) = omega (arith, sum_by-cons (λ (c : ℕ × ℤ). unsigned_abs c.1) (dense_pair cell) (cells_of cells), absolute-drop cells i)
-
--- a value and the gain after it are within all values
-pub place-within : (keep : List ℕ) (cells : List Dense) (i : ℕ) (d : Dense) → i < length cells
-    → unsigned_abs (get_or cells i d).value + unsigned_abs (kept_gain keep (cells_of (drop (i + 1) cells))) ≤ absolute_of (cells_of cells)
-place-within keep cells i d within =
-    let rest = cells_of (drop (i + 1) cells) in
-    let split = ap (λ cs. absolute_of (cells_of cs)) (drop_more cells i d within) in
-    omega (arith, split, sum_by-cons (λ (c : ℕ × ℤ). unsigned_abs c.1) (dense_pair (get_or cells i d)) rest, absolute-drop cells i, kept_gain-within keep rest)
-
-pub rest-within : (keep : List ℕ) (cells : List Dense) (i : ℕ) → unsigned_abs (kept_gain keep (cells_of (drop i cells))) ≤ absolute_of (cells_of cells)
-rest-within keep cells i = omega (arith, kept_gain-within keep (cells_of (drop i cells)), absolute-drop cells i)
 
 -- ---- shares as they are computed
 

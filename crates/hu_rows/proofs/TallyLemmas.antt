@@ -1,7 +1,6 @@
 -- What rows tell of ranks, cell by cell and row by row.
-use Rattle.std.proofs.Common.{◌≡◌, ℕ, zero, suc, ◌+◌, ◌-◌, ◌^◌, ◌<◌, ◌≤◌, Bool, true, false, cond, eqb, ◌&&◌, ◌||◌, ℤ, pos, unsigned_abs, ◌+ℤ◌}
-use Rattle.std.proofs.Common.{List, [], ◌∷◌, ◌++◌, length, get_or, take, drop, inl, inr, refl, sym, ap, ◌∙◌, subst, to_z, of_z, arith}
-use Rattle.std.proofs.Common.{sum_by, Contains}
+use Rattle.std.proofs.Common.{◌≡◌, ℕ, zero, suc, ◌+◌, ◌-◌, ◌^◌, ◌<◌, ◌≤◌, Bool, true, false, cond, eqb, ◌&&◌, ◌||◌, ℤ, pos, unsigned_abs, ◌+ℤ◌, List, [], ◌∷◌}
+use Rattle.std.proofs.Common.{◌++◌, length, get_or, take, drop, inl, inr, refl, sym, ap, ◌∙◌, subst, to_z, of_z, arith, sum_by, Contains}
 use Rattle.std.specs.Int.{w128}
 use Rattle.std.specs.List.{AllByRecursion}
 use Rattle.std.proofs.lemmas.Bool.{ne_eqb, eq-eqb, cases_eq}
@@ -10,23 +9,25 @@ use Rattle.std.proofs.lemmas.List.{take_rest, drop_more}
 use Rattle.std.proofs.lemmas.List.Sums.{sum_by-cons}
 use Rattle.hu_kind.specs.Order.{Ascend}
 use Rattle.hu_kind.specs.Record.{has, value_of, gain, items_in, absolute_of, positive_part}
+use Rattle.hu_kind.proofs.lemmas.Earned.{gain-within, positive_part-within}
+use Rattle.hu_kind.proofs.lemmas.Each.{each-get}
 use Rattle.hu_totals.specs.declared.ranked.Dense.{Dense}
-use Rattle.hu_totals.specs.View.{dense_pair}
+use Rattle.hu_totals.specs.View.{dense_pair, cells_of}
+use Rattle.hu_totals.specs.Cells.{after}
+use Rattle.hu_totals.proofs.lemmas.AfterLemmas.{IsPlace, absolute_of-after}
+use Rattle.hu_totals.proofs.lemmas.RecordCells.{has-below}
+use Rattle.hu_totals.proofs.lemmas.DenseLemmas.{Ascend-rest}
 use Rattle.hu_rows.specs.declared.rows.Row.{Row}
 use Rattle.hu_rows.specs.declared.tally.Tally.{Tally}
 use Rattle.hu_rows.specs.Rows.{RowOf, AreRows, ranks_of, size_of, count_of}
-use Rattle.hu_totals.specs.Cells.{after}
-use Rattle.hu_totals.proofs.lemmas.AfterLemmas.{IsPlace, absolute_of-after}
-use Rattle.hu_rows.specs.Tally.{tally_with, no_tally, plus, tally_at, share_if, row_share, most, most_with, tail_most, tail_share, most_over}
-use Rattle.hu_rows.specs.Tally.{tail_over, told, tail_told, Fits, HasRoom, AreNoted, Adds}
-use Rattle.hu_rows.specs.View.{cells_of, row_of, rows_of}
+use Rattle.hu_rows.specs.Tally.{tally_with, no_tally, plus, tally_at, share_if, row_share, most, most_with, tail_most, tail_share, most_over, tail_over, told}
+use Rattle.hu_rows.specs.Tally.{tail_told, Fits, HasRoom, AreNoted, Adds}
+use Rattle.hu_rows.specs.View.{row_of, rows_of}
 use Rattle.hu_rows.proofs.CellChecks.{IsPlace-cells}
 use Rattle.hu_rows.proofs.RankOrder.{length-ranks, get_or-ranks}
 use Rattle.hu_rows.proofs.ProjectionLemmas.{over-append, count_over-append}
 use Rattle.hu_rows.proofs.RunLemmas.{rows_of-more, sum_by-more}
 use Rattle.hu_rows.proofs.SettingLemmas.{same-fit}
-use Rattle.hu_kind.proofs.lemmas.Earned.{gain-within, positive_part-within}
-use Rattle.hu_kind.proofs.lemmas.Each.{each-get}
 
 -- ---- sums of tallies
 
@@ -44,18 +45,6 @@ plus-assoc a b c = tally-equal (plus (plus a b) c) (plus a (plus b c)) (omega (a
 
 -- ---- cell by cell, from the last backwards
 
-has-above : (z : ℕ) (cells : List (ℕ × ℤ)) → AllByRecursion (λ y. z < y) (items_in cells) → has z cells ≡ false
-has-above z [] above = refl
-has-above z (cell ∷ cells) above =
-    let first = above.0 in
-    let no : eqb z cell.0 ≡ false = ne_eqb z cell.0 (λ e. absurd (omega arith)) in
-    rw no (has-above z cells above.1)
-
-pub Ascend-rest : (cells : List Dense) (i : ℕ) → Ascend (items_in (cells_of cells)) → Ascend (items_in (cells_of (drop i cells)))
-Ascend-rest cells zero up = up
-Ascend-rest [] (suc i) up = tt
-Ascend-rest (cell ∷ cells) (suc i) up = Ascend-rest cells i up.1
-
 -- what was told of a rank by some cells
 abbrev pub told_by : (ℕ → Tally) → List Dense → ℕ → Tally
 told_by share cells rank = share_if (has rank (cells_of cells)) (share rank)
@@ -65,7 +54,7 @@ module _ (share : ℕ → Tally) (cells : List Dense) (i : ℕ) (d : Dense) (up 
   rest-up = subst (λ (cs : List Dense). Ascend (items_in (cells_of cs))) (drop_more cells i d within) (Ascend-rest cells i up)
 
   fresh : has (get_or cells i d).rank (cells_of (drop (i + 1) cells)) ≡ false
-  fresh = has-above (get_or cells i d).rank (cells_of (drop (i + 1) cells)) rest-up.0
+  fresh = has-below (get_or cells i d).rank (cells_of (drop (i + 1) cells)) rest-up.0
 
   -- a rank of which a cell tells was told nothing by the cells after it
   pub told_by-fresh : told_by share (drop (i + 1) cells) (get_or cells i d).rank ≡ no_tally

@@ -3,15 +3,11 @@ use Rattle.std.specs.Prelude.{ℕ, ◌<◌, ◌^◌, ℤ, Bool, List, map, lengt
 use Rattle.std.specs.List.{All, AllAdjacentBelow, sum_by}
 use Rattle.std.specs.Ordering.{is_lt, is_eq}
 use Rattle.hu_totals.specs.declared.ranked.Dense.{Dense}
-use Rattle.hu_totals.specs.View.{dense_pair}
+use Rattle.hu_totals.specs.View.{cells_of}
 use Rattle.hu_rows.specs.declared.rows.Row.{Row}
 use Rattle.hu_rows.specs.declared.merge.RowSum.{RowSum}
 use Rattle.hu_rows.specs.Rows.{RowOf, size_of, count_of}
 use Rattle.hu_rows.specs.Merging.{row_cmp}
-
--- cells as pairs
-abbrev pub cells_of : List Dense → List (ℕ × ℤ)
-cells_of cells = map dense_pair cells
 
 -- a row of these parts
 abbrev pub row_with : ℤ → ℕ → List Dense → RowOf

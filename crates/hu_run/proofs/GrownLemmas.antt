@@ -1,6 +1,6 @@
 -- A store after runs that add files to it.
-use Rattle.std.proofs.Common.{◌≡◌, ◌∙◌, ℕ, ℤ, Bool, true, false, nat_lt, List, [], ◌∷◌, ◌++◌, length, Option, Some, None, Ok}
-use Rattle.std.proofs.Common.{MatchOption, ap, sym, subst, refl, append_assoc, flat_map, cond}
+use Rattle.std.proofs.Common.{◌≡◌, ◌∙◌, ℕ, ℤ, Bool, true, false, nat_lt, List, [], ◌∷◌, ◌++◌, length, Option, Some, None, Ok, MatchOption, ap, sym, subst, refl}
+use Rattle.std.proofs.Common.{append_assoc, flat_map, cond}
 use Rattle.std.specs.Prelude.{IfSome, IsOkAnd, ⊤}
 use Rattle.std.specs.Str.{bytes_eq}
 use Rattle.std.specs.Option.{option_map}
@@ -18,9 +18,6 @@ use Rattle.hu_run.specs.ShelfEnding.{ShelfEnding, adding, shelf_ending, given_by
 use Rattle.hu_run.specs.ShelfRun.{Finds, HasLeft}
 use Rattle.hu_run.specs.ShelfLaws.{AddsFile, AddsFiles, HasStore, StoresGrow}
 use Rattle.hu_run.proofs.ShelfLemmas.{on_store-found, adding-by}
-
-some_of : {A : Type 0} (x y : A) → Some x ≡ Some y → x ≡ y
-some_of x y is = cc
 
 -- what a keeper tells
 there_is : {A : Type 0} (o : Option A) (x : A) (P : A → Type 0) → o ≡ Some x → MatchOption o ⊤ P → P x

@@ -84,7 +84,7 @@ stops-shelf asked sc IsSuch (Job WriteFailed) files out found stops = absurd sto
 
 -- ---- what texts come to
 
-some_of : {A : Type 0} (x y : A) → Some x ≡ Some y → x ≡ y
+pub some_of : {A : Type 0} (x y : A) → Some x ≡ Some y → x ≡ y
 some_of x y is = cc
 
 -- a fault of the shelf tells that of the store

@@ -1,7 +1,6 @@
 -- The keys of sets of ranks.
-use Rattle.std.proofs.Common.{◌≡◌, ◌≢◌, ℕ, zero, suc, ◌<◌, ◌+◌, true, false, eqb, pos, List, [], ◌∷◌, map, length}
-use Rattle.std.proofs.Common.{get_or, slice_get, slice_index, Some, refl, sym, ap, ◌∙◌, subst, inl, inr, arith, nat_cmp}
-use Rattle.std.proofs.Common.{is_eq, Ordering, Less, Equal, Greater}
+use Rattle.std.proofs.Common.{◌≡◌, ◌≢◌, ℕ, zero, suc, ◌<◌, ◌+◌, true, false, eqb, pos, List, [], ◌∷◌, map, length, get_or, slice_get, slice_index, Some, refl}
+use Rattle.std.proofs.Common.{sym, ap, ◌∙◌, subst, inl, inr, arith, nat_cmp, is_eq, Ordering, Less, Equal, Greater}
 use Rattle.std.specs.List.{AllByRecursion}
 use Rattle.std.specs.List.Sorted.{IsPermutation, IsNonDecreasing, IsNonDecreasingBy}
 use Rattle.std.specs.Ordering.{int_eq, int_cmp}
@@ -20,6 +19,7 @@ use Rattle.hu_totals.specs.Ranked.{Ranking, IsRanking}
 use Rattle.hu_totals.proofs.lemmas.RankingRules.{All-from_each}
 use Rattle.hu_totals.proofs.lemmas.SortedLists.{Once, IsDistinct-from_once, Member-from_ranking}
 use Rattle.hu_collect.specs.Ranks.{IsRankSet, key_of, is_part}
+use Rattle.hu_search.proofs.lemmas.ItemsAt.{items_at, Once-items_at}
 
 pub nat_exact : IsExactOrder nat_cmp
 nat_exact = record { total = nat_cmp_total; exact = exact_unsigned }
@@ -53,22 +53,6 @@ sorted-items items sorted o moved up =
     sym (ranking-sorted nat_cmp (numbers sorted) strictly) ∙ sym (ranking-permutation nat_cmp nat_exact (numbers items) (numbers sorted) moved_numbers)
 
 -- ---- the items of ranks
-
--- the items of ranks in a table
-abbrev pub items_at : List ℕ → List ℕ → List ℕ
-items_at table ranks = map (λ rank. slice_index table rank) ranks
-
-pub Once-items_at : (r : Ranking) → IsRanking r → (ranks : List ℕ) → Ascend ranks
-    → AllByRecursion (λ rank. rank < length r.items) ranks → Once (items_at r.items ranks)
-Once-items_at r rules [] up within = tt
-Once-items_at r rules (x ∷ xs) up within = (out, Once-items_at r rules xs up.1 within.1)
-  where
-    out : Member (slice_index r.items x) (items_at r.items xs) → ⊥
-    out m =
-        let from = Member-from_map (λ rank. slice_index r.items rank) (slice_index r.items x) xs m in
-        let above : x < from.0 = at_member (λ y. x < y) from.0 xs up.0 from.1 in
-        let inside : from.0 < length r.items = at_member (λ y. y < length r.items) from.0 xs within.1 from.1 in
-        rules.distinct x from.0 above inside (sym from.2)
 
 pub slice_get-index : (xs : List ℕ) (i x : ℕ) → slice_get xs i ≡ Some x → slice_index xs i ≡ x
 slice_get-index [] i x is = absurd (cc)

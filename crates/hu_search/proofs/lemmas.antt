@@ -2,3 +2,4 @@
 pub mod Children
 pub mod RankedPatterns
 pub mod UnrankLemmas
+pub mod ItemsAt

@@ -1,6 +1,6 @@
 -- Pairs of which no item stands twice, by item: the same pairs, and their items ascend.
-use Rattle.std.proofs.Common.{◌≡◌, ℕ, zero, suc, ◌<◌, ◌≤◌, ◌==◌, nat_lt, ℤ, Bool, cond, None}
-use Rattle.std.proofs.Common.{List, [], ◌∷◌, filter, length, get_or, min, refl, sym, subst, inl, inr, arith, add-one}
+use Rattle.std.proofs.Common.{◌≡◌, ℕ, ◌<◌, ◌≤◌, ◌==◌, nat_lt, ℤ, Bool, cond, None, List, [], ◌∷◌, filter, length, min, refl, sym, subst, inl, inr, arith}
+use Rattle.std.proofs.Common.{add-one}
 use Rattle.std.specs.List.{All, reduce}
 use Rattle.std.specs.List.Sorted.{IsPermutation}
 use Rattle.std.specs.declared.cmp.Ordering.TheVariants.{Less, Greater}
@@ -9,8 +9,8 @@ use Rattle.std.specs.BTreeSet.{insert_key}
 use Rattle.std.proofs.lemmas.Bool.{cases_eq, cases_lt, lt-ltb}
 use Rattle.std.proofs.lemmas.Bool.Decides.{nat_tests}
 use Rattle.std.proofs.lemmas.List.Elements.{All-from_recursion}
-use Rattle.std.proofs.lemmas.List.Sorted.{All-permutation, IsPermutation-refl, IsPermutation-trans, IsPermutation-cons}
-use Rattle.std.proofs.lemmas.List.Sorted.{IsPermutation-map, IsPermutation-middle, length_permutation, sum_by-IsPermutation}
+use Rattle.std.proofs.lemmas.List.Sorted.{All-permutation, IsPermutation-refl, IsPermutation-trans, IsPermutation-cons, IsPermutation-map, IsPermutation-middle}
+use Rattle.std.proofs.lemmas.List.Sorted.{length_permutation, sum_by-IsPermutation}
 use Rattle.std.proofs.lemmas.List.Sums.{sum_by-cons}
 use Rattle.hu_kind.specs.Cells.{pair_cmp, by_item, times, twice}
 use Rattle.hu_kind.specs.Order.{Ascend}
@@ -18,6 +18,7 @@ use Rattle.hu_kind.specs.Record.{items_in}
 use Rattle.hu_kind.proofs.lemmas.Each.{each-from_all}
 use Rattle.hu_kind.proofs.lemmas.Members.{Member, Member-filter}
 use Rattle.hu_kind.proofs.lemmas.Occurring.{above_all}
+use Rattle.hu_kind.proofs.lemmas.CellPlaces.{adjacent}
 use Rattle.hu_seq.specs.Itemset.{IsOrdered}
 
 -- a number that stands in a list is a member
@@ -106,14 +107,6 @@ by_item-once (x ∷ xs) once =
           IsPermutation-trans (x ∷ xs) (x ∷ by_item xs) (by_item (x ∷ xs))
           (IsPermutation-cons x xs (by_item xs) rest.same) put.same;
     }
-
--- neighbours of pairs whose items ascend
-adjacent : (cells : List (ℕ × ℤ)) (k : ℕ) (d : ℕ × ℤ) → Ascend (items_in cells) → suc k < length cells
-    → (get_or cells k d).0 < (get_or cells (suc k) d).0
-adjacent [] k d up within = absurd (omega arith)
-adjacent (a ∷ []) k d up within = absurd (omega arith)
-adjacent (a ∷ b ∷ cells) zero d up within = up.0.0
-adjacent (a ∷ b ∷ cells) (suc k) d up within = adjacent (b ∷ cells) k d up.1 (omega arith)
 
 -- pairs that make an itemset are one by item
 pub IsOrdered-by_item : (set : List (ℕ × ℤ)) → 0 < length set → All (λ cell. cell.0 ≤ 2147483647) set → twice (items_in set) ≡ None

@@ -1,14 +1,11 @@
 -- The canonical line of a sequence says that sequence.
-use Rattle.std.proofs.Common.{◌≡◌, ℕ, ◌+◌, ◌<◌, ◌≤◌, ◌^◌, nat_lt, ℤ, pos, unsigned_abs, true, false, not, None, Ok}
-use Rattle.std.proofs.Common.{List, [], ◌∷◌, ◌++◌, length, filter_map, refl, sym, ap, ◌∙◌, arith, position, sum_by}
-use Rattle.std.proofs.Common.{subst}
+use Rattle.std.proofs.Common.{◌≡◌, ℕ, ◌+◌, ◌<◌, ◌≤◌, ◌^◌, nat_lt, ℤ, pos, unsigned_abs, true, false, not, None, Ok, List, [], ◌∷◌, ◌++◌, length, filter_map}
+use Rattle.std.proofs.Common.{refl, sym, ap, ◌∙◌, arith, position, sum_by, subst}
 use Rattle.std.specs.Bool.{then_some}
-use Rattle.std.specs.List.{AllByRecursion, AllAdjacentBelow, AllZip, count_by, list_any}
-use Rattle.std.specs.List.Sorted.{IsStrictlyIncreasing}
+use Rattle.std.specs.List.{AllByRecursion, AllZip, count_by, list_any}
 use Rattle.std.specs.Option.{option_map}
 use Rattle.std.specs.Ordering.{int_eq}
 use Rattle.std.proofs.lemmas.Bool.Decides.{nat_tests}
-use Rattle.std.proofs.lemmas.List.{length-map, get_or-map}
 use Rattle.std.proofs.lemmas.List.Elements.{filter_map-append}
 use Rattle.std.proofs.lemmas.List.Sorted.{IsPermutation-refl}
 use Rattle.std.proofs.lemmas.List.Sums.{sum_by-cons}
@@ -17,6 +14,7 @@ use Rattle.hu_kind.specs.Record.{items_in, absolute_of, any_negative, IsItemset}
 use Rattle.hu_kind.specs.Sequence.{IsSequence}
 use Rattle.hu_kind.proofs.lemmas.CellsLemmas.{by_item-ascending, twice-ascending}
 use Rattle.hu_kind.proofs.lemmas.Each.{each-append, each-from_all, each-weaker}
+use Rattle.hu_kind.proofs.lemmas.CellPlaces.{items_rise}
 use Rattle.hu_seq.specs.declared.fault.SeqFault.TheVariants.{TooManyItems, ItemOutOfRange, Negative, TotalDisagrees}
 use Rattle.hu_seq.specs.declared.token.Token.{Token}
 use Rattle.hu_seq.specs.declared.token.Token.TheVariants.{Cell, ItemsetEnd, SequenceEnd, Total}
@@ -53,16 +51,6 @@ small-sequence elements rules = small-elements elements rules.itemsets rules.sum
 
 pub filled-sequence : (elements : List (List (ℕ × ℤ))) → IsSequence elements → AreFilled elements
 filled-sequence elements rules = each-weaker IsItemset (λ (e : List (ℕ × ℤ)). 0 < length e) elements (λ e is. is.some) rules.itemsets
-
-items_rise : (cs : List (ℕ × ℤ)) → AllAdjacentBelow (λ a b. a.0 < b.0) cs (length cs) → IsStrictlyIncreasing (items_in cs)
-items_rise cs h k within =
-    let inside : k + 1 < length cs = omega (arith, length-map cs (λ cell. cell.0)) in
-    omega (
-      arith,
-      get_or-map (λ (cell : ℕ × ℤ). cell.0) cs k (0, pos 0) 0 (omega arith),
-      get_or-map (λ (cell : ℕ × ℤ). cell.0) cs (k + 1) (0, pos 0) 0 inside,
-      h k (0, pos 0) inside,
-    )
 
 ordered-itself : (e : List (ℕ × ℤ)) → IsItemset e → IsOrdered e e
 ordered-itself e is = record {

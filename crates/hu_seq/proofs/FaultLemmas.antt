@@ -1,11 +1,10 @@
 -- The first fault of a line, and what stands where a check finds none.
-use Rattle.std.proofs.Common.{◌≡◌, ℕ, ◌+◌, ◌-◌, ◌^◌, ◌<◌, ◌≤◌, ℤ, pos, int_lt, nat_lt, Bool, true, false, Option, None}
-use Rattle.std.proofs.Common.{Some, Result, Ok, Err, List, [], ◌∷◌, ◌++◌, map, refl, sym, ap, ◌∙◌, length, get_or}
-use Rattle.std.proofs.Common.{arith, sum_by, filter_map, IfOk, IfErr, OnOk, ◌⊎◌, inl, inr}
+use Rattle.std.proofs.Common.{◌≡◌, ℕ, ◌+◌, ◌-◌, ◌^◌, ◌<◌, ◌≤◌, ℤ, pos, int_lt, nat_lt, Bool, true, false, Option, None, Some, Result, Ok, Err, List, [], ◌∷◌}
+use Rattle.std.proofs.Common.{◌++◌, map, refl, sym, ap, ◌∙◌, length, get_or, arith, sum_by, filter_map, IfOk, IfErr, OnOk, ◌⊎◌, inl, inr}
 use Rattle.std.specs.Bool.{then_some}
 use Rattle.std.specs.List.{All, AllByRecursion, AllZip, count_by, list_any, position, position_or_len, slice_split}
 use Rattle.std.specs.Option.{option_map, option_map_or}
-use Rattle.std.proofs.lemmas.Bool.{cases_lt}
+use Rattle.std.proofs.lemmas.Bool.{cases_lt, or_parts}
 use Rattle.std.proofs.lemmas.Bool.Decides.{nat_tests}
 use Rattle.std.proofs.lemmas.List.{append-nil, length-map}
 use Rattle.std.proofs.lemmas.List.Elements.{filter_map-append}
@@ -23,13 +22,12 @@ use Rattle.hu_seq.specs.declared.fault.SeqFault.TheVariants.{TooManyItems, ItemO
 use Rattle.hu_seq.specs.declared.token.Token.{Token}
 use Rattle.hu_seq.specs.declared.token.Token.TheVariants.{ItemsetEnd, SequenceEnd}
 use Rattle.hu_seq.specs.Token.{is_cell, is_itemset_end, is_out_of_range, is_negative, pair_in, sum_in}
-use Rattle.hu_seq.specs.Reading.{known, cells, body, itemsets, bad_token, too_many_items, item_out_of_range}
-use Rattle.hu_seq.specs.Reading.{duplicate_item, negative, sum_too_large, total_disagrees, order_faults, cell_faults}
-use Rattle.hu_seq.specs.Reading.{reading}
+use Rattle.hu_seq.specs.Reading.{known, cells, body, itemsets, bad_token, too_many_items, item_out_of_range, duplicate_item, negative, sum_too_large}
+use Rattle.hu_seq.specs.Reading.{total_disagrees, order_faults, cell_faults, reading}
 use Rattle.hu_seq.specs.Itemset.{IsSound, IsOrdered}
-use Rattle.hu_seq.proofs.ShapeLemmas.{IsShaped, IsShaped-full, neither, not_any, then_none}
-use Rattle.hu_seq.proofs.SumLemmas.{any-parts, end_in_range, ordered-length, ordered-absolute, ordered-negative}
-use Rattle.hu_seq.proofs.SumLemmas.{ordered-some, length-cells, any_negative-cells, total-absolute, cells-after}
+use Rattle.hu_seq.proofs.ShapeLemmas.{IsShaped, IsShaped-full, not_any, then_none}
+use Rattle.hu_seq.proofs.SumLemmas.{any-parts, end_in_range, ordered-length, ordered-absolute, ordered-negative, ordered-some, length-cells, any_negative-cells}
+use Rattle.hu_seq.proofs.SumLemmas.{total-absolute, cells-after}
 
 -- ---- the faults of known tokens, one group of checks after another
 
@@ -116,7 +114,7 @@ sound-parts told shape items =
     none_passes is_out_of_range told (map_none (λ k. ItemOutOfRange (k + 1))
     (position is_out_of_range told) places.1) in
     let front : list_any is_out_of_range (body told) ≡ false =
-    (neither (list_any is_out_of_range (body told)) (list_any is_out_of_range (ItemsetEnd ∷ SequenceEnd ∷ shape.rest))
+    (or_parts (list_any is_out_of_range (body told)) (list_any is_out_of_range (ItemsetEnd ∷ SequenceEnd ∷ shape.rest))
     (sym (list_any-append is_out_of_range (body told) (ItemsetEnd ∷ SequenceEnd ∷ shape.rest)) ∙ sym (ap (list_any is_out_of_range) shape.is) ∙ none)).0 in
     let parts : list_any (list_any is_out_of_range) (slice_split is_itemset_end (body told)) ≡ false =
     any-parts is_out_of_range end_in_range (body told) ∙ front in

@@ -1,7 +1,6 @@
 -- Tokens in whose order there is no fault.
-use Rattle.std.proofs.Common.{◌≡◌, ℕ, ◌+◌, ◌-◌, ◌<◌, ◌≤◌, Bool, true, false, not, ◌&&◌, ◌||◌, Option, None, Some, List}
-use Rattle.std.proofs.Common.{[], ◌∷◌, ◌++◌, refl, sym, ap, ◌∙◌, length, take, drop, drop-cons, get_or, arith, suc}
-use Rattle.std.proofs.Common.{zero, subst}
+use Rattle.std.proofs.Common.{◌≡◌, ℕ, ◌+◌, ◌-◌, ◌<◌, ◌≤◌, Bool, true, false, not, ◌&&◌, ◌||◌, Option, None, Some, List, [], ◌∷◌, ◌++◌, refl, sym, ap, ◌∙◌}
+use Rattle.std.proofs.Common.{length, take, drop, drop-cons, get_or, arith, suc, zero, subst}
 use Rattle.std.specs.Bool.{then_some}
 use Rattle.std.specs.List.{All, AllByRecursion, before_first, after_first, onto_first, slice_split, list_all, list_any, position, position_or_len}
 use Rattle.std.specs.Option.{is_none, option_map_or}
@@ -13,14 +12,15 @@ use Rattle.std.proofs.lemmas.List.Sums.{fails_before_first, list_all-from_AllPas
 use Rattle.std.proofs.lemmas.List.Elements.{All-from_recursion}
 use Rattle.std.proofs.lemmas.List.Splits.{slice_split-cons_yes, slice_split-cons_no}
 use Rattle.std.proofs.lemmas.Option.{slice_get-get_or}
+use Rattle.std.proofs.lemmas.Bool.{or_parts}
 use Rattle.hu_kind.specs.First.{first_some}
 use Rattle.hu_seq.specs.declared.fault.SeqFault.{SeqFault}
 use Rattle.hu_seq.specs.declared.fault.SeqFault.TheVariants.{NoEnd, AfterEnd, OpenItemset, EmptyItemset, NoItems}
 use Rattle.hu_seq.specs.declared.token.Token.{Token}
 use Rattle.hu_seq.specs.declared.token.Token.TheVariants.{Cell, ItemsetEnd, SequenceEnd, Total}
 use Rattle.hu_seq.specs.Token.{is_cell, is_itemset_end, is_sequence_end, is_total}
-use Rattle.hu_seq.specs.Reading.{cells, no_end, after_end, open_itemset, empty_itemset, no_items, body, first_is}
-use Rattle.hu_seq.specs.Reading.{last_is, has_two_ends, is_total_or_nothing, order_faults}
+use Rattle.hu_seq.specs.Reading.{cells, no_end, after_end, open_itemset, empty_itemset, no_items, body, first_is, last_is, has_two_ends, is_total_or_nothing}
+use Rattle.hu_seq.specs.Reading.{order_faults}
 
 -- a cell, or the end of an itemset
 abbrev pub is_inner : Token → Bool
@@ -46,10 +46,6 @@ five_none None None None None (Some x) h = cc
 pub then_none : (test : Bool) (fault : SeqFault) → then_some test fault ≡ None → test ≡ false
 then_none true fault h = cc
 then_none false fault h = refl
-
-pub neither : (a b : Bool) → (a || b) ≡ false → (a ≡ false) × (b ≡ false)
-neither true b h = cc
-neither false b h = (refl, h)
 
 isn't : (a : Bool) → not a ≡ false → a ≡ true
 isn't true h = refl
@@ -141,8 +137,8 @@ shaped_where told (Some zero) is ended after closed empty some =
 shaped_where told (Some (suc k)) is ended after closed empty some =
     let place = position-Some is_sequence_end told (suc k) ItemsetEnd is in
     let end : position_or_len is_sequence_end told ≡ suc k = grind (arith, nat_tests) in
-    let totals = neither (list_any is_total (before_first is_sequence_end told)) (not (is_total_or_nothing (after_first is_sequence_end told))) after in
-    let empties = neither (first_is is_itemset_end told) (has_two_ends told) empty in
+    let totals = or_parts (list_any is_total (before_first is_sequence_end told)) (not (is_total_or_nothing (after_first is_sequence_end told))) after in
+    let empties = or_parts (first_is is_itemset_end told) (has_two_ends told) empty in
     shaped_at told (suc k) k end (omega arith) place.0 place.1
     (sym (ap (λ n. list_any is_total (take n told)) end) ∙ totals.0)
     (sym (ap (λ n. is_total_or_nothing (drop (n + 1) told)) end) ∙ isn't (is_total_or_nothing (after_first is_sequence_end told)) totals.1)
@@ -197,7 +193,7 @@ full_parts : (front back : List Token) → list_all is_inner front ≡ true → 
 full_parts [] back inner apart last = (tt, λ h. let never : true ≡ false = sym last ∙ h in cc)
 full_parts (token ∷ front) back inner apart last =
     let kinds = both_true (is_inner token) (list_all is_inner front) inner in
-    let ends = neither (is_itemset_end token && first_is is_itemset_end (front ++ back)) (has_two_ends (front ++ back)) apart in
+    let ends = or_parts (is_itemset_end token && first_is is_itemset_end (front ++ back)) (has_two_ends (front ++ back)) apart in
     step (is_itemset_end token) refl kinds.0 ends.0 (full_parts front back kinds.1 ends.1 last)
   where
     step : (ends : Bool) → is_itemset_end token ≡ ends → is_inner token ≡ true → (is_itemset_end token && first_is is_itemset_end (front ++ back)) ≡ false

@@ -1,6 +1,6 @@
 -- What holds of the cells of a body holds of its parts, of its itemsets and of the elements made of them.
-use Rattle.std.proofs.Common.{◌≡◌, ℕ, ◌+◌, ℤ, pos, negsuc, ◌+ℤ◌, unsigned_abs, int_lt, Bool, true, false, cond, ◌||◌}
-use Rattle.std.proofs.Common.{Option, None, Some, List, [], ◌∷◌, ◌++◌, map, refl, sym, ap, ◌∙◌, length, arith, sum_by}
+use Rattle.std.proofs.Common.{◌≡◌, ℕ, ◌+◌, ℤ, pos, negsuc, ◌+ℤ◌, unsigned_abs, int_lt, Bool, true, false, cond, ◌||◌, Option, None, Some, List, [], ◌∷◌, ◌++◌}
+use Rattle.std.proofs.Common.{map, refl, sym, ap, ◌∙◌, length, arith, sum_by}
 use Rattle.std.specs.List.{AllZip, cons_option, count_by, flat_map, list_any, onto_first, slice_split}
 use Rattle.std.specs.List.Sorted.{IsPermutation}
 use Rattle.std.proofs.lemmas.List.Folds.{list_any-append}
@@ -8,6 +8,7 @@ use Rattle.std.proofs.lemmas.List.Concat.{length-flat_map}
 use Rattle.std.proofs.lemmas.List.Sorted.{length_permutation, list_any-IsPermutation, sum_by-IsPermutation}
 use Rattle.std.proofs.lemmas.List.Splits.{slice_split-cons_yes, slice_split-cons_no}
 use Rattle.std.proofs.lemmas.List.Sums.{sum_by-cons, sum_by-append}
+use Rattle.std.proofs.lemmas.Bool.{or_parts}
 use Rattle.hu_kind.specs.Cells.{by_item, twice}
 use Rattle.hu_kind.specs.Record.{items_in, total, absolute_of, any_negative}
 use Rattle.hu_kind.specs.First.{first_some}
@@ -16,7 +17,6 @@ use Rattle.hu_seq.specs.declared.token.Token.TheVariants.{Cell, ItemsetEnd, Sequ
 use Rattle.hu_seq.specs.Token.{is_cell, is_itemset_end, is_out_of_range, is_negative, pair_in}
 use Rattle.hu_seq.specs.Reading.{cells, itemsets, duplicate_item, is_total_or_nothing}
 use Rattle.hu_seq.specs.Itemset.{IsOrdered}
-use Rattle.hu_seq.proofs.ShapeLemmas.{neither}
 
 -- ---- the parts of a body
 
@@ -188,7 +188,7 @@ any_negative-cells (Total sum ∷ told) = any_negative-cells told
 pub total-absolute : (pairs : List (ℕ × ℤ)) → any_negative pairs ≡ false → total pairs ≡ pos (absolute_of pairs)
 total-absolute [] h = refl
 total-absolute ((item, pos n) ∷ pairs) h =
-    ap (λ sum. pos n +ℤ sum) (total-absolute pairs (neither (int_lt (pos n) (pos 0)) (any_negative pairs) h).1)
+    ap (λ sum. pos n +ℤ sum) (total-absolute pairs (or_parts (int_lt (pos n) (pos 0)) (any_negative pairs) h).1)
     ∙ ap pos (sym (sum_by-cons (λ cell. unsigned_abs cell.1) (item, pos n) pairs))
 total-absolute ((item, negsuc n) ∷ pairs) h = cc
 

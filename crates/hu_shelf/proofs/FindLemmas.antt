@@ -1,12 +1,11 @@
 -- What the text of a name is found to be.
-use Rattle.std.proofs.Common.{◌≡◌, ℕ, ◌<◌, Bool, true, false, ◌&&◌, Option, None, Some, MatchOption, Result, Ok, Err}
-use Rattle.std.proofs.Common.{Vec, List, [], ◌∷◌, length, refl, ap, sym, subst, ◌∙◌, arith, ◌⊎◌, inl, inr, nat_le}
+use Rattle.std.proofs.Common.{◌≡◌, ℕ, ◌<◌, Bool, true, false, ◌&&◌, Option, None, Some, MatchOption, Result, Ok, Err, Vec, List, [], ◌∷◌, length, refl, ap, sym}
+use Rattle.std.proofs.Common.{subst, ◌∙◌, arith, ◌⊎◌, inl, inr, nat_le}
 use Rattle.std.specs.Bool.{then_some}
-use Rattle.std.specs.Prelude.{MatchBool, ⊤}
+use Rattle.std.specs.Prelude.{MatchBool, ⊤, IfSome, ℤ}
 use Rattle.std.specs.Result.{IfOk, IfErr}
 use Rattle.std.specs.Str.{bytes_eq}
-use Rattle.std.proofs.lemmas.Bool.{lt-leb}
-use Rattle.std.specs.Prelude.{IfSome, ℤ}
+use Rattle.std.proofs.lemmas.Bool.{lt-leb, and_right, and_left}
 use Rattle.hu_base.specs.Base.{records_of}
 use Rattle.hu_kept.specs.Kept.{Keeping, with_batch}
 use Rattle.hu_shelf.specs.declared.fault.ShelfFault.{ShelfFault}
@@ -15,26 +14,19 @@ use Rattle.hu_shelf.specs.Keeper.{KeeperState, Stays, Told}
 use Rattle.hu_shelf.specs.Shelf.{IsCause, IsFaultOf, Refuses, create_fault, find_fault}
 use Rattle.hu_shelf.specs.Store.{after_byte, before_byte, is_lawful, records_in, settings_in, store_of, store_text, told_by}
 use Rattle.hu_shelf.proofs.ContentLemmas.{Told-map}
-use Rattle.hu_shelf.proofs.lemmas.StoreLemmas.{text_of-store}
-
-false-last : (a b : Bool) → b ≡ false → (a && b) ≡ false
-false-last true b fails = fails
-false-last false b fails = refl
-
-false-first : (a b : Bool) → a ≡ false → (a && b) ≡ false
-false-first a b fails = rw fails refl
+use Rattle.hu_shelf.proofs.lemmas.StoreLemmas.{text_of-store, still_same}
 
 -- a text that isn't the one of what it tells is no store's
 pub none_by_text : (text : List ℕ) (s : Keeping) → told_by text ≡ s → bytes_eq (store_text s) text ≡ false → store_of text ≡ None
 none_by_text text s told other =
     ap (λ t. then_some (is_lawful t text && bytes_eq (store_text t) text) t) told
-    ∙ ap (λ b. then_some b s) (false-last (is_lawful s text) (bytes_eq (store_text s) text) other)
+    ∙ ap (λ b. then_some b s) (and_right (is_lawful s text) (bytes_eq (store_text s) text) other)
 
 -- a text that is too long is no store's
 none_by_length : (text : List ℕ) → 268435456 < length text → store_of text ≡ None
 none_by_length text long =
-    let unlawful : is_lawful (told_by text) text ≡ false = false-last _ (nat_le (length text) 268435456) (lt-leb (length text) 268435456 long) in
-    ap (λ b. then_some b (told_by text)) (false-first (is_lawful (told_by text) text) (bytes_eq (store_text (told_by text)) text) unlawful)
+    let unlawful : is_lawful (told_by text) text ≡ false = and_right _ (nat_le (length text) 268435456) (lt-leb (length text) 268435456 long) in
+    ap (λ b. then_some b (told_by text)) (and_left (is_lawful (told_by text) text) (bytes_eq (store_text (told_by text)) text) unlawful)
 
 damaged : (text : List ℕ) → 0 < length text → store_of text ≡ None → find_fault text ≡ Some Damaged
 damaged [] some none = absurd (omega (arith, some))
@@ -101,14 +93,6 @@ pub found_text : (state : KeeperState) (name items text : List ℕ) (result : Re
 found_text state name items text (Ok s) told is found =
     Told-map state name (λ t. items ≡ t) (λ t. t ≡ store_text s) (λ t same. sym (is ∙ same) ∙ text_of-store text s found) told
 found_text state name items text (Err fault) told is found = tt
-
--- a keeper that is as before
-pub still_same : (state now : KeeperState) → now ≡ state → Stays state now
-still_same state now same = record {
-  texts = ap (λ s. s.texts) same;
-  later = λ other. omega (arith, ap (λ s. s.faults other) same);
-  plan = ap (λ s. s.plan) same;
-}
 
 pub found_none : (state now : KeeperState) (name items text : List ℕ) (result : Result Keeping ShelfFault) → Told state name (λ t. items ≡ t) → text ≡ items
     → 0 < length items → now ≡ state → IfErr result (λ fault. (fault ≡ NoMemory) ⊎ ((fault ≡ Damaged) × (store_of text ≡ None)))

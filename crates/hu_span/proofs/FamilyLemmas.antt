@@ -1,15 +1,15 @@
 -- The children of a kind of growth, by what is told of marks item by item.
-use Rattle.std.proofs.Common.{◌≡◌, ℕ, zero, suc, ◌+◌, ◌-◌, ◌<◌, ◌≤◌, Bool, true, ℤ, List, [], ◌∷◌, ◌++◌, length, get_or, take, drop}
-use Rattle.std.proofs.Common.{append_assoc, length-append, refl, sym, ap, ◌∙◌, subst, ◌⊎◌, inl, inr, arith}
+use Rattle.std.proofs.Common.{◌≡◌, ℕ, zero, suc, ◌+◌, ◌-◌, ◌<◌, ◌≤◌, Bool, true, ℤ, List, [], ◌∷◌, ◌++◌, length, get_or, take, drop, append_assoc}
+use Rattle.std.proofs.Common.{length-append, refl, sym, ap, ◌∙◌, subst, ◌⊎◌, inl, inr, arith}
 use Rattle.std.specs.List.{AllByRecursion}
 use Rattle.std.proofs.lemmas.Bool.{cases_eq}
 use Rattle.std.proofs.lemmas.Int.{ints}
 use Rattle.std.proofs.lemmas.List.{length-map, map-append, get_or-map, get_or_append_left, take-append-le}
-use Rattle.std.proofs.lemmas.List.Elements.{Contains-append_left, Contains-push}
+use Rattle.std.proofs.lemmas.List.Elements.{Contains-append_left, Contains-push, filter-append}
 use Rattle.hu_kind.specs.declared.item.Item.{Item}
 use Rattle.hu_kind.specs.Sequence.{sequence_support}
 use Rattle.hu_kind.proofs.lemmas.Each.{each-left, each-push, each-right}
-use Rattle.hu_kind.proofs.lemmas.Members.{Member}
+use Rattle.hu_kind.proofs.lemmas.Members.{Member-get}
 use Rattle.hu_chain.specs.declared.chain.Growth.{Growth}
 use Rattle.hu_chain.specs.Bound.{IsFit}
 use Rattle.hu_chain.specs.Grown.{grown}
@@ -20,21 +20,14 @@ use Rattle.hu_span.specs.declared.step.Step.{Step}
 use Rattle.hu_span.specs.declared.tally.Told.{Told}
 use Rattle.hu_span.specs.Child.{AreLasting, ArePlaces, AreTold, HasStep, IsChild, IsGathered, IsLast, IsStep, MayTell, MayTellEach}
 use Rattle.hu_span.specs.Branch.{HasPlaces}
-use Rattle.hu_span.specs.Gather.{MayTake}
+use Rattle.hu_span.specs.Gather.{MayTake, IsGrowth}
 use Rattle.hu_span.specs.Growing.{Records}
 use Rattle.hu_span.specs.Links.{at, keys_of, AreLinks, IsAbsent, IsBack}
 use Rattle.hu_span.specs.Mark.{is_of, marks_with, places_of}
 use Rattle.hu_span.specs.Tally.{reaches_of, told}
 use Rattle.hu_span.proofs.ChildLemmas.{marks-gathered, places-gathered, step-fits, step-gathered, step-reaches}
-use Rattle.hu_span.specs.Gather.{IsGrowth}
-use Rattle.hu_span.proofs.MarkLemmas.{filter-append}
 use Rattle.hu_span.proofs.TallyLemmas.{fit-at}
 use Rattle.hu_span.proofs.ToldLemmas.{front-most, told-rules, with-absent}
-
-pub member-at : {A : Type 0} (xs : List A) (i : ℕ) (d : A) → i < length xs → Member (get_or xs i d) xs
-member-at [] i d within = absurd (omega (arith, within))
-member-at (x ∷ xs) zero d within = inl refl
-member-at (x ∷ xs) (suc i) d within = inr (member-at xs i d (omega arith))
 
 -- what stands past a front, and the front with some of it
 get-past : {A : Type 0} (front more rest : List A) (n i : ℕ) (d : A) → n ≡ length front + i → i < length more
@@ -86,7 +79,7 @@ module _ (records : Records) (keep : ℕ → Bool) (pattern : List (List ℕ)) (
       let item = mark.item.0 in
       let step : Step = record { growth = growth; item = mark.item } in
       let all = marks_with item marks in
-      let is = step-gathered records keep pattern growth marks from mark (member-at marks i d within) all refl in
+      let is = step-gathered records keep pattern growth marks from mark (Member-get marks i d within) all refl in
       let front = marks_with item (take i marks) in
       let rest = marks_with item (drop i marks) in
       let split : front ++ rest ≡ all = sym (filter-append (is_of item) (take i marks) (drop i marks)) ∙ ap (marks_with item) (split-at i marks) in
@@ -138,7 +131,7 @@ module _ (records : Records) (keep : ℕ → Bool) (pattern : List (List ℕ)) (
         let mark = get_or marks (at links.lasts.items n - 1) d in
         let item : mark.item.0 ≡ at links.numbers.items.items n =
         sym (get_or-map (λ (m : Mark). m.item.0) marks (at links.lasts.items n - 1) d 0 place) ∙ back.here some in
-        let is = step-gathered records keep pattern growth marks from mark (member-at marks (at links.lasts.items n - 1) d place)
+        let is = step-gathered records keep pattern growth marks from mark (Member-get marks (at links.lasts.items n - 1) d place)
         (marks_with mark.item.0 marks) refl in
         let P : Item → Type 0 = λ i. IsStep records keep pattern (record { growth = growth; item = i }) (marks_with i.0 marks) in
         let same : mark.item ≡ record { 0 = at links.numbers.items.items n } = (λ j. record { 0 = item j }) in

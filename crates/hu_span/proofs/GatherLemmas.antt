@@ -1,14 +1,16 @@
 -- The marks of an item among those that are gathered are the places of the grown pattern.
-use Rattle.std.proofs.Common.{◌≡◌, Some, ℕ, zero, suc, ◌+◌, ◌<◌, Bool, true, false, cond, eqb, ℤ, pos, ◌+ℤ◌, ◌-ℤ◌, option_to_list, List, []}
-use Rattle.std.proofs.Common.{◌∷◌, ◌++◌, map, drop, refl, sym, ap, ◌∙◌, subst, arith}
+use Rattle.std.proofs.Common.{◌≡◌, Some, ℕ, zero, suc, ◌+◌, ◌<◌, Bool, true, false, cond, eqb, ℤ, pos, ◌+ℤ◌, ◌-ℤ◌, option_to_list, List, [], ◌∷◌, ◌++◌, map}
+use Rattle.std.proofs.Common.{drop, refl, sym, ap, ◌∙◌, subst, arith}
 use Rattle.std.specs.List.{flat_map, AllByRecursion}
 use Rattle.std.proofs.lemmas.Int.{ints}
 use Rattle.std.proofs.lemmas.Bool.{eqb-true, ne_eqb}
 use Rattle.std.proofs.lemmas.List.{map-append}
+use Rattle.std.proofs.lemmas.List.Elements.{filter-append}
 use Rattle.hu_kind.specs.Order.{Ascend}
 use Rattle.hu_kind.specs.Record.{has, items_in, total}
 use Rattle.hu_kind.proofs.lemmas.Occurring.{at_member, has-member}
 use Rattle.hu_kind.specs.Sequence.{IsSequence}
+use Rattle.hu_kind.proofs.lemmas.Each.{each-drop}
 use Rattle.hu_chain.specs.declared.chain.Growth.{Growth}
 use Rattle.hu_chain.specs.declared.chain.Growth.TheVariants.{IntoLast, AfterLast}
 use Rattle.hu_chain.specs.declared.place.Place.{Place}
@@ -17,7 +19,7 @@ use Rattle.hu_chain.specs.Pattern.{last_item}
 use Rattle.hu_chain.specs.Place.{cell_of, chain_of, element_at, totals}
 use Rattle.hu_chain.specs.Search.{best_past, found, found_at, followed_places, joined_places, left_past, walked, IsPlaceOf, IsPlain}
 use Rattle.hu_chain.proofs.lemmas.Bounds.{plain-rules}
-use Rattle.hu_chain.proofs.lemmas.Cells.{each-drop, Ascend-drop}
+use Rattle.hu_chain.proofs.lemmas.Cells.{Ascend-drop}
 use Rattle.hu_chain.proofs.lemmas.Gathered.{chain_of-grown}
 use Rattle.hu_chain.proofs.lemmas.Growing.{chain_of-rules, chain_of-start}
 use Rattle.hu_chain.proofs.lemmas.Patterns.{Ends-can_grow}
@@ -25,7 +27,6 @@ use Rattle.hu_span.specs.declared.mark.Mark.{Mark}
 use Rattle.hu_span.specs.Gather.{beside_marks, cells_after, later_marks, row_marks, tail_marks, walk_marks}
 use Rattle.hu_span.specs.Growing.{Records}
 use Rattle.hu_span.specs.Mark.{is_of, mark_at, marks_from, marks_with}
-use Rattle.hu_span.proofs.MarkLemmas.{filter-append}
 
 module _ (item row : ℕ) where
   -- the marks of the item

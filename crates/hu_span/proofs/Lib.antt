@@ -1,4 +1,3 @@
-pub mod Subsequences
 mod StepLemmas
 mod MarkLemmas
 mod GatherLemmas

@@ -1,7 +1,6 @@
 -- The patterns that a search reaches: their itemsets ascend, they are no longer than the records in which they occur, and
 -- they are all patterns of the records.
-use Rattle.std.proofs.Common.{◌≡◌, Bool, ℕ, ◌<◌, ◌≤◌, ℤ, is_some, List, [], ◌∷◌, ◌++◌, length, refl, sym, ap, ◌∙◌, true, false, Option, None, Some}
-use Rattle.std.proofs.Common.{subst, inl, inr}
+use Rattle.std.proofs.Common.{◌≡◌, Bool, ℕ, ◌<◌, ◌≤◌, ℤ, is_some, List, [], ◌∷◌, length, refl, sym, ap, ◌∙◌, true, false, Option, None, Some, subst, inl, inr}
 use Rattle.std.proofs.Common.{arith, length-append, Contains, ◌↔◌}
 use Rattle.std.specs.List.{AllByRecursion}
 use Rattle.hu_kind.specs.declared.entry.Entry.{Entry}
@@ -11,6 +10,8 @@ use Rattle.hu_kind.specs.Sequence.{best_utility, sequence_entry, sequence_patter
 use Rattle.hu_kind.proofs.lemmas.Each.{each-append, each-weaker}
 use Rattle.hu_kind.proofs.lemmas.Members.{Member, Contains-from_member, Member-from_contains}
 use Rattle.hu_kind.proofs.lemmas.Occurring.{at_member, counted, count-member}
+use Rattle.hu_kind.proofs.lemmas.Subsequences.{occurs-sub, pattern_entry-from, pattern_entry-member, size-sub, AreRising, IsSomeAscending}
+use Rattle.hu_kind.proofs.lemmas.Ascending.{Ascend-last}
 use Rattle.hu_chain.specs.declared.chain.Growth.{Growth}
 use Rattle.hu_chain.specs.declared.chain.Growth.TheVariants.{IntoLast, AfterLast}
 use Rattle.hu_chain.specs.Pattern.{into, last_from, Ends, EndsBelow}
@@ -25,7 +26,6 @@ use Rattle.hu_span.specs.Growing.{AreRecords, GrowsOn, IsBegun, IsReached, Recor
 use Rattle.hu_span.specs.Step.{pattern_of}
 use Rattle.hu_span.proofs.StepLemmas.{size-pattern_of}
 use Rattle.hu_span.proofs.WeighedLemmas.{all-kept}
-use Rattle.hu_span.proofs.Subsequences.{occurs-sub, pattern_entry-from, pattern_entry-member, size-sub, AreAscending, IsSomeAscending}
 
 -- ---- itemsets ascend
 
@@ -34,16 +34,12 @@ below-last other item [] up below = tt
 below-last other item (x ∷ []) up below = (below, tt)
 below-last other item (x ∷ y ∷ items) up below = let rest = below-last x item (y ∷ items) up.1 below in (omega (arith, up.0.0, rest.0), rest)
 
-Ascend-more : (items : List ℕ) (item : ℕ) → Ascend items → AllByRecursion (λ z. z < item) items → Ascend (items ++ item ∷ [])
-Ascend-more [] item up below = (tt, tt)
-Ascend-more (x ∷ items) item up below = (each-append (λ z. x < z) items (item ∷ []) up.0 (below.0, tt), Ascend-more items item up.1 below.1)
-
 into-ascending : (pattern : List (List ℕ)) (item : ℕ) → EndsBelow pattern item → AllByRecursion IsSomeAscending pattern
     → AllByRecursion IsSomeAscending (into pattern item)
 into-ascending [] item below all = ((omega arith, (tt, tt)), tt)
 into-ascending (items ∷ []) item below all =
     let up = all.0.1 in
-    ((omega (arith, length-append items (item ∷ [])), Ascend-more items item up (below-last 0 item items up below.below)), tt)
+    ((omega (arith, length-append items (item ∷ [])), Ascend-last items item up (below-last 0 item items up below.below)), tt)
 into-ascending (items ∷ next ∷ pattern) item below all =
     let ends = below.ends in
     (all.0, into-ascending (next ∷ pattern) item (record { ends = record { some = ends.some }; below = below.below }) all.1)
@@ -86,7 +82,7 @@ grown-reached growth (items ∷ pattern) item (inr is) may = (is.0, grown_from-n
 
 -- ---- sizes and patterns
 
-ascending-rules : (elements : List (List (ℕ × ℤ))) → IsSequence elements → AreAscending elements
+ascending-rules : (elements : List (List (ℕ × ℤ))) → IsSequence elements → AreRising elements
 ascending-rules elements rules = each-weaker IsItemset (λ cells. Ascend (items_in cells)) elements Ascend-itemset rules.itemsets
 
 module _ (records : Records) (are : AreRecords records) where
@@ -115,8 +111,8 @@ module _ (records : Records) (are : AreRecords records) where
           let bad : true ≡ false = sym there ∙ gone in
           cc
 
-  all-ascending : AllByRecursion AreAscending records
-  all-ascending = each-weaker IsSequence AreAscending records ascending-rules are.rules
+  all-ascending : AllByRecursion AreRising records
+  all-ascending = each-weaker IsSequence AreRising records ascending-rules are.rules
 
   grows-pattern : (keep : ℕ → Bool) → (e : Entry) → GrowsOn records keep [] e → Contains (sequence_patterns records) e
   grows-pattern keep e on =

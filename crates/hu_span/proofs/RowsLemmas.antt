@@ -4,6 +4,7 @@ use Rattle.std.proofs.Common.{length-append, filter, get_or, pos, ◌-ℤ◌, dr
 use Rattle.std.specs.List.{flat_map, AllByRecursion}
 use Rattle.std.proofs.lemmas.Bool.{eq-eqb, eqb-true, ne_eqb}
 use Rattle.std.proofs.lemmas.List.Concat.{flat_map-append}
+use Rattle.std.proofs.lemmas.List.Elements.{filter-append}
 use Rattle.hu_kind.specs.Order.{Ascend}
 use Rattle.hu_kind.specs.Record.{has, items_in}
 use Rattle.hu_kind.proofs.lemmas.Each.{each-append, each-drop, each-take, each-weaker}
@@ -26,7 +27,7 @@ use Rattle.hu_span.specs.Kept.{takes}
 use Rattle.hu_span.specs.Mark.{mark_at, marks_from, marks_of, marks_with, places_of, record_at, IsMark}
 use Rattle.hu_span.proofs.GatherLemmas.{first-found, first_from, grown-found, grown_from}
 use Rattle.hu_span.proofs.TrailLemmas.{chain-from, AreFrom}
-use Rattle.hu_span.proofs.MarkLemmas.{each-filter, filter-append, taken-flat_map, taken-kept, taken-with}
+use Rattle.hu_span.proofs.MarkLemmas.{each-filter, taken-flat_map, taken-kept, taken-with}
 use Rattle.hu_span.proofs.ReachLemmas.{can-reached, may-reached, Ends-reached}
 
 -- ---- beside each place

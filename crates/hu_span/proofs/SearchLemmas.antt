@@ -1,24 +1,26 @@
 -- What a search makes that offers all children of a pattern and then enters them best bound first.
-use Rattle.std.proofs.Common.{◌≡◌, Bool, true, ℕ, ◌<◌, ◌≤◌, ◌+◌, ℤ, ◌<ℤ◌, ◌≤ℤ◌, List, [], ◌∷◌, length, get_or, take, refl, sym, ap}
-use Rattle.std.proofs.Common.{◌∙◌, subst}
-use Rattle.std.proofs.Common.{inl, inr, ◌⊎◌, arith, Contains, Result, Ok, Err, IsErr, Option, None, Some, IfSome}
+use Rattle.std.proofs.Common.{◌≡◌, Bool, true, ℕ, ◌<◌, ◌≤◌, ◌+◌, ℤ, ◌<ℤ◌, ◌≤ℤ◌, List, [], ◌∷◌, length, get_or, take, refl, sym, ap, ◌∙◌, subst, inl, inr, ◌⊎◌}
+use Rattle.std.proofs.Common.{arith, Contains, Result, Ok, Err, IsErr, Option, None, Some, IfSome}
 use Rattle.std.specs.List.{AllByRecursion}
 use Rattle.std.proofs.lemmas.Bool.{false≢true}
 use Rattle.std.proofs.lemmas.Int.{ints}
+use Rattle.std.proofs.lemmas.List.{length-map}
 use Rattle.hu_kind.specs.declared.entry.Entry.{Entry}
 use Rattle.hu_kind.specs.Sequence.{sequence_entry, sequence_key, sequence_support, sequence_utility}
 use Rattle.hu_kind.proofs.lemmas.Members.{Member-from_contains, Contains-from_member}
 use Rattle.hu_kind.proofs.lemmas.Occurring.{at_member}
+use Rattle.hu_kind.specs.declared.item.Item.{Item}
 use Rattle.hu_collect.specs.State.{State, offered, floor_in, IsInOrder, Reached, ReachedSome, Searches}
-use Rattle.hu_collect.proofs.lemmas.Searching.{empty-contains, reached-in_order, reached-floor, reached-none, reached-one, reached-then}
-use Rattle.hu_collect.proofs.lemmas.Searching.{reached-as, some-reached, some-as, some-then}
+use Rattle.hu_collect.proofs.lemmas.Searching.{empty-contains, reached-in_order, reached-floor, reached-none, reached-one, reached-then, reached-as}
+use Rattle.hu_collect.proofs.lemmas.Searching.{some-reached, some-as, some-then}
 use Rattle.hu_chain.specs.declared.chain.Growth.{Growth}
 use Rattle.hu_chain.specs.Grown.{grown, IsGrownFrom, Leads}
 use Rattle.hu_chain.proofs.lemmas.Bounds.{grown-first}
 use Rattle.hu_chain.proofs.lemmas.Patterns.{Ends-grown}
 use Rattle.hu_chain.proofs.lemmas.Reached.{grown_from-itself}
-use Rattle.hu_span.specs.declared.child.Child.{Child}
 use Rattle.hu_chain.specs.declared.chain.Growth.TheVariants.{IntoLast, AfterLast}
+use Rattle.hu_chain.specs.Pattern.{last_item}
+use Rattle.hu_span.specs.declared.child.Child.{Child}
 use Rattle.hu_span.specs.declared.gather.Grown.{Grown}
 use Rattle.hu_span.specs.declared.search.Below.{Below}
 use Rattle.hu_span.specs.declared.child.Branch.{Branch}
@@ -31,12 +33,8 @@ use Rattle.hu_span.specs.Growing.{AreRecords, GrowsOn, GrowsOver, IsBegun, IsRea
 use Rattle.hu_span.specs.Kept.{keeps, weighed_in, weighed_of, AreKept}
 use Rattle.hu_span.specs.Search.{counting, AreKeptBest, IsBelow, IsNarrowed, IsOneOf, IsSoFar, Narrows, OffersAll}
 use Rattle.hu_span.specs.Cut.{AreBelow, AreOpen}
-use Rattle.hu_span.specs.Mark.{places_of, IsMark}
+use Rattle.hu_span.specs.Mark.{IsMark}
 use Rattle.hu_span.specs.declared.mark.Mark.{Mark}
-use Rattle.hu_kind.specs.declared.item.Item.{Item}
-use Rattle.hu_chain.specs.Bound.{IsFit}
-use Rattle.hu_chain.specs.Pattern.{last_item}
-use Rattle.std.proofs.lemmas.List.{length-map}
 use Rattle.hu_span.specs.declared.step.Step.{Step}
 use Rattle.hu_span.specs.Step.{pattern_of}
 use Rattle.hu_span.proofs.CutLemmas.{grown-back, grown-kept, leads-back, narrow-enough, narrow-fewer, narrow-own}
@@ -401,10 +399,6 @@ marks-within records keep item n (mark ∷ marks) same all =
     let is = all.0 in
     let size = length-map records (weighed_in keep) in
     (omega (arith, same, size, is.within), marks-within records keep item n marks same all.1)
-
-pub marks-fit : (records : Records) (item : ℕ) (marks : List Mark) → AllByRecursion (IsMark records item) marks → AllByRecursion IsFit (places_of marks)
-marks-fit records item [] all = tt
-marks-fit records item (mark ∷ marks) all = let is = all.0 in (is.fit, marks-fit records item marks all.1)
 
 -- what a node keeps, where its children were offered: all that it kept, or what is open
 pub narrowed-all : {old new : State} (records : Records) (kept : Bool × List Item) (steps : List Step) (marks : List Mark) (children : List Child)

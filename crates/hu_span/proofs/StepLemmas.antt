@@ -1,19 +1,18 @@
 -- Steps, by their places: their pattern, its size and its key.
 use Rattle.std.proofs.Common.{◌≡◌, ℕ, zero, suc, ◌<◌, ◌+◌, ℤ, pos, negsuc, List, [], ◌∷◌, ◌++◌, map, length, get_or, take, drop, sum_by, refl, sym, ap, ◌∙◌}
-use Rattle.std.proofs.Common.{◌⊎◌, inl, inr, arith, append_assoc, append-nil, length-append, Option, None, Some, option_to_list, IsSome, ◌↔◌, Result, Ok, Err}
-use Rattle.std.proofs.Common.{OnErr}
+use Rattle.std.proofs.Common.{◌⊎◌, inl, inr, arith, append_assoc, append-nil, length-append, Option, None, Some, option_to_list, IsSome, ◌↔◌}
 use Rattle.std.proofs.lemmas.List.Concat.{flat_map-append}
 use Rattle.std.proofs.lemmas.List.Sums.{sum_by-cons, sum_by-append}
 use Rattle.std.proofs.lemmas.Bool.{false≢true}
 use Rattle.std.proofs.lemmas.List.{same_from_push}
-use Rattle.hu_kind.specs.Sequence.{sequence_key}
+use Rattle.hu_kind.specs.Sequence.{sequence_key, closed}
 use Rattle.hu_chain.specs.declared.chain.Growth.{Growth}
 use Rattle.hu_chain.specs.declared.chain.Growth.TheVariants.{IntoLast, AfterLast}
 use Rattle.hu_chain.specs.Pattern.{after, into, Ends}
 use Rattle.hu_chain.specs.Grown.{grown}
 use Rattle.hu_chain.proofs.lemmas.Patterns.{Ends-grown}
 use Rattle.hu_span.specs.declared.step.Step.{Step}
-use Rattle.hu_span.specs.Step.{closed, grown_key, open_key, pattern_from, pattern_of}
+use Rattle.hu_span.specs.Step.{grown_key, open_key, pattern_from, pattern_of}
 
 -- ---- one step more
 
@@ -161,8 +160,3 @@ popped steps step pushed left None n is split size some =
     let more : 0 < n = omega (arith, size, ap length is, length-append steps (step ∷ [])) in
     absurd (false≢true (some.1 more))
 popped steps step pushed left (Some last) n is split size some = (same_from_push left steps last step (sym split ∙ is)).0
-
--- a claim of failure holds where its fact does
-pub on_err : {T E : Type 0} (result : Result T E) (P : Type 0) → P → OnErr result P
-on_err (Ok x) P p = tt
-on_err (Err e) P p = p

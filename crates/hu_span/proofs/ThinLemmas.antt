@@ -5,11 +5,12 @@ use Rattle.std.specs.List.{AllByRecursion}
 use Rattle.std.proofs.lemmas.Int.{ints}
 use Rattle.std.proofs.lemmas.List.{drop-append-le, drop-drop, drop-take, length-map, reverse-append, reverse-reverse, map-append, take-append-le, take_all}
 use Rattle.std.proofs.lemmas.List.{take_more, take-append-drop}
-use Rattle.hu_kind.proofs.lemmas.Each.{each-append, each-left, each-right}
+use Rattle.std.proofs.lemmas.List.Elements.{filter-append}
+use Rattle.hu_kind.proofs.lemmas.Each.{each-append, each-left, each-right, each-drop}
 use Rattle.hu_kind.specs.Sequence.{IsSequence}
 use Rattle.hu_chain.specs.Place.{element_at, rest_at}
 use Rattle.hu_chain.specs.Search.{IsPlaceOf}
-use Rattle.hu_chain.proofs.lemmas.Cells.{all-above, each-drop, IsAbove}
+use Rattle.hu_chain.proofs.lemmas.Cells.{all-above, IsAbove}
 use Rattle.hu_span.specs.declared.mark.Mark.{Mark}
 use Rattle.hu_span.specs.declared.thin.Run.{Run}
 use Rattle.hu_span.specs.declared.trail.Span.{Span}
@@ -20,7 +21,7 @@ use Rattle.hu_span.specs.Mark.{record_at, IsMark}
 use Rattle.hu_span.specs.Thin.{resting, stretch, IsRun}
 use Rattle.hu_span.specs.Trail.{cells_from, cells_past, is_held, numbered, values_in, AreSpans, IsSpan}
 use Rattle.hu_span.proofs.RestLemmas.{rested_mark}
-use Rattle.hu_span.proofs.MarkLemmas.{each-filter, filter-append}
+use Rattle.hu_span.proofs.MarkLemmas.{each-filter}
 use Rattle.hu_span.proofs.SpanLemmas.{take-upto}
 use Rattle.hu_span.proofs.TrailLemmas.{values-append, values-past}
 use Rattle.hu_span.proofs.WalkLemmas.{element_above, inside-of, inside-weighed, rest-fits, rule-at}

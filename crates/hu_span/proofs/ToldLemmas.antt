@@ -1,11 +1,12 @@
 -- What is told of marks, item by item.
 use Rattle.std.proofs.Common.{◌≡◌, ◌≢◌, ℕ, zero, suc, ◌+◌, ◌<◌, ◌≤◌, ◌^◌, ◌&&◌, Bool, true, false, cond, eqb, ltb, ℤ, pos, ◌+ℤ◌, ◌≤ℤ◌, Option, None, Some}
-use Rattle.std.proofs.Common.{IfSome, SomeIff}
-use Rattle.std.proofs.Common.{List, [], ◌∷◌, ◌++◌, length, get_or, set, refl, sym, ap, ◌∙◌, subst, ◌⊎◌, inl, inr, arith, length-append, append-nil}
+use Rattle.std.proofs.Common.{IfSome, SomeIff, List, [], ◌∷◌, ◌++◌, length, get_or, set, refl, sym, ap, ◌∙◌, subst, ◌⊎◌, inl, inr, arith, length-append}
+use Rattle.std.proofs.Common.{append-nil}
 use Rattle.std.specs.List.{AllByRecursion}
 use Rattle.std.proofs.lemmas.Bool.{eq-eqb, eqb-true, ne_eqb, lt-ltb, ltb-true, cases_eq}
 use Rattle.std.proofs.lemmas.Int.{ints}
 use Rattle.std.proofs.lemmas.List.{length-map, length-set, map-append, get_or-set_same, get_or-set_other, get_or_append_left}
+use Rattle.std.proofs.lemmas.List.Elements.{filter-append}
 use Rattle.hu_chain.specs.Bound.{IsFit}
 use Rattle.hu_span.specs.declared.links.Links.{Links}
 use Rattle.hu_span.specs.declared.mark.Mark.{Mark}
@@ -17,7 +18,6 @@ use Rattle.hu_span.specs.Links.{at, keys_of, AreLinks, IsAbsent, IsNumbered}
 use Rattle.hu_span.specs.Mark.{is_of, marks_with, places_of}
 use Rattle.hu_span.specs.Tally.{next_row, none_told, reaches_of, same_row, spread_more, told, told_from, told_with, IsTally, IsTold}
 use Rattle.hu_span.proofs.LinkLemmas.{at-before, at-end}
-use Rattle.hu_span.proofs.MarkLemmas.{filter-append}
 use Rattle.hu_span.proofs.TallyLemmas.{reaches-most, rows-with, told-push, told_from-append, IsTally-none, IsTally-with}
 
 -- ---- the sum over rows
@@ -130,11 +130,6 @@ with-few item (mark ∷ marks) = by (is_of item mark) (with-few item marks)
     by false rest = omega arith
 
 -- ---- one mark more
-
-tells-any : {A : Type 0} (xs : List A) (k : ℕ) (c d : A) → k < length xs → get_or xs k c ≡ get_or xs k d
-tells-any [] k c d within = absurd (omega (arith, within))
-tells-any (x ∷ xs) zero c d within = refl
-tells-any (x ∷ xs) (suc k) c d within = tells-any xs k c d (omega arith)
 
 keys-push : (marks : List Mark) (mark : Mark) → keys_of (marks ++ mark ∷ []) ≡ keys_of marks ++ mark.item.0 ∷ []
 keys-push marks mark = map-append (λ (m : Mark). m.item.0) marks (mark ∷ [])

@@ -1,12 +1,14 @@
 -- What is met on a walk over a trail: the marks by which a pattern grows, and the cells behind each.
-use Rattle.std.proofs.Common.{◌≡◌, ℕ, zero, suc, ◌+◌, ◌<◌, ◌≤◌, Bool, true, false, cond, eqb, ltb, ℤ, pos, ◌+ℤ◌, ◌-ℤ◌, List, [], ◌∷◌, ◌++◌}
-use Rattle.std.proofs.Common.{Option, None, Some, option_map, option_to_list, filter, length, drop, reverse, refl, sym, ap, ◌∙◌, subst, arith, append_assoc}
-use Rattle.std.proofs.Common.{append-nil}
+use Rattle.std.proofs.Common.{◌≡◌, ℕ, zero, suc, ◌+◌, ◌<◌, ◌≤◌, Bool, true, false, cond, eqb, ltb, ℤ, pos, ◌+ℤ◌, ◌-ℤ◌, List, [], ◌∷◌, ◌++◌, Option, None, Some}
+use Rattle.std.proofs.Common.{option_map, option_to_list, filter, length, drop, reverse, refl, sym, ap, ◌∙◌, subst, arith, append_assoc, append-nil}
 use Rattle.std.specs.Int.{int_max}
 use Rattle.std.specs.List.{AllByRecursion}
 use Rattle.std.proofs.lemmas.Int.{ints}
 use Rattle.std.proofs.lemmas.Bool.{eq-eqb, eqb-false, eqb-true, lt-ltb, ltb-true, ne_eqb}
+use Rattle.std.proofs.lemmas.List.{drop-map, reverse-append}
+use Rattle.std.proofs.lemmas.List.Elements.{filter-append}
 use Rattle.hu_kind.specs.Record.{total}
+use Rattle.hu_kind.proofs.lemmas.Each.{each-append, each-weaker}
 use Rattle.hu_chain.specs.declared.place.Place.{Place}
 use Rattle.hu_chain.specs.Pattern.{last_item}
 use Rattle.hu_chain.specs.Place.{best_at, cell_of, element_at, places_from, rest_at, totals}
@@ -17,12 +19,9 @@ use Rattle.hu_span.specs.Gather.{cells_after, beside_marks, later_marks, tail_ma
 use Rattle.hu_span.specs.Kept.{counted, takes, weighed, weighed_in}
 use Rattle.hu_span.specs.Mark.{mark_at}
 use Rattle.hu_span.specs.Trail.{behind_element, best_before, cells_from, cells_past, in_element, is_held, left_before, mark_of, numbered, trail_beside}
-use Rattle.hu_span.specs.Trail.{trail_later}
-use Rattle.hu_span.specs.Trail.{trail_marks, values_in}
-use Rattle.hu_span.proofs.MarkLemmas.{each-filter, filter-append}
+use Rattle.hu_span.specs.Trail.{trail_later, trail_marks, values_in}
+use Rattle.hu_span.proofs.MarkLemmas.{each-filter}
 use Rattle.hu_span.proofs.WeighedLemmas.{weigh, weighed-after, weighed-element}
-use Rattle.hu_kind.proofs.lemmas.Each.{each-append, each-weaker}
-use Rattle.std.proofs.lemmas.List.{drop-map, reverse-append}
 
 drop-one : {A : Type 0} (n : ℕ) (xs : List A) → drop 1 (drop n xs) ≡ drop (suc n) xs
 drop-one zero xs = refl

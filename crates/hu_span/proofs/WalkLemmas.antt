@@ -1,7 +1,6 @@
 -- The rules of tails and walks, and of the marks that they give.
-use Rattle.std.proofs.Common.{◌≡◌, ℕ, zero, suc, ◌<◌, ◌≤◌, ◌^◌, Bool, true, false, cond, eqb, ℤ, pos, ◌+ℤ◌, ◌-ℤ◌, ◌≤ℤ◌, ◌<ℤ◌, List, [], ◌∷◌, ◌++◌}
-use Rattle.std.proofs.Common.{filter, length, length-drop, take, drop, refl, sym, ap, ◌∙◌, subst}
-use Rattle.std.proofs.Common.{arith, sum_by}
+use Rattle.std.proofs.Common.{◌≡◌, ℕ, zero, suc, ◌<◌, ◌≤◌, ◌^◌, Bool, true, false, cond, eqb, ℤ, pos, ◌+ℤ◌, ◌-ℤ◌, ◌≤ℤ◌, ◌<ℤ◌, List, [], ◌∷◌, ◌++◌, filter}
+use Rattle.std.proofs.Common.{length, length-drop, take, drop, refl, sym, ap, ◌∙◌, subst, arith, sum_by}
 use Rattle.std.specs.Int.{int_max}
 use Rattle.std.specs.List.{AllByRecursion}
 use Rattle.std.proofs.lemmas.Bool.{eqb-true}
@@ -9,14 +8,14 @@ use Rattle.std.proofs.lemmas.Int.{ints, clamps}
 use Rattle.std.proofs.lemmas.List.{length-map, map-append}
 use Rattle.std.proofs.lemmas.List.Sums.{sum_by-cons}
 use Rattle.hu_kind.specs.Record.{total}
-use Rattle.hu_kind.proofs.lemmas.Each.{each-append}
+use Rattle.hu_kind.proofs.lemmas.Each.{each-append, each-take, each-drop}
 use Rattle.hu_kind.specs.Sequence.{IsSequence}
 use Rattle.hu_chain.specs.declared.place.Place.{Place}
 use Rattle.hu_chain.specs.Bound.{IsFit}
 use Rattle.hu_chain.specs.Place.{element_at, totals}
 use Rattle.hu_chain.specs.Search.{best_past, left_past, IsLeft, IsPlain, IsPlaceOf}
-use Rattle.hu_chain.proofs.lemmas.Bounds.{plain-rules}
-use Rattle.hu_chain.proofs.lemmas.Cells.{each-drop, each-take, total-above, total-parts, IsAbove}
+use Rattle.hu_chain.proofs.lemmas.Bounds.{plain-rules, totals-above}
+use Rattle.hu_chain.proofs.lemmas.Cells.{total-above, total-parts, IsAbove}
 use Rattle.hu_chain.proofs.lemmas.Gathered.{place-at, totals-all}
 use Rattle.hu_span.specs.declared.mark.Mark.{Mark}
 use Rattle.hu_span.specs.Gather.{beside_marks, cells_after, later_marks, tail_marks, walk_marks, IsInside, StaysFit}
@@ -79,14 +78,6 @@ few-at [] e = omega arith
 few-at (cells ∷ elements) zero = omega (arith, sum_by-cons (λ (cs : List (ℕ × ℤ)). length cs) cells elements)
 few-at (cells ∷ elements) (suc e) = omega (arith, sum_by-cons (λ (cs : List (ℕ × ℤ)). length cs) cells elements, few-at elements e)
 
-low-totals : (elements : List (List (ℕ × ℤ))) → AllByRecursion IsPlain elements → pos 0 ≤ℤ totals elements
-low-totals [] plain = omega (arith, ints)
-low-totals (cells ∷ elements) plain =
-    let first = plain.0 in
-    let here = total-above cells first.none_below in
-    let rest = low-totals elements plain.1 in
-    omega (arith, ints)
-
 later-all : (elements : List (List (ℕ × ℤ))) → AllByRecursion IsPlain elements → (e : ℕ) → totals (drop e elements) ≤ℤ totals elements
 later-all [] plain zero = omega (arith, ints)
 later-all [] plain (suc e) = omega (arith, ints)
@@ -119,7 +110,7 @@ module _ (elements : List (List (ℕ × ℤ))) (rules : IsSequence elements) whe
   totals-fit = let all = totals-all elements rules in let fits = rules.sum_fits in omega (arith, ints, all, fits)
 
   pub low-later : (e : ℕ) → pos 0 ≤ℤ totals (drop e elements)
-  low-later e = low-totals (drop e elements) (each-drop IsPlain e elements plain)
+  low-later e = totals-above (drop e elements) (each-drop IsPlain e elements plain)
 
   -- what is left after a place fits
   pub rest-fits : (place : Place) → IsInside elements place → (total (cells_after elements place) +ℤ totals (drop (suc place.element) elements)) <ℤ pos

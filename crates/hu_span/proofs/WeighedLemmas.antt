@@ -1,6 +1,6 @@
 -- What is left of records where kept items count alone.
-use Rattle.std.proofs.Common.{◌≡◌, ℕ, zero, suc, ◌+◌, ◌<◌, ◌≤◌, ◌&&◌, ◌||◌, Bool, true, false, cond, eqb, ℤ, pos, ◌+ℤ◌, ◌≤ℤ◌, int_lt, unsigned_abs}
-use Rattle.std.proofs.Common.{None, option_map, unwrap_or, is_some, List, [], ◌∷◌, map, length, get_or, drop, refl, sym, ap, ◌∙◌, arith, sum_by}
+use Rattle.std.proofs.Common.{◌≡◌, ℕ, zero, suc, ◌+◌, ◌<◌, ◌≤◌, ◌&&◌, ◌||◌, Bool, true, false, cond, eqb, ℤ, pos, ◌+ℤ◌, ◌≤ℤ◌, int_lt, unsigned_abs, None}
+use Rattle.std.proofs.Common.{option_map, unwrap_or, is_some, List, [], ◌∷◌, map, length, get_or, drop, refl, sym, ap, ◌∙◌, arith, sum_by}
 use Rattle.std.specs.List.{AllByRecursion, list_any}
 use Rattle.std.proofs.lemmas.Bool.{eqb-true}
 use Rattle.std.proofs.lemmas.Int.{ints}
@@ -8,9 +8,10 @@ use Rattle.std.proofs.lemmas.List.{drop-map, length-map, get_or-map}
 use Rattle.std.proofs.lemmas.List.Sums.{sum_by-cons}
 use Rattle.hu_kind.specs.Record.{absolute_of, any_negative, has, holds, total, value_of, values_of, IsItemset}
 use Rattle.hu_kind.specs.Sequence.{better, best_utility, sequence_support, sequence_utility, IsSequence}
+use Rattle.hu_kind.proofs.lemmas.Each.{each-drop}
 use Rattle.hu_chain.specs.declared.place.Place.{Place}
 use Rattle.hu_chain.specs.Place.{element_at, rest_at, totals}
-use Rattle.hu_chain.proofs.lemmas.Cells.{all-above, each-drop, IsAbove}
+use Rattle.hu_chain.proofs.lemmas.Cells.{all-above, IsAbove}
 use Rattle.hu_span.specs.Gather.{cells_after, IsInside}
 use Rattle.hu_span.specs.Growing.{AreRecords, Records}
 use Rattle.hu_span.specs.Mark.{record_at}

@@ -1,19 +1,20 @@
 -- A pattern occurs where one does that holds it. Where a pattern grows from another one by an item, the other one with just
 -- this item more occurs.
-use Rattle.std.proofs.Common.{◌≡◌, ℕ, ◌<◌, ◌&&◌, Bool, true, false, cond, ℤ, ◌+ℤ◌, Option, None, Some, option_map, is_some, List, [], ◌∷◌, ◌++◌}
-use Rattle.std.proofs.Common.{length, refl, sym, ap, ◌∙◌, subst, ◌⊎◌, inl, inr, arith}
+use Rattle.std.proofs.Common.{◌≡◌, ℕ, ◌<◌, ◌&&◌, Bool, true, false, cond, ℤ, ◌+ℤ◌, Option, None, Some, option_map, is_some, List, [], ◌∷◌, ◌++◌, length, refl}
+use Rattle.std.proofs.Common.{sym, ap, ◌∙◌, subst, ◌⊎◌, inl, inr, arith}
 use Rattle.std.proofs.lemmas.Bool.{and_from}
 use Rattle.hu_kind.specs.Record.{has, holds, values_of}
 use Rattle.hu_kind.specs.Sequence.{best_utility, IsSequence}
 use Rattle.hu_kind.proofs.lemmas.Members.{Member}
+use Rattle.hu_kind.proofs.lemmas.Better.{some_cases, some_left}
+use Rattle.hu_kind.proofs.lemmas.Subsequences.{held_and_later, some-here, occurs-later}
+use Rattle.hu_kind.proofs.lemmas.Occurring.{holds-append}
 use Rattle.hu_chain.specs.declared.chain.Growth.{Growth}
 use Rattle.hu_chain.specs.declared.chain.Growth.TheVariants.{IntoLast, AfterLast}
 use Rattle.hu_chain.specs.Grown.{grown, CanGrow, IsGrownFrom, Leads}
 use Rattle.hu_chain.specs.Pattern.{after, into, Ends}
 use Rattle.hu_chain.proofs.lemmas.Bounds.{grown_from-none}
 use Rattle.hu_chain.proofs.lemmas.Patterns.{last_item-into, Ends-grown}
-use Rattle.hu_kind.proofs.lemmas.Better.{some_cases, some_left, some_right}
-use Rattle.hu_span.proofs.Subsequences.{held_and_later, some-here}
 
 -- cells that hold some items hold others
 abbrev pub IsPart : List ℕ → List ℕ → Type 0
@@ -24,12 +25,6 @@ abbrev pub Within : List (List ℕ) → List (List ℕ) → Type 0
 Within [] q = Unit {0}
 Within (p ∷ ps) [] = ⊥
 Within (p ∷ ps) (q ∷ qs) = (IsPart p q × Within ps qs) ⊎ Within (p ∷ ps) qs
-
-occurs-later : (pattern : List (List ℕ)) (e : List (ℕ × ℤ)) (es : List (List (ℕ × ℤ))) → is_some (best_utility pattern es) ≡ true
-    → is_some (best_utility pattern (e ∷ es)) ≡ true
-occurs-later [] e es some = refl
-occurs-later (p ∷ ps) e es some = some_right (cond (holds p e) (option_map (λ u. values_of p e +ℤ u) (best_utility ps es)) None)
-    (best_utility (p ∷ ps) es) some
 
 pub occurs-within : (p q : List (List ℕ)) (elements : List (List (ℕ × ℤ))) → Within p q → is_some (best_utility q elements) ≡ true
     → is_some (best_utility p elements) ≡ true
@@ -49,15 +44,6 @@ occurs-within (p ∷ ps) (q ∷ qs) (e ∷ es) w some =
     ]
 
 -- ---- parts
-
-holds-append : (items more : List ℕ) (cells : List (ℕ × ℤ)) → holds (items ++ more) cells ≡ (holds items cells && holds more cells)
-holds-append [] more cells = refl
-holds-append (item ∷ items) more cells = by (has item cells) (holds-append items more cells)
-  where
-    by : (b : Bool) → holds (items ++ more) cells ≡ (holds items cells && holds more cells)
-        → (b && holds (items ++ more) cells) ≡ ((b && holds items cells) && holds more cells)
-    by true e = e
-    by false e = refl
 
 both_left : (a b : Bool) → (a && b) ≡ true → a ≡ true
 both_left true b h = refl

@@ -1,5 +1,6 @@
 -- The steps of a search: each growth with its item. They tell the pattern that they make of the empty one, and its key.
-use Rattle.std.specs.Prelude.{ℕ, ℤ, pos, negsuc, List, [], ◌∷◌, ◌++◌}
+use Rattle.std.specs.Prelude.{ℕ, ℤ, pos, List, [], ◌∷◌, ◌++◌}
+use Rattle.hu_kind.specs.Sequence.{closed}
 use Rattle.hu_chain.specs.declared.chain.Growth.{Growth}
 use Rattle.hu_chain.specs.declared.chain.Growth.TheVariants.{IntoLast, AfterLast}
 use Rattle.hu_chain.specs.Grown.{grown}
@@ -13,11 +14,6 @@ pattern_from pattern (step ∷ steps) = pattern_from (grown step.growth pattern 
 -- and of the empty one
 abbrev pub pattern_of : List Step → List (List ℕ)
 pattern_of steps = pattern_from [] steps
-
--- a key whose last itemset is ended, if there is one
-abbrev pub closed : List ℤ → List ℤ
-closed [] = []
-closed (n ∷ ns) = n ∷ ns ++ negsuc 0 ∷ []
 
 -- a key with a growth by an item more, its last itemset open
 abbrev pub grown_key : List ℤ → Growth → ℕ → List ℤ

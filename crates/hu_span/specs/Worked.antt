@@ -11,7 +11,8 @@ use Rattle.hu_span.specs.Cut.{spread}
 use Rattle.hu_span.specs.Gather.{row_marks}
 use Rattle.hu_span.specs.Kept.{keeps, weighed_in}
 use Rattle.hu_span.specs.Mark.{mark_at, marks_of}
-use Rattle.hu_span.specs.Step.{closed, open_key, pattern_of}
+use Rattle.hu_kind.specs.Sequence.{closed}
+use Rattle.hu_span.specs.Step.{open_key, pattern_of}
 use Rattle.hu_span.specs.Tally.{bests_of, reaches_of, told}
 use Rattle.hu_span.specs.declared.trail.TrailCell.{TrailCell}
 use Rattle.hu_span.specs.Trail.{cells_at, cells_past, is_held, trail_later, values_in}

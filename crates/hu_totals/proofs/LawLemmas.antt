@@ -1,7 +1,6 @@
 -- What the records over ranks keep of a database.
-use Rattle.std.proofs.Common.{◌≡◌, ℕ, suc, ◌<◌, ◌+◌, Bool, true, false, cond, eqb, nat_lt, ◌&&◌, ℤ, pos}
-use Rattle.std.proofs.Common.{◌+ℤ◌, ◌≤ℤ◌, int_le, List, [], ◌∷◌, ◌++◌, map, filter, length, refl, sym, ap, ◌∙◌, subst}
-use Rattle.std.proofs.Common.{inl, inr, ◌⊎◌, arith, flat_map, All, Contains, append_assoc}
+use Rattle.std.proofs.Common.{◌≡◌, ℕ, ◌<◌, ◌+◌, Bool, true, false, cond, eqb, nat_lt, ◌&&◌, ℤ, pos, ◌+ℤ◌, ◌≤ℤ◌, int_le, List, [], ◌∷◌, ◌++◌, map, filter}
+use Rattle.std.proofs.Common.{length, refl, sym, ap, ◌∙◌, subst, inl, inr, ◌⊎◌, arith, flat_map, All, Contains, append_assoc}
 use Rattle.std.specs.List.{AllByRecursion}
 use Rattle.std.proofs.lemmas.Bool.{eq-eqb, ne_eqb, cases_eq, cases_lt, and_from, lt-ltb}
 use Rattle.std.proofs.lemmas.Int.{ints}
@@ -14,9 +13,11 @@ use Rattle.hu_kind.specs.Database.{utility, support, twu, items_of}
 use Rattle.hu_kind.specs.Itemsets.{sublists, occurring_sets, item_entry, item_patterns}
 use Rattle.hu_kind.specs.Answer.{found}
 use Rattle.hu_kind.proofs.lemmas.Earned.{gain-least, values_of-gain, has-held}
-use Rattle.hu_kind.proofs.lemmas.Members.{Member, Member-from_contains, Contains-from_member, Member-append_cases}
-use Rattle.hu_kind.proofs.lemmas.Members.{Member-map, Member-from_map, Member-filter, Member-from_filter}
-use Rattle.hu_kind.proofs.lemmas.Occurring.{at_member, by_members, Member-ranking, Occurs, held-members, Occurs-from_member, Member-from_occurs}
+use Rattle.hu_kind.proofs.lemmas.Members.{Member, Member-from_contains, Contains-from_member, Member-append_cases, Member-map, Member-from_map, Member-filter}
+use Rattle.hu_kind.proofs.lemmas.Members.{Member-from_filter}
+use Rattle.hu_kind.proofs.lemmas.Occurring.{at_member, by_members, Member-ranking, Occurs, held-members, Occurs-from_member, Member-from_occurs, holds-none}
+use Rattle.hu_kind.proofs.lemmas.Occurring.{utility-unheld}
+use Rattle.hu_kind.proofs.lemmas.Each.{each-from_all}
 use Rattle.hu_totals.specs.declared.weights.RankOrder.{RankOrder}
 use Rattle.hu_totals.specs.Ranked.{ranked_by, ordered_items, by_order, cells_from, over_ranks, item_at, unranked}
 use Rattle.hu_totals.specs.Laws.{KeepsSets, RanksHigh, KeepsPatterns}
@@ -101,10 +102,6 @@ holds-kept (x ∷ xs) items cells all =
     let rest = holds-kept xs items cells all.1 in
     ((λ j. one.0 j && rest.0 j), (λ j. one.1 j +ℤ rest.1 j))
 
-holds-none : (set : List ℕ) → 0 < length set → holds set [] ≡ false
-holds-none [] some = absurd (omega arith)
-holds-none (x ∷ xs) some = refl
-
 nothing : (cells : List (ℕ × ℤ)) → nat_lt 0 (length cells) ≡ false → cells ≡ []
 nothing [] h = refl
 nothing (c ∷ cs) h = let more : nat_lt 0 (length (c ∷ cs)) ≡ true =
@@ -150,10 +147,6 @@ module _ (items set : List ℕ) (some : 0 < length set) (all : AllByRecursion (�
           let none : ◌≡◌ {A = ℕ} (cond (holds set r) 1 0) 0 = ap (λ b. cond b 1 0) (left_out r h) in
           omega (arith, sum_by-cons (λ c. cond (holds set c) 1 0) r rs)
 
-each-from_all : {A : Type 0} (P : A → Type 0) (xs : List A) → All P xs → AllByRecursion P xs
-each-from_all P [] all = tt
-each-from_all P (x ∷ xs) all = (all 0 x (omega arith), each-from_all P xs (λ k d within. all (suc k) d (omega arith)))
-
 each-member : (items set : List ℕ) → AllByRecursion (Contains items) set → AllByRecursion (λ i. Member i items) set
 each-member items [] all = tt
 each-member items (x ∷ xs) all = (Member-from_contains x items all.0, each-member items xs all.1)
@@ -183,16 +176,6 @@ utility_in-gained x set cells up m = by (holds set cells) refl
 utility-twu : (records : List (List (ℕ × ℤ))) (x : ℕ) (set : List ℕ) → Ascend set → Member x set → utility records set ≤ℤ twu records (x ∷ [])
 utility-twu [] x set up m = omega (arith, ints)
 utility-twu (r ∷ rs) x set up m = let ih = utility-twu rs x set up m in let one = utility_in-gained x set r up m in omega (arith, ints)
-
--- a set that no record holds earns nothing
-utility-unheld : (records : List (List (ℕ × ℤ))) (set : List ℕ) → support records set ≡ 0 → utility records set ≡ pos 0
-utility-unheld [] set none = refl
-utility-unheld (r ∷ rs) set none = by (holds set r) (sym (sum_by-cons (λ c. cond (holds set c) 1 0) r rs) ∙ none) (utility-unheld rs set)
-  where
-    by : (b : Bool) → cond b 1 0 + support rs set ≡ 0 → (support rs set ≡ 0 → utility rs set ≡ pos 0)
-        → cond b (values_of set r) (pos 0) +ℤ utility rs set ≡ pos 0
-    by true h ih = absurd (omega arith)
-    by false h ih = let rest = ih (omega arith) in omega (arith, ints)
 
 held : (records : List (List (ℕ × ℤ))) (set : List ℕ) → pos 1 ≤ℤ utility records set → 0 < support records set
 held records set earns = elim (cases_lt 0 (support records set)) [

@@ -8,3 +8,4 @@ pub mod RecordCells
 pub mod RoomLemmas
 pub mod SortedLists
 pub mod WeightLemmas
+pub mod GainLemmas

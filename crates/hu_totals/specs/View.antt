@@ -10,6 +10,10 @@ use Rattle.hu_totals.specs.Ranked.{Ranking}
 abbrev pub dense_pair : Dense → ℕ × ℤ
 dense_pair cell = (cell.rank, cell.value)
 
+-- cells as pairs
+abbrev pub cells_of : List Dense → List (ℕ × ℤ)
+cells_of cells = map dense_pair cells
+
 -- the cells of a record as pairs
 abbrev pub pairs_in : Vec Dense Global → List (ℕ × ℤ)
 pairs_in cells = map dense_pair cells.items

@@ -1,13 +1,11 @@
 -- The canonical line of a record says that record.
-use Rattle.std.proofs.Common.{◌≡◌, ℕ, ◌+◌, ◌<◌, ◌≤◌, ◌^◌, ◌==◌, ℤ, pos, unsigned_abs, true, false, Option, None}
-use Rattle.std.proofs.Common.{unwrap_or, slice_get, Ok, Err, Result, List, [], ◌∷◌, length, map, zip, filter, get_or}
-use Rattle.std.proofs.Common.{refl, ap, ◌∙◌, arith, decimal}
+use Rattle.std.proofs.Common.{◌≡◌, ℕ, ◌+◌, ◌<◌, ◌≤◌, ◌^◌, ◌==◌, ℤ, pos, unsigned_abs, true, false, Option, None, unwrap_or, slice_get, Ok, Err, Result, List}
+use Rattle.std.proofs.Common.{[], ◌∷◌, length, map, zip, filter, get_or, refl, ap, ◌∙◌, arith, decimal}
 use Rattle.std.specs.Fmt.{signed_decimal}
-use Rattle.std.specs.List.{All, AllAdjacentBelow, join_with_byte, slice_split}
-use Rattle.std.specs.List.Sorted.{IsStrictlyIncreasing}
+use Rattle.std.specs.List.{All, join_with_byte, slice_split}
 use Rattle.std.specs.Option.{option_map, option_map_or}
 use Rattle.std.proofs.lemmas.Bool.{eq-eqb}
-use Rattle.std.proofs.lemmas.List.{length-map, get_or-map}
+use Rattle.std.proofs.lemmas.List.{length-map}
 use Rattle.std.proofs.lemmas.List.Sums.{sum_by-cons, get_or-le-sum_by}
 use Rattle.std.proofs.lemmas.List.Sorted.{IsPermutation-refl}
 use Rattle.std.proofs.lemmas.Int.{ints}
@@ -20,6 +18,8 @@ use Rattle.hu_kind.specs.Cells.{by_item}
 use Rattle.hu_kind.proofs.lemmas.CellsLemmas.{by_item-ascending, twice-ascending}
 use Rattle.hu_kind.specs.Token.{tokens, has_byte}
 use Rattle.hu_kind.specs.First.{first_some}
+use Rattle.hu_kind.proofs.lemmas.Written.{number-decimal, signed_number-signed_decimal}
+use Rattle.hu_kind.proofs.lemmas.CellPlaces.{items_rise}
 use Rattle.hu_trans.specs.Line.{numbers, bad_token, bad_total, parts, items}
 use Rattle.hu_trans.specs.declared.fault.Fault.{Fault}
 use Rattle.hu_trans.specs.declared.fault.Fault.TheVariants.{BadNumber}
@@ -27,7 +27,6 @@ use Rattle.hu_trans.specs.Reading.{not_three_parts, bad_number, reading, judged}
 use Rattle.hu_trans.specs.Canonical.{canonical_line}
 use Rattle.hu_trans.proofs.JudgedLemmas.{AreFine, sum_faults, judged-sums, item_faults-none, sum_faults-none}
 use Rattle.hu_trans.proofs.NumbersLemmas.{bad_from, bad_token-bad_from}
-use Rattle.hu_kind.proofs.lemmas.Written.{number-decimal, signed_number-signed_decimal}
 use Rattle.hu_trans.proofs.NumeralLemmas.{Lacks, IsToken, IsToken-decimal, IsToken-signed_decimal}
 
 -- pieces that are joined by a byte which none of them has are cut at it again
@@ -139,16 +138,6 @@ AreFine-record cells rules =
       same = omega arith;
       in_range = All-map (λ item. item ≤ 2147483647) (λ cell. cell.0) cells rules.itemset.in_range;
     }
-
-items_rise : (cells : List (ℕ × ℤ)) → AllAdjacentBelow (λ a b. a.0 < b.0) cells (length cells) → IsStrictlyIncreasing (items_in cells)
-items_rise cells h k within =
-    let inside : k + 1 < length cells = omega (arith, length-map cells (λ cell. cell.0)) in
-    omega (
-      arith,
-      get_or-map (λ (cell : ℕ × ℤ). cell.0) cells k (0, pos 0) 0 (omega arith),
-      get_or-map (λ (cell : ℕ × ℤ). cell.0) cells (k + 1) (0, pos 0) 0 inside,
-      h k (0, pos 0) inside,
-    )
 
 -- the numbers of a record say it
 judged-record : (cells : List (ℕ × ℤ)) → IsRecord cells → judged (items_in cells) (total cells) (map (λ cell. cell.1) cells) ≡ Ok cells

@@ -3,7 +3,7 @@ use Rattle.std.proofs.Common.{◌≡◌, ℕ, ◌<◌, ◌^◌, ◌==◌, ℤ, p
 use Rattle.std.specs.Fmt.{signed_decimal}
 use Rattle.std.specs.List.{All, AllByRecursion}
 use Rattle.std.proofs.lemmas.List.Elements.{All-from_recursion}
-use Rattle.hu_kind.proofs.lemmas.Written.{IsWritten, written-signed_decimal}
+use Rattle.hu_kind.proofs.lemmas.Written.{written-signed_decimal}
 
 -- a byte doesn't stand in a text
 abbrev pub Lacks : ℕ → List ℕ → Type 0

@@ -7,14 +7,15 @@ use Rattle.hu_kind.specs.Answer.{closed_answer}
 use Rattle.hu_kind.specs.Record.{has, holds, items_in}
 use Rattle.hu_kind.specs.Database.{support, items_of}
 use Rattle.hu_kind.specs.Itemsets.{is_closed, goes_with, occurring_sets, item_entry, closed_patterns}
-use Rattle.hu_kind.proofs.lemmas.Members.{Member, Contains-from_member, Member-from_contains, Member-map}
-use Rattle.hu_kind.proofs.lemmas.Members.{Member-from_map, Member-flat_map, Member-filter, Member-from_filter}
+use Rattle.hu_kind.proofs.lemmas.Members.{Member, Contains-from_member, Member-from_contains, Member-map, Member-from_map, Member-flat_map, Member-filter}
+use Rattle.hu_kind.proofs.lemmas.Members.{Member-from_filter}
 use Rattle.hu_kind.proofs.lemmas.Occurring.{Occurs, Occurs-from_member, Member-from_occurs, Member-ranking, counted, has-member}
+use Rattle.hu_kind.proofs.lemmas.Tests.{all-at_member, all-by_members, any-member, any-from_member}
 use Rattle.hu_answer.specs.Supersets.{is_item_of, is_proper_superset, IsClosedSet}
 use Rattle.hu_answer.specs.Entries.{IsEntryOf, IsFoundSet}
 use Rattle.hu_answer.specs.Laws.{IsClosedAnswer}
 use Rattle.hu_answer.proofs.lemmas.Answers.{Member-from_answer, Member-answer, entry-of_set, set-of_entry}
-use Rattle.hu_answer.proofs.lemmas.Tests.{all-at_member, all-by_members, any-member, any-from_member, count-same, count-by_members}
+use Rattle.hu_answer.proofs.lemmas.Tests.{count-same, count-by_members}
 
 item-member : (i : ℕ) (items : List ℕ) → is_item_of i items ≡ true → Member i items
 item-member i items h = let found = any-member (λ j. eqb i j) items h in subst (λ j. Member j items) (sym (eqb-true i found.0 found.2)) found.1

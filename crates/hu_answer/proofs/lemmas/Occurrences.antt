@@ -1,13 +1,13 @@
 -- The best utility of a sequence is the greatest over its occurrences.
-use Rattle.std.proofs.Common.{◌≡◌, ℕ, zero, suc, ◌<◌, nat_lt, Bool, true, false, cond, ◌&&◌, ℤ, pos, ◌+ℤ◌, ◌≤ℤ◌, Option}
-use Rattle.std.proofs.Common.{None, Some, is_some, option_map, List, [], ◌∷◌, map, length, get_or, refl, sym, ap, ◌∙◌}
-use Rattle.std.proofs.Common.{subst, ◌⊎◌, inl, inr, arith}
+use Rattle.std.proofs.Common.{◌≡◌, ℕ, zero, suc, ◌<◌, nat_lt, Bool, true, false, cond, ◌&&◌, ℤ, pos, ◌+ℤ◌, ◌≤ℤ◌, Option, None, Some, is_some, option_map, List}
+use Rattle.std.proofs.Common.{[], ◌∷◌, map, length, get_or, refl, sym, ap, ◌∙◌, subst, ◌⊎◌, inl, inr, arith}
 use Rattle.std.specs.Int.{int_max}
 use Rattle.std.specs.List.{list_all}
 use Rattle.std.proofs.lemmas.Bool.{and_parts, and_from, lt-ltb, ltb-true}
 use Rattle.std.proofs.lemmas.Int.{ints, clamps, by_lt_z}
 use Rattle.hu_kind.specs.Record.{holds, values_of}
 use Rattle.hu_kind.specs.Sequence.{better, best_utility}
+use Rattle.hu_kind.proofs.lemmas.Tests.{same_bool}
 use Rattle.hu_answer.specs.Occurrences.{is_ascending, are_held_at, is_occurrence, earned_at}
 use Rattle.hu_answer.specs.Laws.{HasBestWhereItOccurs, BestIsReached, NoneEarnsMore}
 
@@ -16,14 +16,9 @@ use Rattle.hu_answer.specs.Laws.{HasBestWhereItOccurs, BestIsReached, NoneEarnsM
 abbrev further : List ℕ → List ℕ
 further places = map (λ k. suc k) places
 
-both-true : (a b : Bool) → (a ≡ true → b ≡ true) → (b ≡ true → a ≡ true) → a ≡ b
-both-true true b there back = sym (there refl)
-both-true false true there back = back refl
-both-true false false there back = refl
-
 less-further : (a b : ℕ) → nat_lt (suc a) (suc b) ≡ nat_lt a b
 less-further a b =
-    both-true (nat_lt (suc a) (suc b)) (nat_lt a b)
+    same_bool (nat_lt (suc a) (suc b)) (nat_lt a b)
     (λ h. let less : suc a < suc b = ltb-true (suc a) (suc b) h in lt-ltb a b (omega arith))
     (λ h. let less : a < b = ltb-true a b h in lt-ltb (suc a) (suc b) (omega arith))
 

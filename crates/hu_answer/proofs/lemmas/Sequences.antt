@@ -1,69 +1,41 @@
 -- The subsequences of a record are the sequences of ascending itemsets that occur in it.
-use Rattle.std.proofs.Common.{◌≡◌, ℕ, ◌<◌, nat_lt, Bool, true, false, cond, eqb, ℤ, ◌+ℤ◌, ◌≤ℤ◌, Option, None, Some}
-use Rattle.std.proofs.Common.{is_some, option_map, List, [], ◌∷◌, map, length, filter, refl, sym, subst, ◌⊎◌, inl, inr}
-use Rattle.std.proofs.Common.{arith}
+use Rattle.std.proofs.Common.{◌≡◌, ℕ, ◌<◌, nat_lt, Bool, true, false, cond, ℤ, ◌+ℤ◌, ◌≤ℤ◌, Option, None, Some, is_some, option_map, List, [], ◌∷◌, map, length}
+use Rattle.std.proofs.Common.{filter, refl, sym, subst, inl, inr, arith}
 use Rattle.std.specs.List.{AllByRecursion, Contains}
-use Rattle.std.proofs.lemmas.Bool.{eq-eqb, lt-ltb, ltb-true}
+use Rattle.std.proofs.lemmas.Bool.{lt-ltb, ltb-true}
 use Rattle.hu_kind.specs.declared.entry.Entry.{Entry}
 use Rattle.hu_kind.specs.Answer.{sequence_answer}
 use Rattle.hu_kind.specs.Order.{Ascend}
 use Rattle.hu_kind.specs.Record.{has, holds, values_of, items_in, IsItemset}
 use Rattle.hu_kind.specs.Itemsets.{sublists}
-use Rattle.hu_kind.specs.Sequence.{better, best_utility, led_by, sequence_entry, sequence_patterns, subsequences, IsSequence}
+use Rattle.hu_kind.specs.Sequence.{best_utility, led_by, sequence_entry, sequence_patterns, subsequences, IsSequence}
 use Rattle.hu_kind.proofs.lemmas.Ascending.{Ascend-adjacent}
 use Rattle.hu_kind.proofs.lemmas.Each.{each-weaker}
 use Rattle.hu_kind.proofs.lemmas.Earned.{subsequence-ascends}
-use Rattle.hu_kind.proofs.lemmas.Members.{Member, Contains-from_member, Member-from_contains, Member-map}
-use Rattle.hu_kind.proofs.lemmas.Members.{Member-from_map, Member-flat_map, Member-from_flat_map, Member-filter}
-use Rattle.hu_kind.proofs.lemmas.Members.{Member-from_filter}
-use Rattle.hu_kind.proofs.lemmas.Occurring.{at_member, by_members, each-sublist, Member-sublists, counted, count-member, holds-members}
+use Rattle.hu_kind.proofs.lemmas.Members.{Member, Contains-from_member, Member-from_contains, Member-map, Member-from_map, Member-flat_map}
+use Rattle.hu_kind.proofs.lemmas.Members.{Member-from_flat_map, Member-filter, Member-from_filter}
+use Rattle.hu_kind.proofs.lemmas.Occurring.{at_member, by_members, each-sublist, Member-sublists, counted, count-member, holds-members, has-from_member}
+use Rattle.hu_kind.proofs.lemmas.EntryOrder.{entry-same}
+use Rattle.hu_kind.proofs.lemmas.Tests.{all-by_members}
+use Rattle.hu_kind.proofs.lemmas.Better.{some_cases}
+use Rattle.hu_kind.proofs.lemmas.Subsequences.{led-occurs}
 use Rattle.hu_answer.specs.Entries.{IsSequenceEntryOf, IsFoundSequence}
 use Rattle.hu_answer.specs.Laws.{IsSequenceAnswer}
 use Rattle.hu_answer.proofs.lemmas.Answers.{Member-answer, Member-from_answer}
-use Rattle.hu_kind.proofs.lemmas.EntryOrder.{entry-same}
 use Rattle.hu_answer.proofs.lemmas.Occurrences.{first_utility}
-use Rattle.hu_answer.proofs.lemmas.Tests.{or-left, or-right, all-by_members}
 
 -- ---- a subsequence occurs
-
-member-has : (item : ℕ) (cells : List (ℕ × ℤ)) → Member item (items_in cells) → has item cells ≡ true
-member-has item [] m = absurd m
-member-has item (cell ∷ cells) (inl e) = or-left (eqb item cell.0) (has item cells) (eq-eqb item cell.0 (sym e))
-member-has item (cell ∷ cells) (inr m) = or-right (eqb item cell.0) (has item cells) (member-has item cells m)
 
 sublist-held : (cells : List (ℕ × ℤ)) (s : List ℕ) → Member s (sublists (items_in cells)) → holds s cells ≡ true
 sublist-held cells s m =
     let all = each-sublist (λ i. Member i (items_in cells)) (items_in cells) s
     (by_members (λ i. Member i (items_in cells)) (items_in cells) (λ i n. n)) m in
-    all-by_members (λ i. has i cells) s (λ i n. member-has i cells (at_member (λ j. Member j (items_in cells)) i s all n))
-
-some-left : (a b : Option ℤ) → is_some a ≡ true → is_some (better a b) ≡ true
-some-left None b h = absurd (let no : false ≡ true = h in cc)
-some-left (Some x) None h = refl
-some-left (Some x) (Some y) h = refl
-
-some-right : (a b : Option ℤ) → is_some b ≡ true → is_some (better a b) ≡ true
-some-right None b h = h
-some-right (Some x) None h = absurd (let no : false ≡ true = h in cc)
-some-right (Some x) (Some y) h = refl
+    all-by_members (λ i. has i cells) s (λ i n. has-from_member i cells (at_member (λ j. Member j (items_in cells)) i s all n))
 
 some-first : (b : Bool) (f : ℤ → ℤ) (a : Option ℤ) → b ≡ true → is_some a ≡ true → is_some (cond b (option_map f a) None) ≡ true
 some-first true f None e h = absurd (let no : false ≡ true = h in cc)
 some-first true f (Some x) e h = refl
 some-first false f a e h = absurd (let no : false ≡ true = e in cc)
-
-occurs-later : (pattern : List (List ℕ)) (e : List (ℕ × ℤ)) (es : List (List (ℕ × ℤ))) → is_some (best_utility pattern es) ≡ true
-    → is_some (best_utility pattern (e ∷ es)) ≡ true
-occurs-later [] e es h = refl
-occurs-later (p ∷ ps) e es h = some-right (first_utility p ps e es) (best_utility (p ∷ ps) es) h
-
-occurs-led : (s : List ℕ) (rest : List (List ℕ)) (e : List (ℕ × ℤ)) (es : List (List (ℕ × ℤ))) → holds s e ≡ true
-    → is_some (best_utility rest es) ≡ true
-    → is_some (best_utility (led_by s rest) (e ∷ es)) ≡ true
-occurs-led [] rest e es held h = occurs-later rest e es h
-occurs-led (i ∷ is) rest e es held h =
-    some-left (first_utility (i ∷ is) rest e es) (best_utility ((i ∷ is) ∷ rest) es)
-    (some-first (holds (i ∷ is) e) (λ u. values_of (i ∷ is) e +ℤ u) (best_utility rest es) held h)
 
 -- a sequence whose itemsets all have an item
 abbrev Filled : List (List ℕ) → Type 0
@@ -82,13 +54,9 @@ subsequence-occurs (e ∷ es) pattern m =
     let rest = Member-from_map (led_by first.0) pattern (subsequences es) first.2 in
     let ih = subsequence-occurs es rest.0 rest.1 in
     subst (λ p. Filled p × (is_some (best_utility p (e ∷ es)) ≡ true)) rest.2
-    (filled-led first.0 rest.0 ih.0, occurs-led first.0 rest.0 e es (sublist-held e first.0 first.1) ih.1)
+    (filled-led first.0 rest.0 ih.0, led-occurs first.0 rest.0 e es (sublist-held e first.0 first.1) ih.1)
 
 -- ---- and a sequence that occurs is a subsequence
-
-some-cases : (a b : Option ℤ) → is_some (better a b) ≡ true → (is_some a ≡ true) ⊎ (is_some b ≡ true)
-some-cases None b h = inr h
-some-cases (Some x) b h = inl refl
 
 from_first : (b : Bool) (f : ℤ → ℤ) (a : Option ℤ) → is_some (cond b (option_map f a) None) ≡ true → (b ≡ true) × (is_some a ≡ true)
 from_first true f None h = absurd (let no : false ≡ true = h in cc)
@@ -118,7 +86,7 @@ occurring-subsequence : (elements : List (List (ℕ × ℤ))) (pattern : List (L
 occurring-subsequence [] [] rise filled up h = inl refl
 occurring-subsequence [] (p ∷ ps) rise filled up h = absurd (let no : false ≡ true = h in cc)
 occurring-subsequence (e ∷ es) [] rise filled up h = subsequence-later [] e es rise.0 (occurring-subsequence es [] rise.1 tt tt refl)
-occurring-subsequence (e ∷ es) (p ∷ ps) rise filled up h = elim (some-cases (first_utility p ps e es) (best_utility (p ∷ ps) es) h) [
+occurring-subsequence (e ∷ es) (p ∷ ps) rise filled up h = elim (some_cases (first_utility p ps e es) (best_utility (p ∷ ps) es) h) [
   | inl first ↦
       let held = from_first (holds p e) (λ u. values_of p e +ℤ u) (best_utility ps es) first in
       let m = Member-sublists (items_in e) p rise.0 up.0 (holds-members p e held.0) in

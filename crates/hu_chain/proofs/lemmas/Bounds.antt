@@ -1,7 +1,6 @@
 -- What bounds hold of growths: no place of a grown pattern reaches further than the places that it comes of.
-use Rattle.std.proofs.Common.{◌≡◌, ℕ, suc, ◌<◌, ◌≤◌, Bool, true, false, cond, eqb, ℤ, pos, ◌+ℤ◌, ◌≤ℤ◌, ◌<ℤ◌, ◌^◌}
-use Rattle.std.proofs.Common.{Option, None, Some, is_some, unwrap_or, option_map, option_to_list, List, [], ◌∷◌, ◌++◌}
-use Rattle.std.proofs.Common.{length, drop, refl, sym, ap, ◌∙◌, subst, arith, sum_by}
+use Rattle.std.proofs.Common.{◌≡◌, ℕ, suc, ◌<◌, ◌≤◌, Bool, true, false, cond, eqb, ℤ, pos, ◌+ℤ◌, ◌≤ℤ◌, ◌<ℤ◌, ◌^◌, Option, None, Some, is_some, unwrap_or}
+use Rattle.std.proofs.Common.{option_map, option_to_list, List, [], ◌∷◌, ◌++◌, length, drop, refl, sym, ap, ◌∙◌, subst, arith, sum_by}
 use Rattle.std.specs.List.{AllByRecursion}
 use Rattle.std.specs.Option.{option_and_then}
 use Rattle.std.proofs.lemmas.Int.{ints, clamps}
@@ -11,6 +10,8 @@ use Rattle.hu_kind.specs.Record.{absolute_of, has, holds, items_in, total, value
 use Rattle.hu_kind.specs.Sequence.{better, best_utility, IsSequence}
 use Rattle.hu_kind.specs.Order.{Ascend}
 use Rattle.hu_kind.proofs.lemmas.Occurring.{at_member, has-member}
+use Rattle.hu_kind.proofs.lemmas.Better.{better-assoc, map-better}
+use Rattle.hu_kind.proofs.lemmas.Each.{each-drop}
 use Rattle.hu_chain.specs.declared.chain.Growth.{Growth}
 use Rattle.hu_chain.specs.declared.chain.Growth.TheVariants.{IntoLast, AfterLast}
 use Rattle.hu_chain.specs.declared.place.Place.{Place}
@@ -19,12 +20,11 @@ use Rattle.hu_chain.specs.Grown.{grown, CanGrow, Leads, IsGrownFrom}
 use Rattle.hu_chain.specs.Place.{cell_of, chain_of, totals}
 use Rattle.hu_chain.specs.Bound.{best_of, extension_bound, greatest, reach, reduced_bound, IsAtMost, IsFit}
 use Rattle.hu_chain.specs.Search.{found, occurs, IsPlain}
-use Rattle.hu_kind.proofs.lemmas.Better.{better-assoc, map-better}
 use Rattle.hu_chain.proofs.lemmas.Patterns.{Ends-can_grow, Ends-grown}
 use Rattle.hu_chain.proofs.Endings.{ended, best_utility-more, best_utility-nowhere}
 use Rattle.hu_chain.proofs.Places.{best_of-chain_of, chain_of-places, place_by, place_in, places_in}
 use Rattle.hu_chain.proofs.Finding.{found-whole, place_in-after, place_in-into, place_of_item}
-use Rattle.hu_chain.proofs.lemmas.Cells.{all-above, each-drop, total-above, total-item, Ascend-itemset, IsAbove}
+use Rattle.hu_chain.proofs.lemmas.Cells.{all-above, total-above, total-item, Ascend-itemset, IsAbove}
 use Rattle.hu_chain.proofs.Tails.{totals-absolute}
 use Rattle.hu_chain.proofs.lemmas.Growing.{holds-last, occurs-grown}
 
@@ -104,7 +104,7 @@ rest-above : (cells : List (ℕ × ℤ)) (n : ℕ) (later : List (List (ℕ × �
     → pos 0 ≤ℤ (total (drop n cells) +ℤ totals later)
 rest-above cells n later is more = let here = total-above (drop n cells) (each-drop IsAbove n cells is.none_below) in omega (arith, ints)
 
-totals-above : (later : List (List (ℕ × ℤ))) → AllByRecursion IsPlain later → pos 0 ≤ℤ totals later
+pub totals-above : (later : List (List (ℕ × ℤ))) → AllByRecursion IsPlain later → pos 0 ≤ℤ totals later
 totals-above [] is = omega (arith, ints)
 totals-above (cells ∷ later) is = let first = is.0 in let here = total-above cells first.none_below in let ih = totals-above later is.1 in omega (arith, ints)
 

@@ -1,40 +1,21 @@
 -- The cells of an itemset: where an item stands among them, and the sums of their values.
-use Rattle.std.proofs.Common.{◌≡◌, ℕ, zero, suc, ◌<◌, ◌≤◌, Bool, true, false, cond, eqb, ℤ, pos, ◌+ℤ◌, ◌≤ℤ◌}
-use Rattle.std.proofs.Common.{int_lt, None, Some, option_map, List, [], ◌∷◌, length, get_or, drop, take, refl, sym, ap}
-use Rattle.std.proofs.Common.{◌∙◌, inl, inr, arith, ◌||◌}
+use Rattle.std.proofs.Common.{◌≡◌, ℕ, zero, suc, ◌<◌, ◌≤◌, Bool, true, false, cond, eqb, ℤ, pos, ◌+ℤ◌, ◌≤ℤ◌, int_lt, None, Some, option_map, List, [], ◌∷◌}
+use Rattle.std.proofs.Common.{length, get_or, drop, take, refl, sym, ap, ◌∙◌, arith, ◌||◌}
 use Rattle.std.specs.List.{list_any, AllByRecursion}
-use Rattle.std.specs.List.Sorted.{IsPartitionPoint, IsNonDecreasingBy}
+use Rattle.std.specs.List.Sorted.{IsPartitionPoint}
 use Rattle.std.proofs.lemmas.Int.{ints}
-use Rattle.std.proofs.lemmas.Bool.{eq-eqb, ne_eqb, cases_lt, cases_order}
+use Rattle.std.proofs.lemmas.Bool.{eq-eqb, ne_eqb}
 use Rattle.hu_kind.specs.declared.item.Cell.{Cell}
 use Rattle.hu_kind.specs.Cell.{pairs_of, pair_of}
 use Rattle.hu_kind.specs.Record.{any_negative, has, items_in, total, value_of, IsItemset}
 use Rattle.hu_kind.specs.Order.{Ascend}
 use Rattle.hu_kind.proofs.lemmas.Ascending.{Ascend-adjacent}
+use Rattle.hu_kind.proofs.lemmas.Each.{each-take, each-drop}
+use Rattle.hu_kind.proofs.lemmas.CellPlaces.{no_cell-past, above-at}
 use Rattle.hu_chain.specs.Place.{cell_of}
 use Rattle.hu_chain.specs.Search.{cell_in}
 
 -- ---- where an item stands
-
-above-at : (x : ℕ) (cells : List Cell) (k : ℕ) (d : Cell) → AllByRecursion (λ y. x < y) (items_in (pairs_of cells))
-    → k < length cells → x < (get_or cells k d).item.0
-above-at x [] k d above within = absurd (omega arith)
-above-at x (cell ∷ cells) zero d above within = above.0
-above-at x (cell ∷ cells) (suc k) d above within = above-at x cells k d above.1 (omega arith)
-
--- the items ascend strictly from place to place
-rises : (cells : List Cell) (i j : ℕ) (d : Cell) → Ascend (items_in (pairs_of cells)) → i < j → j < length cells
-    → (get_or cells i d).item.0 < (get_or cells j d).item.0
-rises [] i j d up before within = absurd (omega arith)
-rises (cell ∷ cells) i zero d up before within = absurd (omega arith)
-rises (cell ∷ cells) zero (suc j) d up before within = above-at cell.item.0 cells j d up.0 (omega arith)
-rises (cell ∷ cells) (suc i) (suc j) d up before within = rises cells i j d up.1 (omega arith) (omega arith)
-
-pub IsNonDecreasingBy-ascend : (cells : List Cell) → Ascend (items_in (pairs_of cells)) → IsNonDecreasingBy (λ cell. cell.item.0) cells
-IsNonDecreasingBy-ascend cells up i j d upto within = elim (cases_lt i j) [
-  | inl before ↦ let rise = rises cells i j d up before within in omega arith
-  | inr after ↦ let same : i ≡ j = omega arith in rw same (omega arith)
-]
 
 cell_in-later : (item : ℕ) (cell : ℕ × ℤ) (cells : List (ℕ × ℤ)) → eqb item cell.0 ≡ false → cell_in item (cell ∷ cells) ≡ option_map suc (cell_in item cells)
 cell_in-later item cell cells miss = simp miss (later (has item cells))
@@ -65,17 +46,7 @@ pub cell_in-past : (item : ℕ) (cells : List Cell) (place : ℕ) → Ascend (it
     → IsPartitionPoint (λ cell. cell.item.0 < item) (λ cell. item ≤ cell.item.0) cells place
     → ((d : Cell) → place < length cells → (get_or cells place d).item.0 ≡ item → ⊥)
     → cell_in item (pairs_of cells) ≡ None
-cell_in-past item cells place up split other = cell_in-none item cells absent
-  where
-    absent : (k : ℕ) (d : Cell) → k < length cells → (get_or cells k d).item.0 ≡ item → ⊥
-    absent k d within e = elim (cases_order k place) [
-      | inl here ↦ other d (omega arith) (ap (λ i. (get_or cells i d).item.0) (sym here) ∙ e)
-      | inr (inl before) ↦ let low = split.0 k d (omega arith) before in omega arith
-      | inr (inr after) ↦
-          let low = split.1 place d (omega arith) (omega arith) in
-          let rise = rises cells place k d up after within in
-          omega arith
-    ]
+cell_in-past item cells place up split other = cell_in-none item cells (no_cell-past item cells place up split other)
 
 -- an item that some cell has is found within the cells
 pub cell_of-within : (item : ℕ) (cells : List (ℕ × ℤ)) → has item cells ≡ true → cell_of item cells < length cells
@@ -124,16 +95,6 @@ pub Ascend-drop : (k : ℕ) (cells : List (ℕ × ℤ)) → Ascend (items_in cel
 Ascend-drop zero cells up = up
 Ascend-drop (suc k) [] up = up
 Ascend-drop (suc k) (cell ∷ cells) up = Ascend-drop k cells up.1
-
-pub each-drop : {A : Type 0} (P : A → Type 0) (k : ℕ) (xs : List A) → AllByRecursion P xs → AllByRecursion P (drop k xs)
-each-drop P zero xs all = all
-each-drop P (suc k) [] all = all
-each-drop P (suc k) (x ∷ xs) all = each-drop P k xs all.1
-
-pub each-take : {A : Type 0} (P : A → Type 0) (k : ℕ) (xs : List A) → AllByRecursion P xs → AllByRecursion P (take k xs)
-each-take P zero xs all = tt
-each-take P (suc k) [] all = all
-each-take P (suc k) (x ∷ xs) all = (all.0, each-take P k xs all.1)
 
 -- ---- sums of values
 

@@ -1,14 +1,14 @@
 -- What growths make of the chain of a pattern: the rules of its places, the places of a pattern with an item in a new
 -- last itemset, and where a grown pattern occurs.
-use Rattle.std.proofs.Common.{◌≡◌, ℕ, suc, ◌<◌, ◌≤◌, Bool, true, false, cond, eqb, ◌||◌, ℤ, pos, ◌+ℤ◌, Option, None}
-use Rattle.std.proofs.Common.{Some, is_some, option_map, option_to_list, List, [], ◌∷◌, ◌++◌, length, drop, refl, sym}
-use Rattle.std.proofs.Common.{ap, ◌∙◌, subst, arith, append_assoc}
+use Rattle.std.proofs.Common.{◌≡◌, ℕ, suc, ◌<◌, ◌≤◌, Bool, true, false, cond, eqb, ◌||◌, ℤ, pos, ◌+ℤ◌, Option, None, Some, is_some, option_map, option_to_list}
+use Rattle.std.proofs.Common.{List, [], ◌∷◌, ◌++◌, length, drop, refl, sym, ap, ◌∙◌, subst, arith, append_assoc}
 use Rattle.std.specs.Int.{int_max}
 use Rattle.std.specs.List.{list_any, AllByRecursion}
 use Rattle.std.specs.Option.{option_and_then}
 use Rattle.std.proofs.lemmas.Bool.{and_parts, eq-eqb, ne_eqb}
 use Rattle.hu_kind.specs.Record.{has, holds, values_of, total}
 use Rattle.hu_kind.specs.Sequence.{better, best_utility}
+use Rattle.hu_kind.proofs.lemmas.Each.{each-append, each-get}
 use Rattle.hu_chain.specs.declared.chain.Growth.{Growth}
 use Rattle.hu_chain.specs.declared.chain.Growth.TheVariants.{IntoLast, AfterLast}
 use Rattle.hu_chain.specs.declared.place.Place.{Place}
@@ -16,13 +16,12 @@ use Rattle.hu_chain.specs.Pattern.{after, earlier, into, last_from, last_item, l
 use Rattle.hu_chain.specs.Grown.{grown, CanGrow}
 use Rattle.hu_chain.specs.Place.{cell_of, chain_of, element_at, totals}
 use Rattle.hu_chain.specs.Bound.{best_of}
-use Rattle.hu_chain.specs.Search.{best_past, followed_places, follows, found, found_at, joined_places, joins, left_past}
-use Rattle.hu_chain.specs.Search.{occurs, walked, IsPlaceOf, IsPlain, MayFollow}
+use Rattle.hu_chain.specs.Search.{best_past, followed_places, follows, found, found_at, joined_places, joins, left_past, occurs, walked, IsPlaceOf, IsPlain}
+use Rattle.hu_chain.specs.Search.{MayFollow}
 use Rattle.hu_chain.proofs.lemmas.Patterns.{Ends-after, Ends-into}
 use Rattle.hu_chain.proofs.Endings.{ended, best_utility-more, best_utility-nowhere}
 use Rattle.hu_chain.proofs.Places.{best_of-chain_of, chain_of-places, drop-between, element_at-between, length-more, place_by, place_in, places_in}
 use Rattle.hu_chain.proofs.Finding.{chain_of-into, found-whole, place_in-after, place_of_item}
-use Rattle.hu_chain.proofs.Turns.{each-append, each-at}
 use Rattle.hu_chain.proofs.Tails.{element-within, has-after}
 
 -- ---- the rules of places
@@ -279,7 +278,7 @@ joins-after : (pattern : List (List ℕ)) (item : ℕ) (elements : List (List (�
 joins-after pattern item elements [] below plain is = refl
 joins-after pattern item elements (place ∷ places) below plain is =
     let first = is.0 in
-    let here = each-at IsPlain elements place.element [] plain (element-within elements place.element (last_item pattern) first.has) in
+    let here = each-get IsPlain elements place.element [] plain (element-within elements place.element (last_item pattern) first.has) in
     let same = has-after elements (last_item pattern) item place first below.below here in
     ap (λ b. b || joins item elements places) (sym same)
     ∙ ap (λ b. has item (drop (suc place.cell) (element_at elements place.element)) || b) (joins-after pattern item elements places below plain is.1)

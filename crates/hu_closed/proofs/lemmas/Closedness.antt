@@ -1,7 +1,6 @@
 -- What closes a key, by its numbers and by the items of its set.
-use Rattle.std.proofs.Common.{◌≡◌, ◌∙◌, ℕ, ◌<◌, ◌≤◌, ℤ, pos, negsuc, ◌<ℤ◌, ◌≤ℤ◌, int_lt, int_le, nat_lt, unsigned_abs}
-use Rattle.std.proofs.Common.{Bool, true, false, not, ◌&&◌, ◌||◌, eqb, List, [], ◌∷◌, map, length, refl, sym, ap, inl}
-use Rattle.std.proofs.Common.{inr, arith, flat_map}
+use Rattle.std.proofs.Common.{◌≡◌, ◌∙◌, ℕ, ◌<◌, ◌≤◌, ℤ, pos, negsuc, ◌<ℤ◌, ◌≤ℤ◌, int_lt, int_le, nat_lt, unsigned_abs, Bool, true, false, not, ◌&&◌, ◌||◌, eqb}
+use Rattle.std.proofs.Common.{List, [], ◌∷◌, map, length, refl, sym, ap, inl, inr, arith, flat_map}
 use Rattle.std.specs.List.{AllByRecursion, list_all, list_any}
 use Rattle.std.specs.Ordering.{int_eq}
 use Rattle.std.proofs.lemmas.Int.{ints}
@@ -16,9 +15,10 @@ use Rattle.hu_kind.specs.Database.{support, items_of}
 use Rattle.hu_kind.specs.Itemsets.{is_closed, goes_with}
 use Rattle.hu_kind.proofs.lemmas.Members.{Member, Member-flat_map}
 use Rattle.hu_kind.proofs.lemmas.Occurring.{Member-ranking, has-member}
+use Rattle.hu_kind.proofs.lemmas.Tests.{all-at_member, all-by_members}
 use Rattle.hu_closed.specs.Keys.{ascends_above, holds_key, is_among, is_closed_key, is_outside, is_set_key, key_support, stands_with, IsSet}
 use Rattle.hu_closed.proofs.KeyLemmas.{ascends-next}
-use Rattle.hu_closed.proofs.ListTests.{all-at, all-from, all-not, all-same, any-members, count-same}
+use Rattle.hu_closed.proofs.ListTests.{all-not, all-same, any-members, count-same}
 
 -- ---- numbers that are not below 0
 
@@ -133,7 +133,7 @@ pub closes-held : (records : List (List (ℕ × ℤ))) (key : List ℤ) (item : 
     ≡ true → Member r records → holds_key key r ≡ true → has item r ≡ true
 closes-held records key item r h m holds =
     let stands = (and_parts (is_outside key item) (stands_with records key item) h).1 in
-    elim (or_cases (not (holds_key key r)) (has item r) (all-at (λ r. not (holds_key key r) || has item r) r records stands m)) [
+    elim (or_cases (not (holds_key key r)) (has item r) (all-at_member (λ r. not (holds_key key r) || has item r) r records stands m)) [
       | inl no_hold ↦ let contrary = not_from_true (holds_key key r) holds in cc
       | inr here ↦ here
     ]
@@ -154,6 +154,6 @@ pub closes-unheld : (records : List (List (ℕ × ℤ))) (key : List ℤ) (item 
     → list_all (λ r. not (holds_key key r)) records ≡ true → closes records key item ≡ is_outside key item
 closes-unheld records key item none =
     let all =
-    all-from (λ r. not (holds_key key r) || has item r) records
-    (λ r m. or_left (not (holds_key key r)) (has item r) (all-at (λ r. not (holds_key key r)) r records none m)) in
+    all-by_members (λ r. not (holds_key key r) || has item r) records
+    (λ r m. or_left (not (holds_key key r)) (has item r) (all-at_member (λ r. not (holds_key key r)) r records none m)) in
     ap (λ b. is_outside key item && b) all ∙ and-true (is_outside key item)

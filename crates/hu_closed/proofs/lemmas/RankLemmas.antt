@@ -1,21 +1,20 @@
 -- Keys of ranked items, and what grows out of them.
-use Rattle.std.proofs.Common.{◌≡◌, ◌∙◌, ℕ, zero, suc, ◌+◌, ◌<◌, ◌≤◌, ℤ, pos, true, false, not, ◌||◌, eqb, Some, List}
-use Rattle.std.proofs.Common.{[], ◌∷◌, ◌++◌, map, length, get_or, take, refl, sym, ap, subst, inl, inr, nat_lt, arith}
-use Rattle.std.proofs.Common.{filter, flat_map, int_le, nat_cmp}
+use Rattle.std.proofs.Common.{◌≡◌, ◌∙◌, ℕ, zero, suc, ◌+◌, ◌<◌, ◌≤◌, ℤ, pos, true, false, not, ◌||◌, eqb, Some, List, [], ◌∷◌, ◌++◌, map, length, get_or, take}
+use Rattle.std.proofs.Common.{refl, sym, ap, subst, inl, inr, nat_lt, arith, filter, flat_map, int_le, nat_cmp}
 use Rattle.std.specs.List.{AllAdjacentBelow, AllByRecursion, list_any}
 use Rattle.std.specs.Ordering.{int_eq}
-use Rattle.std.proofs.lemmas.Bool.{and_from, and_parts, cases_Bool, cases_order, eqb-false, eqb-true, lt-ltb}
-use Rattle.std.proofs.lemmas.Bool.{false_from_ne_true, not-true, not_from_false, not_from_true, or_left, or_right}
-use Rattle.std.proofs.lemmas.Bool.{true≢false}
+use Rattle.std.proofs.lemmas.Bool.{and_from, and_parts, cases_Bool, cases_order, eqb-false, eqb-true, lt-ltb, false_from_ne_true, not-true, not_from_false}
+use Rattle.std.proofs.lemmas.Bool.{not_from_true, or_left, or_right, true≢false}
 use Rattle.std.proofs.lemmas.Bool.Decides.{Decides-int_eq}
 use Rattle.std.proofs.lemmas.List.{get_or_default}
+use Rattle.std.proofs.lemmas.Map.Keys.{apart_from_distinct}
 use Rattle.hu_kind.specs.Order.{ranking}
 use Rattle.hu_kind.specs.Record.{has, items_in, IsRecord}
 use Rattle.hu_kind.specs.Database.{items_of, twu}
-use Rattle.hu_kind.proofs.lemmas.Members.{Contains-from_member, Member, Member-append_cases, Member-append_left}
-use Rattle.hu_kind.proofs.lemmas.Members.{Member-append_right, Member-from_contains, Member-from_filter}
-use Rattle.hu_kind.proofs.lemmas.Members.{Member-from_flat_map, Member-from_map, Member-map}
+use Rattle.hu_kind.proofs.lemmas.Members.{Contains-from_member, Member, Member-append_cases, Member-append_left, Member-append_right, Member-from_contains}
+use Rattle.hu_kind.proofs.lemmas.Members.{Member-from_filter, Member-from_flat_map, Member-from_map, Member-map}
 use Rattle.hu_kind.proofs.lemmas.Occurring.{Ascend-ranking, Member-ranking, at_member, by_members}
+use Rattle.hu_kind.proofs.lemmas.Tests.{all-at_member, all-by_members, any-member, any-from_member}
 use Rattle.hu_collect.specs.Ranks.{CanOpen, IsGrown, IsRankSet, key_of}
 use Rattle.hu_totals.specs.declared.weights.RankOrder.{RankOrder}
 use Rattle.hu_totals.specs.declared.weights.RankOrder.TheVariants.{Gain}
@@ -23,10 +22,8 @@ use Rattle.hu_totals.specs.Ranked.{Ranking, by_order, ranked, ranked_by, ordered
 use Rattle.hu_totals.proofs.lemmas.SortedLists.{Member-from_ranking, IsDistinct-from_once}
 use Rattle.hu_totals.proofs.lemmas.RankingRules.{All-from_each}
 use Rattle.hu_totals.proofs.lemmas.WeightLemmas.{Once-ordered_items}
-use Rattle.std.proofs.lemmas.Map.Keys.{apart_from_distinct}
 use Rattle.hu_closed.specs.Keys.{closes_below, holds_key, is_among, is_closed_key, is_outside, is_set_key, stands_with, IsSet}
 use Rattle.hu_closed.specs.ClosedOnly.{IsRankingOf}
-use Rattle.hu_closed.proofs.ListTests.{all-at, all-from, any-from, any-member}
 use Rattle.hu_closed.proofs.lemmas.Closedness.{closes, closes-held, is_closed_key-set, same_item, set_key-items}
 
 -- ---- ranked items occur, and items that occur are in their range
@@ -146,7 +143,7 @@ key-member items c h =
     subst (λ i. Member i items) same item.1
 
 member-key : (items : List ℕ) (c : ℕ) → Member c items → list_any (λ n. int_eq n (pos c)) (map pos items) ≡ true
-member-key items c m = any-from (λ n. int_eq n (pos c)) (pos c) (map pos items) (Member-map pos c items m) ((Decides-int_eq (pos c) (pos c)).1 refl)
+member-key items c m = any-from_member (λ n. int_eq n (pos c)) (pos c) (map pos items) (Member-map pos c items m) ((Decides-int_eq (pos c) (pos c)).1 refl)
 
 -- an item of a rank below `last` that is outside the key is outside what grows out of it
 outside-grown : (order : RankOrder) (floor : ℤ) (records : List (List (ℕ × ℤ))) (before more : List ℕ) (last rank : ℕ)
@@ -175,7 +172,7 @@ outside-grown order floor records before more last rank is low within out =
 grown-holds : (table before more : List ℕ) (last : ℕ) (r : List (ℕ × ℤ))
     → holds_key (key_of table (before ++ last ∷ more)) r ≡ true → holds_key (key_of table (before ++ last ∷ [])) r
     ≡ true
-grown-holds table before more last r h = all-from (is_among (items_in r)) (key_of table (before ++ last ∷ [])) (λ n m.
+grown-holds table before more last r h = all-by_members (is_among (items_in r)) (key_of table (before ++ last ∷ [])) (λ n m.
     let item = Member-from_map pos n (items_at table (before ++ last ∷ [])) m in
     let rank = items_at-member table (before ++ last ∷ []) item.0 item.1 in
     let in_grown : Member rank.0 (before ++ last ∷ more) = elim (Member-append_cases rank.0 before (last ∷ []) rank.1) [
@@ -187,7 +184,7 @@ grown-holds table before more last r h = all-from (is_among (items_in r)) (key_o
     Member-map pos item.0 (items_at table (before ++ last ∷ more))
     (subst (λ i. Member i (items_at table (before ++ last ∷ more))) rank.2
     (member-items_at table (before ++ last ∷ more) rank.0 in_grown)) in
-    all-at (is_among (items_in r)) n (key_of table (before ++ last ∷ more)) h (subst (λ n. Member n (key_of table (before ++ last ∷ more))) item.2 number))
+    all-at_member (is_among (items_in r)) n (key_of table (before ++ last ∷ more)) h (subst (λ n. Member n (key_of table (before ++ last ∷ more))) item.2 number))
 
 take-member : (table : List ℕ) (last c : ℕ) → Member c (take last table) → (rank : ℕ) × (rank < last) × (rank < length table) × (get_or table rank 0 ≡ c)
 take-member table zero c m = absurd m
@@ -212,14 +209,14 @@ shuts-grown order floor records before more last all is shut =
     subst (λ c. is_outside grown c ≡ true) at.3
     (outside-grown order floor records before more last at.0 is at.1 at.2
     (subst (λ c. is_outside key c ≡ true) (sym at.3) both.0)) in
-    let stands = all-from (λ r. not (holds_key grown r) || has found.0 r) records (λ r m. elim (cases_Bool (holds_key grown r)) [
+    let stands = all-by_members (λ r. not (holds_key grown r) || has found.0 r) records (λ r m. elim (cases_Bool (holds_key grown r)) [
       | inl holds ↦ or_right (not (holds_key grown r)) (has found.0 r)
           (closes-held records key found.0 r found.2 m (grown-holds table before more last r holds))
       | inr lacks ↦ or_left (not (holds_key grown r)) (has found.0 r) (not_from_false (holds_key grown r) lacks)
     ]) in
     let occurring = ranked-occurs order floor records found.0 (subst (λ c. Member c table) at.3 (table-member table at.0 at.2)) in
     let any =
-    any-from (closes records grown) found.0 (items_of records) occurring
+    any-from_member (closes records grown) found.0 (items_of records) occurring
     (and_from (is_outside grown found.0) (stands_with records grown found.0) out stands) in
     is_closed_key-set records grown (set_key-items (items_at table (before ++ last ∷ more)) (IsSet-ranks order floor records before more last all is))
     ∙ not_from_true (list_any (closes records grown) (items_of records)) any

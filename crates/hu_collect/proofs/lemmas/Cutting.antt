@@ -8,6 +8,7 @@ use Rattle.std.specs.BTreeSet.{insert_key}
 use Rattle.std.proofs.lemmas.List.{take-take}
 use Rattle.hu_kind.specs.Order.{ranking, cut}
 use Rattle.hu_kind.proofs.lemmas.RankingLemmas.{IsExactOrder, before, same, after, compared, ranking-append_comm, ranking-sorted}
+use Rattle.hu_kind.proofs.lemmas.Each.{each-take}
 
 -- what holds of each element holds after an insertion, and of the first k
 AllByRecursion-insert : {A : Type 0} (P : A → Type 0) (cmp : A → A → Ordering) → IsExactOrder cmp → (xs : List A) (x : A)
@@ -19,11 +20,6 @@ AllByRecursion-insert P cmp e (y ∷ ys) x p h =
       | same q a b ↦ rw a h
       | after a b ↦ rw a (h.0, AllByRecursion-insert P cmp e ys x p h.1)
     ]
-
-pub AllByRecursion-take : {A : Type 0} (P : A → Type 0) (k : ℕ) (xs : List A) → AllByRecursion P xs → AllByRecursion P (take k xs)
-AllByRecursion-take P zero xs h = tt
-AllByRecursion-take P (suc k) [] h = tt
-AllByRecursion-take P (suc k) (x ∷ xs) h = (h.0, AllByRecursion-take P k xs h.1)
 
 pub AllByRecursion-weaker : {A : Type 0} (P Q : A → Type 0) → ((x : A) → P x → Q x) → (xs : List A) → AllByRecursion P xs → AllByRecursion Q xs
 AllByRecursion-weaker P Q w [] h = tt
@@ -51,7 +47,7 @@ sorted-take : {A : Type 0} (cmp : A → A → Ordering) (k : ℕ) (xs : List A) 
 unfolding IsStrictlySortedBy
 sorted-take cmp zero xs h = tt
 sorted-take cmp (suc k) [] h = tt
-sorted-take cmp (suc k) (x ∷ xs) h = (AllByRecursion-take (λ y. cmp x y ≡ Less) k xs h.0, sorted-take cmp k xs h.1)
+sorted-take cmp (suc k) (x ∷ xs) h = (each-take (λ y. cmp x y ≡ Less) k xs h.0, sorted-take cmp k xs h.1)
 
 pub sorted-cut : {A : Type 0} (cmp : A → A → Ordering) (limit : Option ℕ) (xs : List A) → IsStrictlySortedBy cmp xs → IsStrictlySortedBy cmp (cut limit xs)
 sorted-cut cmp None xs h = h

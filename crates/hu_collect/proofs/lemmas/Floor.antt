@@ -1,6 +1,6 @@
 -- Utilities along the one order, and the last one of a content.
-use Rattle.std.proofs.Common.{◌≡◌, ℕ, ◌<◌, ◌≤◌, ℤ, ◌<ℤ◌, ◌≤ℤ◌, Option, None, Some, true, false, if◌then◌else◌, nat_lt}
-use Rattle.std.proofs.Common.{ltb, List, [], ◌∷◌, ◌++◌, length, take, refl, sym, ap, ◌∙◌, arith}
+use Rattle.std.proofs.Common.{◌≡◌, ℕ, ◌<◌, ◌≤◌, ℤ, ◌<ℤ◌, ◌≤ℤ◌, Option, None, Some, true, false, if◌then◌else◌, nat_lt, ltb, List, [], ◌∷◌, ◌++◌, length, take}
+use Rattle.std.proofs.Common.{refl, sym, ap, ◌∙◌, arith}
 use Rattle.std.specs.declared.cmp.Ordering.TheVariants.{Less, Greater}
 use Rattle.std.specs.Int.{int_max}
 use Rattle.std.specs.Int.Signed.{≤ℤ_refl}
@@ -14,10 +14,11 @@ use Rattle.std.proofs.lemmas.Bool.{lt-ltb, le-ltb, ltb-false}
 use borrow.Author.Tests.{ltb-true}
 use Rattle.hu_kind.specs.declared.entry.Entry.{Entry}
 use Rattle.hu_kind.specs.Order.{entry_cmp, cut}
-use Rattle.hu_collect.specs.Rule.{last_utility, floor_by}
 use Rattle.hu_kind.proofs.lemmas.RankingLemmas.{before, same, after, compared}
-use Rattle.hu_collect.proofs.lemmas.Cutting.{AllByRecursion-take, AllByRecursion-weaker}
 use Rattle.hu_kind.proofs.lemmas.EntryOrder.{entry_order}
+use Rattle.hu_kind.proofs.lemmas.Each.{each-take}
+use Rattle.hu_collect.specs.Rule.{last_utility, floor_by}
+use Rattle.hu_collect.proofs.lemmas.Cutting.{AllByRecursion-weaker}
 
 -- an entry of less utility comes later
 pub later-by_utility : (a b : Entry) → a.utility <ℤ b.utility → entry_cmp a b ≡ Greater
@@ -55,7 +56,7 @@ last_utility-insert d (y ∷ ys) x h =
           let least : AllByRecursion (λ z. last_utility d (y ∷ ys) ≤ℤ z.utility) (y ∷ ys) = last-least d (y ∷ ys) h in
           let earlier : y.utility ≤ℤ x.utility = utility-before x y a in
           let last : last_utility d (y ∷ ys) ≤ℤ y.utility = least.0 in
-          rw a (le-last _ x.utility (take (length ys) (y ∷ ys)) (omega (arith, ints)) (AllByRecursion-take _ (length ys) (y ∷ ys) least))
+          rw a (le-last _ x.utility (take (length ys) (y ∷ ys)) (omega (arith, ints)) (each-take _ (length ys) (y ∷ ys) least))
       | same q a b ↦ rw (a, take_all (length ys) ys (omega arith)) (≤ℤ_refl (last_utility y.utility ys))
       | after a b ↦ rw a (last_utility-insert y.utility ys x h.1)
     ]

@@ -1,6 +1,6 @@
 -- What a search makes of a collector's state, step by step.
-use Rattle.std.proofs.Common.{◌≡◌, true, ◌<ℤ◌, ◌≤ℤ◌, List, [], ◌∷◌, ◌++◌, sym, ap, ◌∙◌, subst, inl, inr, ◌⊎◌, ◌↔◌}
-use Rattle.std.proofs.Common.{arith, Contains, Result, Ok, Err, IsErr, IsOk}
+use Rattle.std.proofs.Common.{◌≡◌, true, ◌<ℤ◌, ◌≤ℤ◌, List, [], ◌∷◌, ◌++◌, sym, ap, ◌∙◌, subst, inl, inr, ◌⊎◌, ◌↔◌, arith, Contains, Result, Ok, Err, IsErr}
+use Rattle.std.proofs.Common.{IsOk, OnErr}
 use Rattle.std.proofs.lemmas.Int.{ints}
 use Rattle.std.proofs.lemmas.List.Elements.{All-contains_itself, All-weaker}
 use Rattle.hu_kind.specs.declared.entry.Entry.{Entry}
@@ -212,3 +212,8 @@ pub mined : {T E : Type 0} (P : Entry → Type 0) (old new : State) (all : List 
     → Searches old P new result → Mines old all new result
 mined P old new all (Ok x) same some = reached-all {P = P} all some same
 mined P old new all (Err e) same some = some-all {P = P} all some (λ x. (same x).0)
+
+-- a claim of failure holds where its fact does
+pub on_err : {T E : Type 0} (result : Result T E) (P : Type 0) → P → OnErr result P
+on_err (Ok x) P p = tt
+on_err (Err e) P p = p

@@ -67,3 +67,24 @@ Member-range a (suc n) k low high = elim (cases_eq a k) [
   | inl e ↦ inl e
   | inr ne ↦ inr (Member-range (a + 1) n k (omega (arith, ne)) (omega arith))
 ]
+
+pub Ascend-last : (items : List ℕ) (item : ℕ) → Ascend items → AllByRecursion (λ z. z < item) items → Ascend (items ++ item ∷ [])
+Ascend-last [] item up below = (tt, tt)
+Ascend-last (x ∷ items) item up below = (each-append (λ z. x < z) items (item ∷ []) up.0 (below.0, tt), Ascend-last items item up.1 below.1)
+
+pub above-get : (x : ℕ) (xs : List ℕ) (j : ℕ) → AllByRecursion (λ y. x < y) xs → j < length xs → x < get_or xs j 0
+above-get x [] j up within = absurd (omega arith)
+above-get x (y ∷ ys) zero up within = up.0
+above-get x (y ∷ ys) (suc j) up within = above-get x ys j up.1 (omega arith)
+
+-- a number further on is greater
+pub rises-between : (xs : List ℕ) (i j : ℕ) → Ascend xs → i < j → j < length xs → get_or xs i 0 < get_or xs j 0
+rises-between [] i j up before within = absurd (omega arith)
+rises-between (x ∷ xs) i zero up before within = absurd (omega arith)
+rises-between (x ∷ xs) zero (suc j) up before within = above-get x xs j up.0 (omega arith)
+rises-between (x ∷ xs) (suc i) (suc j) up before within = rises-between xs i j up.1 (omega arith) (omega arith)
+
+-- ranks that ascend below a number are at most so many
+pub few-from : (n low : ℕ) (xs : List ℕ) → Ascend xs → AllByRecursion (λ x. x < n) xs → AllByRecursion (λ x. low < x) xs → low < n → length xs + low < n
+few-from n low [] up below above h = omega arith
+few-from n low (x ∷ xs) up below above h = let first = above.0 in omega (arith, few-from n x xs up.1 below.1 up.0 below.0)

@@ -1,7 +1,6 @@
 -- How often items stand in a list, and cells in order.
-use Rattle.std.proofs.Common.{◌≡◌, ℕ, ◌+◌, ◌-◌, ◌<◌, ◌≤◌, ◌≢◌, ◌==◌, Bool, true, false, cond, min, fold, None, Some}
-use Rattle.std.proofs.Common.{List, [], ◌∷◌, ◌++◌, length, take, drop, map, filter, refl, sym, ap, ◌∙◌, ◌⊎◌, inl, inr}
-use Rattle.std.proofs.Common.{arith, get_or, nat_lt, suc, ℤ, pos, add-zero}
+use Rattle.std.proofs.Common.{◌≡◌, ℕ, ◌+◌, ◌-◌, ◌<◌, ◌≤◌, ◌≢◌, ◌==◌, Bool, true, false, cond, min, fold, None, Some, List, [], ◌∷◌, ◌++◌, length, take, drop}
+use Rattle.std.proofs.Common.{map, filter, refl, sym, ap, ◌∙◌, ◌⊎◌, inl, inr, arith, get_or, nat_lt, suc, ℤ, pos, add-zero}
 use Rattle.std.specs.List.{All, AllByRecursion, AllAdjacentBelow, reduce}
 use Rattle.std.specs.List.Sorted.{IsPermutation, IsStrictlySortedBy, IsNonDecreasing, IsNonDecreasingBy, IsStrictlyIncreasing}
 use Rattle.std.specs.declared.cmp.Ordering.TheVariants.{Less}
@@ -210,7 +209,7 @@ items-strictly cells h k within =
 pub items-permutation : (cells ordered : List Cell) → IsPermutation cells ordered → IsPermutation (items_in (pairs_of cells)) (items_in (pairs_of ordered))
 items-permutation cells ordered h = IsPermutation-map (λ pair. pair.0) (pairs_of cells) (pairs_of ordered) (IsPermutation-map pair_of cells ordered h)
 
-pair_less : (a b : ℕ × ℤ) → a.0 < b.0 → pair_cmp a b ≡ Less
+pub pair_less : (a b : ℕ × ℤ) → a.0 < b.0 → pair_cmp a b ≡ Less
 pair_less a b below = let first : nat_cmp a.0 b.0 ≡ Less = grind (arith, nat_tests) in rw first refl
 
 pair_exact : IsExactOrder pair_cmp

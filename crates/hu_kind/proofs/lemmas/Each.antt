@@ -1,5 +1,5 @@
 -- What holds of each element of a list.
-use Rattle.std.proofs.Common.{ℕ, zero, suc, ◌<◌, List, [], ◌∷◌, ◌++◌, length, take, drop, get_or, arith, All}
+use Rattle.std.proofs.Common.{ℕ, zero, suc, ◌<◌, List, [], ◌∷◌, ◌++◌, length, take, drop, get_or, arith, All, ◌≡◌, refl}
 use Rattle.std.specs.List.{AllByRecursion}
 
 -- what holds of all elements by their places holds of each
@@ -43,3 +43,9 @@ each-drop P (suc i) (x ∷ xs) all = each-drop P i xs all.1
 
 pub each-push : {A : Type 0} (P : A → Type 0) (xs : List A) (x : A) → AllByRecursion P xs → P x → AllByRecursion P (xs ++ x ∷ [])
 each-push P xs x all one = each-append P xs (x ∷ []) all (one, tt)
+
+-- within a list it is no matter what stands past its end
+pub get_or-within : {A : Type 0} (xs : List A) (i : ℕ) (d e : A) → i < length xs → get_or xs i d ≡ get_or xs i e
+get_or-within [] i d e within = absurd (omega arith)
+get_or-within (x ∷ xs) zero d e within = refl
+get_or-within (x ∷ xs) (suc i) d e within = get_or-within xs i d e (omega arith)

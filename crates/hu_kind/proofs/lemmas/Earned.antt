@@ -1,7 +1,7 @@
 -- What sets and sequences earn in a record, beside what the record gains and what its absolute values sum to.
-use Rattle.std.proofs.Common.{◌≡◌, ℕ, ◌<◌, ◌≤◌, ◌+◌, Bool, true, false, not, cond, eqb, ℤ, pos, negsuc, ◌+ℤ◌, ◌≤ℤ◌}
-use Rattle.std.proofs.Common.{unsigned_abs, Option, None, Some, option_map, unwrap_or, List, [], ◌∷◌, map, filter, refl}
-use Rattle.std.proofs.Common.{sym, ap, ◌∙◌, subst, inl, inr, arith, sum_by}
+use Rattle.std.proofs.Common.{◌≡◌, ℕ, ◌<◌, ◌≤◌, ◌+◌, Bool, true, false, not, cond, eqb, ℤ, pos, negsuc, ◌+ℤ◌, ◌≤ℤ◌, unsigned_abs, Option, None, Some}
+use Rattle.std.proofs.Common.{option_map, unwrap_or, List, [], ◌∷◌, map, filter, refl, zero, suc, length, get_or, take, sym, ap, ◌∙◌, subst, inl, inr, arith}
+use Rattle.std.proofs.Common.{sum_by}
 use Rattle.std.specs.List.{AllByRecursion}
 use Rattle.std.proofs.lemmas.Bool.{eq-eqb, ne_eqb, cases_eq, and_parts}
 use Rattle.std.proofs.lemmas.Int.{ints, clamps}
@@ -36,6 +36,22 @@ pub gain-within : (cells : List (ℕ × ℤ)) → unsigned_abs (gain cells) ≤ 
 gain-within [] = omega arith
 gain-within (cell ∷ cells) =
     let ih = gain-within cells in
+    let head = positive_part-within cell.1 in
+    omega (arith, ints, sum_by-cons (λ (c : ℕ × ℤ). unsigned_abs c.1) cell cells)
+
+-- what the first cells gain
+pub gain-more : (cells : List (ℕ × ℤ)) (i : ℕ) (d : ℕ × ℤ) → i < length cells → gain (take (suc i) cells)
+    ≡ gain (take i cells) +ℤ positive_part (get_or cells i d).1
+gain-more [] i d within = absurd (omega arith)
+gain-more (cell ∷ cells) zero d within = omega (arith, ints)
+gain-more (cell ∷ cells) (suc i) d within = let ih = gain-more cells i d (omega arith) in omega (arith, ints)
+
+pub gain-take : (cells : List (ℕ × ℤ)) (i : ℕ) → unsigned_abs (gain (take i cells)) ≤ absolute_of cells
+gain-take [] zero = omega arith
+gain-take [] (suc i) = omega arith
+gain-take (cell ∷ cells) zero = omega arith
+gain-take (cell ∷ cells) (suc i) =
+    let ih = gain-take cells i in
     let head = positive_part-within cell.1 in
     omega (arith, ints, sum_by-cons (λ (c : ℕ × ℤ). unsigned_abs c.1) cell cells)
 

@@ -1,6 +1,8 @@
 -- Members of lists, by recursion.
-use Rattle.std.proofs.Common.{◌≡◌, ℕ, zero, suc, ◌<◌, Bool, true, false, cond, List, [], ◌∷◌, ◌++◌, map, length, get_or}
-use Rattle.std.proofs.Common.{refl, sym, ap, ◌∙◌, subst, ◌⊎◌, inl, inr, arith, filter, flat_map, Contains}
+use Rattle.std.proofs.Common.{◌≡◌, ℕ, zero, suc, ◌<◌, Bool, true, false, cond, List, [], ◌∷◌, ◌++◌, map, length, get_or, refl, sym, ap, ◌∙◌, subst, ◌⊎◌, inl}
+use Rattle.std.proofs.Common.{inr, arith, filter, flat_map, Contains, take}
+use Rattle.std.specs.List.{AllByRecursion}
+use Rattle.hu_kind.specs.declared.entry.Entry.{Entry}
 
 -- x is an element of a list
 abbrev pub Member : {A : Type 0} → A → List A → Type 0
@@ -77,3 +79,18 @@ Member-from_filter-cons p x y ys ih false e m = let r = ih m in (inr r.0, r.1)
 pub Member-from_filter : {A : Type 0} (p : A → Bool) (x : A) (xs : List A) → Member x (filter p xs) → Member x xs × (p x ≡ true)
 Member-from_filter p x [] m = absurd m
 Member-from_filter p x (y ∷ ys) m = Member-from_filter-cons p x y ys (Member-from_filter p x ys) (p y) refl m
+
+pub Member-from_take : {A : Type 0} (x : A) (k : ℕ) (xs : List A) → Member x (take k xs) → Member x xs
+Member-from_take x zero xs m = absurd m
+Member-from_take x (suc k) [] m = absurd m
+Member-from_take x (suc k) (y ∷ ys) (inl e) = inl e
+Member-from_take x (suc k) (y ∷ ys) (inr m) = inr (Member-from_take x k ys m)
+
+pub Member-get : {A : Type 0} (xs : List A) (i : ℕ) (d : A) → i < length xs → Member (get_or xs i d) xs
+Member-get [] i d within = absurd (omega (arith, within))
+Member-get (x ∷ xs) zero d within = inl refl
+Member-get (x ∷ xs) (suc i) d within = inr (Member-get xs i d (omega arith))
+
+pub filter-all : (p : Entry → Bool) (xs : List Entry) → AllByRecursion (λ x. p x ≡ true) xs → filter p xs ≡ xs
+filter-all p [] all = refl
+filter-all p (x ∷ xs) all = rw (all.0) (ap (λ ys. x ∷ ys) (filter-all p xs all.1))

@@ -1,21 +1,20 @@
 -- The sets that occur in a database are the ascending lists of items that some record holds.
-use Rattle.std.proofs.Common.{◌≡◌, ℕ, ◌<◌, ◌+◌, Bool, true, false, cond, eqb, nat_lt, ◌&&◌, ℤ, List, [], ◌∷◌, map}
-use Rattle.std.proofs.Common.{length, refl, sym, ap, ◌∙◌, subst, inl, inr, arith, flat_map, count_by, Ordering, Less}
-use Rattle.std.proofs.Common.{Equal, Greater, nat_cmp}
+use Rattle.std.proofs.Common.{◌≡◌, ℕ, ◌<◌, ◌+◌, Bool, true, false, cond, eqb, nat_lt, ◌&&◌, ℤ, List, [], ◌∷◌, map, length, refl, sym, ap, ◌∙◌, subst, inl, inr}
+use Rattle.std.proofs.Common.{arith, flat_map, count_by, Ordering, Less, Equal, Greater, nat_cmp, nat_eq, ◌++◌, ◌+ℤ◌, pos}
 use Rattle.std.specs.List.{AllByRecursion}
 use Rattle.std.specs.Ordering.{match_ordering, MatchOrdering}
 use Rattle.std.specs.BTreeSet.{insert_key}
-use Rattle.std.proofs.lemmas.Bool.{and_parts, and_from, or_cases, lt-ltb, ltb-true, eqb-true}
+use Rattle.std.proofs.lemmas.Bool.{and_parts, and_from, or_cases, lt-ltb, ltb-true, eqb-true, cases_eq, eq-eqb, ne_eqb, or_left, or_right}
 use Rattle.std.proofs.lemmas.Cmp.{ranked}
 use Rattle.std.proofs.lemmas.List.Sums.{sum_by-cons}
-use Rattle.hu_kind.specs.Record.{has, holds, items_in}
-use Rattle.hu_kind.specs.Database.{support, items_of}
+use Rattle.std.proofs.lemmas.Int.{ints}
+use Rattle.hu_kind.specs.Record.{has, holds, items_in, values_of}
+use Rattle.hu_kind.specs.Database.{support, items_of, utility}
 use Rattle.hu_kind.specs.Itemsets.{sublists, occurring_sets}
 use Rattle.hu_kind.specs.Order.{ranking, Ascend}
 use Rattle.hu_kind.proofs.lemmas.Each.{each-weaker}
-use Rattle.hu_kind.proofs.lemmas.Members.{Member, Member-append_left, Member-append_right, Member-append_cases}
-use Rattle.hu_kind.proofs.lemmas.Members.{Member-map, Member-from_map, Member-flat_map, Member-filter}
-use Rattle.hu_kind.proofs.lemmas.Members.{Member-from_filter}
+use Rattle.hu_kind.proofs.lemmas.Members.{Member, Member-append_left, Member-append_right, Member-append_cases, Member-map, Member-from_map, Member-flat_map}
+use Rattle.hu_kind.proofs.lemmas.Members.{Member-filter, Member-from_filter}
 
 -- what holds of each element holds of a member
 pub at_member : {A : Type 0} (P : A → Type 0) (x : A) (xs : List A) → AllByRecursion P xs → Member x xs → P x
@@ -194,3 +193,46 @@ Member-from_occurs records items o =
     Member-filter (λ s. nat_lt 0 (length s) && nat_lt 0 (support records s)) items (sublists (items_of records))
     (Member-sublists (items_of records) items (Ascend-ranking (flat_map items_in records)) o.ascending all)
     (and_from (nat_lt 0 (length items)) (nat_lt 0 (support records items)) (lt-ltb 0 (length items) o.some) (lt-ltb 0 (support records items) o.held))
+
+pub eqb-flips : (x y : ℕ) → nat_eq x y ≡ nat_eq y x
+eqb-flips x y = elim (cases_eq x y) [
+  | inl e ↦ eq-eqb x y e ∙ sym (eq-eqb y x (sym e))
+  | inr ne ↦ ne_eqb x y ne ∙ sym (ne_eqb y x (λ e. ne (sym e)))
+]
+
+-- cells have the items that stand among them
+pub has-from_member : (item : ℕ) (cells : List (ℕ × ℤ)) → Member item (items_in cells) → has item cells ≡ true
+has-from_member item [] m = absurd m
+has-from_member item (cell ∷ cells) (inl e) = or_left (eqb item cell.0) (has item cells) (eq-eqb item cell.0 (sym e))
+has-from_member item (cell ∷ cells) (inr m) = or_right (eqb item cell.0) (has item cells) (has-from_member item cells m)
+
+pub holds-all : (items : List ℕ) (cells : List (ℕ × ℤ)) → AllByRecursion (λ item. Member item (items_in cells)) items → holds items cells ≡ true
+holds-all [] cells all = refl
+holds-all (item ∷ items) cells all = and_from (has item cells) (holds items cells) (has-from_member item cells all.0) (holds-all items cells all.1)
+
+pub holds-append : (set more : List ℕ) (cells : List (ℕ × ℤ)) → holds (set ++ more) cells ≡ (holds set cells && holds more cells)
+holds-append [] more cells = refl
+holds-append (s ∷ ss) more cells = by (has s cells) (holds-append ss more cells)
+  where
+    by : (b : Bool) → holds (ss ++ more) cells ≡ (holds ss cells && holds more cells) → (b && holds (ss ++ more) cells)
+        ≡ ((b && holds ss cells) && holds more cells)
+    by true ih = ih
+    by false ih = refl
+
+pub values_of-append : (set more : List ℕ) (cells : List (ℕ × ℤ)) → values_of (set ++ more) cells ≡ values_of set cells +ℤ values_of more cells
+values_of-append [] more cells = omega (arith, ints)
+values_of-append (s ∷ ss) more cells = let ih = values_of-append ss more cells in omega (arith, ints)
+
+pub holds-none : (set : List ℕ) → 0 < length set → holds set [] ≡ false
+holds-none [] some = absurd (omega arith)
+holds-none (x ∷ xs) some = refl
+
+-- a set that no record holds earns nothing
+pub utility-unheld : (records : List (List (ℕ × ℤ))) (set : List ℕ) → support records set ≡ 0 → utility records set ≡ pos 0
+utility-unheld [] set none = refl
+utility-unheld (r ∷ rs) set none = by (holds set r) (sym (sum_by-cons (λ c. cond (holds set c) 1 0) r rs) ∙ none) (utility-unheld rs set)
+  where
+    by : (b : Bool) → cond b 1 0 + support rs set ≡ 0 → (support rs set ≡ 0 → utility rs set ≡ pos 0)
+        → cond b (values_of set r) (pos 0) +ℤ utility rs set ≡ pos 0
+    by true h ih = absurd (omega arith)
+    by false h ih = let rest = ih (omega arith) in omega (arith, ints)

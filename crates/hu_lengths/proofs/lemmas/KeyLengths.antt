@@ -1,6 +1,6 @@
 -- The lengths of keys that grow, and of the keys of sets of ranks.
-use Rattle.std.proofs.Common.{◌≡◌, ℕ, suc, ◌<◌, ◌≤◌, Bool, true, false, cond, ℤ, pos, List, [], ◌∷◌}
-use Rattle.std.proofs.Common.{◌++◌, map, length, slice_index, Option, None, Some, inl, inr, refl, sym, ap, ◌∙◌, subst, arith}
+use Rattle.std.proofs.Common.{◌≡◌, ℕ, suc, ◌<◌, ◌≤◌, Bool, true, false, cond, ℤ, pos, List, [], ◌∷◌, ◌++◌, map, length, slice_index, Option, None, Some, inl}
+use Rattle.std.proofs.Common.{inr, refl, sym, ap, ◌∙◌, subst, arith}
 use Rattle.std.specs.List.{AllByRecursion}
 use Rattle.std.specs.declared.cmp.Ordering.{Ordering}
 use Rattle.std.specs.declared.cmp.Ordering.TheVariants.{Less, Equal, Greater}
@@ -12,12 +12,9 @@ use Rattle.hu_kind.specs.Order.{ranking, Ascend}
 use Rattle.hu_kind.proofs.lemmas.Members.{Member, Member-map, Member-from_map, Member-append_left, Member-append_right, Member-append_cases}
 use Rattle.hu_kind.proofs.lemmas.Occurring.{at_member, Member-ranking, Ascend-ranking}
 use Rattle.hu_totals.specs.Ranked.{Ranking, IsRanking}
-use Rattle.hu_totals.proofs.lemmas.SortedLists.{Once, Member-from_ranking}
+use Rattle.hu_totals.proofs.lemmas.SortedLists.{Once, Member-from_ranking, length-ranking}
 use Rattle.hu_collect.specs.Ranks.{key_of, is_part, IsGrown}
-
--- the items of ranks in a table
-abbrev items_at : List ℕ → List ℕ → List ℕ
-items_at table ranks = map (λ rank. slice_index table rank) ranks
+use Rattle.hu_search.proofs.lemmas.ItemsAt.{items_at, Once-items_at}
 
 -- ---- keys that grow
 
@@ -73,34 +70,10 @@ grown-longer (Some table) key last grown g =
 
 -- ---- keys of sets of ranks
 
-length-insert : (xs : List ℕ) (x : ℕ) → (Member x xs → ⊥) → length (insert_key nat_cmp xs x) ≡ suc (length xs)
-length-insert [] x out = refl
-length-insert (y ∷ ys) x out = by (nat_cmp x y) refl (length-insert ys x (λ m. out (inr m)))
-  where
-    by : (o : Ordering) → nat_cmp x y ≡ o → length (insert_key nat_cmp ys x) ≡ suc (length ys)
-        → length (insert_key nat_cmp (y ∷ ys) x) ≡ suc (length (y ∷ ys))
-    by Less e ih = rw e refl
-    by Greater e ih = rw e (ap suc ih)
-    by Equal e ih = absurd (out (inl (sym (exact_unsigned x y e))))
-
-length-ranking : (xs : List ℕ) → Once xs → length (ranking nat_cmp xs) ≡ length xs
-length-ranking [] once = refl
-length-ranking (x ∷ xs) once =
-    length-insert (ranking nat_cmp xs) x (λ m. once.0 (Member-from_ranking nat_cmp x xs m)) ∙ ap suc (length-ranking xs once.1)
-
-items_at-once : (r : Ranking) → IsRanking r → (set : List ℕ) → Ascend set → AllByRecursion (λ rank. rank < length r.items) set → Once (items_at r.items set)
-items_at-once r rules [] up within = tt
-items_at-once r rules (x ∷ xs) up within = (out, items_at-once r rules xs up.1 within.1)
-  where
-    out : Member (slice_index r.items x) (items_at r.items xs) → ⊥
-    out m =
-        let from = Member-from_map (λ rank. slice_index r.items rank) (slice_index r.items x) xs m in
-        rules.distinct x from.0 (at_member (λ y. x < y) from.0 xs up.0 from.1) (at_member (λ y. y < length r.items) from.0 xs within.1 from.1) (sym from.2)
-
 -- the key of a set of ranks has as many numbers as the set has ranks
 pub length-key_of : (r : Ranking) → IsRanking r → (set : List ℕ) → Ascend set → AllByRecursion (λ rank. rank < length r.items) set
     → length (key_of r.items set) ≡ length set
 length-key_of r rules set up within =
     length-map (ranking nat_cmp (items_at r.items set)) pos
-    ∙ length-ranking (items_at r.items set) (items_at-once r rules set up within)
+    ∙ length-ranking (items_at r.items set) (Once-items_at r rules set up within)
     ∙ length-map set (λ rank. slice_index r.items rank)

@@ -1,6 +1,6 @@
 -- What a collector of keys of some lengths makes of entries, and which keys it doesn't want.
-use Rattle.std.proofs.Common.{◌≡◌, ℕ, ◌<◌, int_le, nat_le, Bool, true, false, cond, ◌&&◌, ℤ, ◌<ℤ◌}
-use Rattle.std.proofs.Common.{Option, List, [], ◌∷◌, ◌++◌, length, refl, sym, ap, ◌∙◌, arith, filter}
+use Rattle.std.proofs.Common.{◌≡◌, ℕ, ◌<◌, int_le, nat_le, Bool, true, false, cond, ◌&&◌, ℤ, ◌<ℤ◌, Option, List, [], ◌∷◌, ◌++◌, length, refl, sym, ap, ◌∙◌}
+use Rattle.std.proofs.Common.{arith, filter}
 use Rattle.std.proofs.lemmas.Bool.{and_left, and_right, lt-leb}
 use Rattle.hu_kind.specs.declared.entry.Entry.{Entry}
 use Rattle.hu_kind.specs.Order.{entry_cmp, ranking, cut}
@@ -88,7 +88,7 @@ module _ {A : Type 0} (p : A → Bool) (x : A) (xs : List A) where
   filter-out : p x ≡ false → filter p (x ∷ xs) ≡ filter p xs
   filter-out h = λ j. cond (h j) (x ∷ filter p xs) (filter p xs)
 
-filter-swap : {A : Type 0} (p q : A → Bool) (xs : List A) → filter p (filter q xs) ≡ filter q (filter p xs)
+pub filter-swap : {A : Type 0} (p q : A → Bool) (xs : List A) → filter p (filter q xs) ≡ filter q (filter p xs)
 filter-swap p q [] = refl
 filter-swap p q (x ∷ xs) = by (p x) (q x) refl refl (filter-swap p q xs)
   where

@@ -1,34 +1,25 @@
 -- What rows tell of ranks bounds what sets of their ranks earn.
-use Rattle.std.proofs.Common.{◌≡◌, ℕ, ◌<◌, ◌≤◌, Bool, true, false, cond, eqb, ◌&&◌, ◌||◌, IsTrue, ℤ, pos, negsuc, ◌+ℤ◌, ◌≤ℤ◌, List}
-use Rattle.std.proofs.Common.{[], ◌∷◌, inl, inr, refl, sym, ap, ◌∙◌, subst, arith}
+use Rattle.std.proofs.Common.{◌≡◌, ℕ, ◌<◌, ◌≤◌, Bool, true, false, cond, ◌&&◌, IsTrue, ℤ, pos, negsuc, ◌+ℤ◌, ◌≤ℤ◌, List, [], ◌∷◌, inl, inr, refl, sym, ap, ◌∙◌}
+use Rattle.std.proofs.Common.{subst, arith}
 use Rattle.std.specs.List.{AllByRecursion}
-use Rattle.std.proofs.lemmas.Bool.{and_parts, eq-eqb}
+use Rattle.std.proofs.lemmas.Bool.{and_parts}
 use Rattle.std.proofs.lemmas.Int.{ints}
 use Rattle.hu_kind.specs.Order.{Ascend}
 use Rattle.hu_kind.specs.Record.{has, holds, value_of, values_of, gain, positive_part}
 use Rattle.hu_kind.proofs.lemmas.Members.{Member}
 use Rattle.hu_rows.specs.Rows.{RowOf, AreRows, over, over_row, count_over, ranks_of}
-use Rattle.hu_totals.specs.Cells.{after, among, kept_gain}
-use Rattle.hu_totals.proofs.lemmas.AfterLemmas.{holds-after}
 use Rattle.hu_rows.specs.Bounds.{local_share, local_bound, subtree_share, IsKeptSet}
 use Rattle.hu_rows.specs.Tally.{most, most_with, tail_most, most_over, tail_over}
-use Rattle.hu_totals.proofs.lemmas.KeptLemmas.{positive-least}
 use Rattle.hu_rows.proofs.BoundLemmas.{over-local, over_row-subtree}
+use Rattle.hu_totals.specs.Cells.{after, among, kept_gain}
+use Rattle.hu_totals.proofs.lemmas.AfterLemmas.{holds-after}
+use Rattle.hu_totals.proofs.lemmas.KeptLemmas.{positive-least, among-member}
 
 -- ---- sets as kept sets of themselves
 
-among-itself : (z : ℕ) (set : List ℕ) → Member z set → among z set ≡ true
-among-itself z [] m = absurd m
-among-itself z (s ∷ set) (inl e) = let here : eqb z s ≡ true = eq-eqb z s (sym e) in rw here refl
-among-itself z (s ∷ set) (inr m) = let later = among-itself z set m in by (eqb z s) later
-  where
-    by : (b : Bool) → among z set ≡ true → b || among z set ≡ true
-    by true h = refl
-    by false h = h
-
 all-among : (keep set : List ℕ) → ((z : ℕ) → Member z set → Member z keep) → AllByRecursion (λ rank. IsTrue (among rank keep)) set
 all-among keep [] sub = tt
-all-among keep (s ∷ set) sub = (among-itself s keep (sub s (inl refl)), all-among keep set (λ z m. sub z (inr m)))
+all-among keep (s ∷ set) sub = (among-member s keep (sub s (inl refl)), all-among keep set (λ z m. sub z (inr m)))
 
 kept-itself : (set : List ℕ) → Ascend set → IsKeptSet set set
 kept-itself set up = record { ascending = up; kept = all-among set set (λ z m. m) }
@@ -61,7 +52,7 @@ local-below (row ∷ rows) keep z = omega (arith, ints, by (has z row.cells), lo
 -- no set earns more than any of its ranks is told
 pub over-most : (rows : List RowOf) (set : List ℕ) (z : ℕ) → AreRows rows → Ascend set → Member z set → over rows set ≤ℤ most_over rows z
 over-most rows set z rules up m =
-    omega (arith, ints, over-local set set z rows rules.ascending (kept-itself set up) (among-itself z set m), local-below rows set z)
+    omega (arith, ints, over-local set set z rows rules.ascending (kept-itself set up) (among-member z set m), local-below rows set z)
 
 -- ---- the bound of the least rank
 

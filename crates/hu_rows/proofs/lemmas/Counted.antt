@@ -1,23 +1,20 @@
 -- Rows that stand for records: what is told of a rank tells whether they hold it.
-use Rattle.std.proofs.Common.{◌≡◌, ℕ, ◌+◌, ◌<◌, ◌≤◌, Bool, true, false, cond, eqb, nat_lt, ◌&&◌, ◌||◌, ℤ, pos, ◌+ℤ◌, List, [], ◌∷◌, ◌++◌, length}
-use Rattle.std.proofs.Common.{refl, sym, ap, subst, arith, inl, inr, ◌⊎◌}
+use Rattle.std.proofs.Common.{◌≡◌, ℕ, ◌+◌, ◌<◌, ◌≤◌, Bool, true, false, cond, eqb, nat_lt, ◌&&◌, ◌||◌, ℤ, pos, ◌+ℤ◌, List, [], ◌∷◌, length, refl, sym, ap}
+use Rattle.std.proofs.Common.{subst, arith, inl, inr, ◌⊎◌}
 use Rattle.std.specs.List.{AllByRecursion}
 use Rattle.std.proofs.lemmas.Bool.{eqb-true, or_cases}
 use Rattle.std.proofs.lemmas.Int.{ints}
 use Rattle.hu_kind.specs.Record.{has, value_of, items_in}
+use Rattle.hu_kind.proofs.lemmas.Each.{each-append}
 use Rattle.hu_rows.specs.Rows.{RowOf, AreCounted, count_over}
-use Rattle.hu_totals.specs.Cells.{after}
 use Rattle.hu_rows.specs.Tally.{EachRank, tail_most, tail_over, tail_told, no_tally, tally_with}
 use Rattle.hu_rows.specs.Handed.{only, narrowed_row, narrowed, row_if_some, handed_row, handed}
 use Rattle.hu_rows.proofs.ProjectionLemmas.{count_over-append}
-
-each-joined : {A : Type 0} (P : A → Type 0) (xs ys : List A) → AllByRecursion P xs → AllByRecursion P ys → AllByRecursion P (xs ++ ys)
-each-joined P [] ys all more = more
-each-joined P (x ∷ xs) ys all more = (all.0, each-joined P xs ys all.1 more)
+use Rattle.hu_totals.specs.Cells.{after}
 
 pub AreCounted-narrowed : (p : ℕ → Bool) (rows : List RowOf) → AreCounted rows → AreCounted (narrowed p rows)
 AreCounted-narrowed p [] all = tt
-AreCounted-narrowed p (row ∷ rows) all = each-joined (λ (r : RowOf). 0 < r.count) (narrowed_row p row) (narrowed p rows)
+AreCounted-narrowed p (row ∷ rows) all = each-append (λ (r : RowOf). 0 < r.count) (narrowed_row p row) (narrowed p rows)
     (by (nat_lt 1 (length (only p row.cells)))) (AreCounted-narrowed p rows all.1)
   where
     by : (b : Bool) → AreCounted (cond b (record { before = row.before; count = row.count; cells = only p row.cells } ∷ []) [])
@@ -26,7 +23,7 @@ AreCounted-narrowed p (row ∷ rows) all = each-joined (λ (r : RowOf). 0 < r.co
 
 pub AreCounted-handed : (z : ℕ) (rows : List RowOf) → AreCounted rows → AreCounted (handed z rows)
 AreCounted-handed z [] all = tt
-AreCounted-handed z (row ∷ rows) all = each-joined (λ (r : RowOf). 0 < r.count) (handed_row z row) (handed z rows) (by (has z row.cells))
+AreCounted-handed z (row ∷ rows) all = each-append (λ (r : RowOf). 0 < r.count) (handed_row z row) (handed z rows) (by (has z row.cells))
     (AreCounted-handed z rows all.1)
   where
     some : (before : ℤ) (cells : List (ℕ × ℤ)) → AreCounted (row_if_some before row.count cells)

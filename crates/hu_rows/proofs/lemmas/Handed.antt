@@ -1,18 +1,18 @@
 -- The rows that a rank is handed: sets of later ranks earn over them what they and the rank earn together.
-use Rattle.std.proofs.Common.{◌≡◌, ℕ, ◌+◌, ◌<◌, ◌≤◌, Bool, true, false, cond, ◌&&◌, ℤ, pos, unsigned_abs, ◌+ℤ◌, List, [], ◌∷◌, ◌++◌, refl}
-use Rattle.std.proofs.Common.{◌∙◌, arith, sum_by}
+use Rattle.std.proofs.Common.{◌≡◌, ℕ, ◌+◌, ◌<◌, ◌≤◌, Bool, true, false, cond, ◌&&◌, ℤ, pos, unsigned_abs, ◌+ℤ◌, List, [], ◌∷◌, refl, ◌∙◌, arith, sum_by}
 use Rattle.std.specs.List.{AllByRecursion}
 use Rattle.std.proofs.lemmas.Int.{ints}
 use Rattle.std.proofs.lemmas.List.Sums.{sum_by-cons, sum_by-append}
 use Rattle.hu_kind.specs.Order.{Ascend}
 use Rattle.hu_kind.specs.Record.{has, holds, value_of, values_of, absolute_of}
+use Rattle.hu_kind.proofs.lemmas.Each.{each-append}
 use Rattle.hu_rows.specs.Rows.{RowOf, AreRows, over, over_row, count_over, count_in, count_of, size_of, ranks_of}
-use Rattle.hu_totals.specs.Cells.{after}
-use Rattle.hu_totals.proofs.lemmas.AfterLemmas.{Ascend-after, absolute_of-after, holds-after, values_of-after}
 use Rattle.hu_rows.specs.Tally.{EachRank}
 use Rattle.hu_rows.specs.Handed.{row_if_some, handed_row, handed}
 use Rattle.hu_rows.proofs.CellLemmas.{each-after-both}
 use Rattle.hu_rows.proofs.ProjectionLemmas.{over-append, count_over-append}
+use Rattle.hu_totals.specs.Cells.{after}
+use Rattle.hu_totals.proofs.lemmas.AfterLemmas.{Ascend-after, absolute_of-after, holds-after, values_of-after}
 
 over-row_if_some : (s : ℕ) (set : List ℕ) (before : ℤ) (count : ℕ) (cells : List (ℕ × ℤ))
     → over (row_if_some before count cells) (s ∷ set) ≡ cond (holds (s ∷ set) cells) (before +ℤ values_of (s ∷ set) cells) (pos 0)
@@ -66,10 +66,6 @@ module _ (z s : ℕ) (set : List ℕ) (above : AllByRecursion (λ rank. z < rank
   count-handed [] = refl
   count-handed (row ∷ rows) = count_over-append (handed_row z row) (handed z rows) (s ∷ set) ∙ (λ j. count-handed_row row j + count-handed rows j)
 
-each-joined : {A : Type 0} (P : A → Type 0) (xs ys : List A) → AllByRecursion P xs → AllByRecursion P ys → AllByRecursion P (xs ++ ys)
-each-joined P [] ys all more = more
-each-joined P (x ∷ xs) ys all more = (all.0, each-joined P xs ys all.1 more)
-
 each-some : (P : RowOf → Type 0) (before : ℤ) (count : ℕ) (cells : List (ℕ × ℤ)) → P (record { before = before; count = count; cells = cells })
     → AllByRecursion P (row_if_some before count cells)
 each-some P before count [] h = tt
@@ -79,7 +75,7 @@ each-some P before count (cell ∷ cells) h = (h, tt)
 pub each-handed : (P : ℕ → Type 0) (z : ℕ) (rows : List RowOf) → EachRank P rows → EachRank (λ rank. P rank × (z < rank)) (handed z rows)
 each-handed P z [] all = tt
 each-handed P z (row ∷ rows) all =
-    each-joined (λ (r : RowOf). AllByRecursion (λ rank. P rank × (z < rank)) (ranks_of r)) (handed_row z row) (handed z rows) (by (has z row.cells))
+    each-append (λ (r : RowOf). AllByRecursion (λ rank. P rank × (z < rank)) (ranks_of r)) (handed_row z row) (handed z rows) (by (has z row.cells))
     (each-handed P z rows all.1)
   where
     by : (b : Bool) → EachRank (λ rank. P rank × (z < rank)) (cond b (row_if_some (row.before +ℤ value_of z row.cells) row.count (after z row.cells)) [])
@@ -104,7 +100,7 @@ AreRows-handed z rows rules = record {
   where
     ascending : (rows : List RowOf) → AllByRecursion (λ row. Ascend (ranks_of row)) rows → AllByRecursion (λ row. Ascend (ranks_of row)) (handed z rows)
     ascending [] all = tt
-    ascending (row ∷ rows) all = each-joined (λ (r : RowOf). Ascend (ranks_of r)) (handed_row z row) (handed z rows) (by (has z row.cells))
+    ascending (row ∷ rows) all = each-append (λ (r : RowOf). Ascend (ranks_of r)) (handed_row z row) (handed z rows) (by (has z row.cells))
         (ascending rows all.1)
       where
         by : (b : Bool) → AllByRecursion (λ row. Ascend (ranks_of row))

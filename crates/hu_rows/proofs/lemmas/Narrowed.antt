@@ -1,12 +1,12 @@
 -- Rows with the cells of some ranks alone: sets of two or more of these ranks earn over them what they earn over the rows.
-use Rattle.std.proofs.Common.{◌≡◌, ℕ, ◌+◌, ◌<◌, ◌≤◌, Bool, true, false, cond, eqb, nat_lt, ◌||◌, ℤ, pos, ◌+ℤ◌, List, [], ◌∷◌}
-use Rattle.std.proofs.Common.{◌++◌, length, refl, ◌∙◌, arith, sum_by}
+use Rattle.std.proofs.Common.{◌≡◌, ℕ, ◌+◌, ◌<◌, ◌≤◌, Bool, true, false, cond, eqb, nat_lt, ◌||◌, ℤ, pos, ◌+ℤ◌, List, [], ◌∷◌, length, refl, ◌∙◌, arith, sum_by}
 use Rattle.std.specs.List.{AllByRecursion}
 use Rattle.std.proofs.lemmas.Bool.{and_parts, eqb-true, lt-ltb}
 use Rattle.std.proofs.lemmas.Int.{ints}
 use Rattle.std.proofs.lemmas.List.Sums.{sum_by-cons, sum_by-append}
 use Rattle.hu_kind.specs.Order.{Ascend}
 use Rattle.hu_kind.specs.Record.{holds, values_of}
+use Rattle.hu_kind.proofs.lemmas.Each.{each-append}
 use Rattle.hu_rows.specs.Rows.{RowOf, AreRows, over, over_row, count_over, count_in, count_of, size_of, ranks_of}
 use Rattle.hu_rows.specs.Tally.{EachRank}
 use Rattle.hu_rows.specs.Handed.{only, row_if_two, narrowed_row, narrowed}
@@ -78,15 +78,11 @@ module _ (p : ℕ → Bool) (set : List ℕ) (pair : IsPair set) (kept : AllByRe
   count-narrowed [] = refl
   count-narrowed (row ∷ rows) = count_over-append (narrowed_row p row) (narrowed p rows) set ∙ (λ j. count-narrowed_row row j + count-narrowed rows j)
 
-each-joined : {A : Type 0} (P : A → Type 0) (xs ys : List A) → AllByRecursion P xs → AllByRecursion P ys → AllByRecursion P (xs ++ ys)
-each-joined P [] ys all more = more
-each-joined P (x ∷ xs) ys all more = (all.0, each-joined P xs ys all.1 more)
-
 -- what holds of each rank of the rows holds of those of narrowed rows, and these are kept
 pub each-narrowed : (p : ℕ → Bool) (P : ℕ → Type 0) (rows : List RowOf) → EachRank P rows → EachRank (λ rank. P rank × (p rank ≡ true)) (narrowed p rows)
 each-narrowed p P [] all = tt
 each-narrowed p P (row ∷ rows) all =
-    each-joined (λ (r : RowOf). AllByRecursion (λ rank. P rank × (p rank ≡ true)) (ranks_of r)) (narrowed_row p row) (narrowed p rows)
+    each-append (λ (r : RowOf). AllByRecursion (λ rank. P rank × (p rank ≡ true)) (ranks_of r)) (narrowed_row p row) (narrowed p rows)
     (by (nat_lt 1 (length (only p row.cells)))) (each-narrowed p P rows all.1)
   where
     by : (b : Bool) → EachRank (λ rank. P rank × (p rank ≡ true)) (cond b (record { before = row.before; count = row.count; cells = only p row.cells } ∷ []) [])
@@ -102,7 +98,7 @@ AreRows-narrowed p rows rules = record {
   where
     ascending : (rows : List RowOf) → AllByRecursion (λ row. Ascend (ranks_of row)) rows → AllByRecursion (λ row. Ascend (ranks_of row)) (narrowed p rows)
     ascending [] all = tt
-    ascending (row ∷ rows) all = each-joined (λ (r : RowOf). Ascend (ranks_of r)) (narrowed_row p row) (narrowed p rows)
+    ascending (row ∷ rows) all = each-append (λ (r : RowOf). Ascend (ranks_of r)) (narrowed_row p row) (narrowed p rows)
         (by (nat_lt 1 (length (only p row.cells)))) (ascending rows all.1)
       where
         by : (b : Bool) → AllByRecursion (λ row. Ascend (ranks_of row))

@@ -1,8 +1,6 @@
 -- What a search makes that offers all children of a set and then enters them best bound first.
-use Rattle.std.proofs.Common.{◌≡◌, ℕ, zero, suc, ◌<◌, ◌≤◌, ◌+◌, true, ◌<ℤ◌, ◌≤ℤ◌, List, [], ◌∷◌, ◌++◌, length, get_or}
-use Rattle.std.proofs.Common.{take, drop, refl, sym, ap, ◌∙◌, subst, inl, inr, ◌⊎◌, arith, append_assoc, Contains}
-use Rattle.std.proofs.Common.{Result}
-use Rattle.std.specs.List.{AllByRecursion}
+use Rattle.std.proofs.Common.{◌≡◌, ℕ, zero, suc, ◌<◌, ◌≤◌, ◌+◌, true, ◌<ℤ◌, ◌≤ℤ◌, List, [], ◌∷◌, ◌++◌, length, get_or, take, drop, refl, sym, ap, ◌∙◌, subst}
+use Rattle.std.proofs.Common.{inl, inr, ◌⊎◌, arith, append_assoc, Contains, Result}
 use Rattle.std.proofs.lemmas.Int.{ints}
 use Rattle.std.proofs.lemmas.List.{take_more}
 use Rattle.std.proofs.lemmas.List.Elements.{Contains-append_left, Contains-push, Contains-push_cases}
@@ -11,12 +9,12 @@ use Rattle.hu_kind.specs.Database.{support}
 use Rattle.hu_kind.specs.Itemsets.{item_patterns}
 use Rattle.hu_kind.specs.Order.{Ascend}
 use Rattle.hu_kind.proofs.lemmas.Members.{Member, Member-from_contains, Contains-from_member}
+use Rattle.hu_kind.proofs.lemmas.Occurring.{at_member}
 use Rattle.hu_totals.specs.Ranked.{Ranking, IsRanking, unranked}
 use Rattle.hu_collect.specs.Rule.{passes}
 use Rattle.hu_collect.specs.State.{State, offered, floor_in, IsInOrder, Reached, ReachedSome, Searches, Mines}
-use Rattle.hu_collect.proofs.lemmas.Searching.{empty-contains, reached-rule, reached-in_order, reached-floor}
-use Rattle.hu_collect.proofs.lemmas.Searching.{passes-new, reached-none, reached-one, reached-then, reached-as}
-use Rattle.hu_collect.proofs.lemmas.Searching.{some-reached, some-as, some-then, mined}
+use Rattle.hu_collect.proofs.lemmas.Searching.{empty-contains, reached-rule, reached-in_order, reached-floor, passes-new, reached-none, reached-one}
+use Rattle.hu_collect.proofs.lemmas.Searching.{reached-then, reached-as, some-reached, some-as, some-then, mined}
 use Rattle.hu_search.specs.declared.child.Child.{Child}
 use Rattle.hu_search.specs.Growth.{rank_entry, Grows}
 use Rattle.hu_search.specs.Children.{IsChild, ranks_of, IsOneOf, IsBelow, Counts, AreEnough, IsBarren, IsBound, AreOpen, Fall, IsUpto}
@@ -71,17 +69,12 @@ Member-drop x zero xs m = m
 Member-drop x (suc i) [] m = absurd m
 Member-drop x (suc i) (y ∷ ys) m = inr (Member-drop x i ys m)
 
-at_each : {A : Type 0} (P : A → Type 0) (x : A) (xs : List A) → AllByRecursion P xs → Member x xs → P x
-at_each P x [] all m = absurd m
-at_each P x (y ∷ ys) all (inl e) = subst P e all.0
-at_each P x (y ∷ ys) all (inr m) = at_each P x ys all.1 m
-
 -- bounds that fall: a later one is no greater
 fall-later : (children : List Child) (i : ℕ) (d child : Child) → Fall children → Member child (drop i children) → child.bound ≤ℤ (get_or children i d).bound
 fall-later [] zero d child fall m = absurd m
 fall-later [] (suc i) d child fall m = absurd m
 fall-later (c ∷ cs) zero d child fall (inl e) = subst (λ other. other.bound ≤ℤ c.bound) e (omega (arith, ints))
-fall-later (c ∷ cs) zero d child fall (inr m) = at_each (λ later. later.bound ≤ℤ c.bound) child cs fall.0 m
+fall-later (c ∷ cs) zero d child fall (inr m) = at_member (λ later. later.bound ≤ℤ c.bound) child cs fall.0 m
 fall-later (c ∷ cs) (suc i) d child fall m = fall-later cs i d child fall.1 m
 
 fall-past : (children : List Child) (i : ℕ) (child : Child) → length children ≤ i → Member child (drop i children) → ⊥
@@ -91,7 +84,7 @@ fall-past (c ∷ cs) zero child past m = absurd (omega arith)
 fall-past (c ∷ cs) (suc i) child past m = fall-past cs i child (omega arith) m
 
 -- what counts at a later state counted before
-counts-before : {s t : State} {e : Entry} → t.rule ≡ s.rule → floor_in s ≤ℤ floor_in t → Counts t e → Counts s e
+pub counts-before : {s t : State} {e : Entry} → t.rule ≡ s.rule → floor_in s ≤ℤ floor_in t → Counts t e → Counts s e
 counts-before {e = e} same rises counts = record {
   pass = subst (λ rule. passes rule e ≡ true) same counts.pass;
   high = let high = counts.high in omega (arith, ints, rises, high);
@@ -240,7 +233,7 @@ module _ (r : Ranking) (set : List ℕ) where
         late e child counts m grows = elim ends [
           | inl past ↦ fall-past chosen i child past m
           | inr low ↦
-              let bounded = at_each (λ c. IsBound mid r (set ++ c.rank ∷ []) c.bound) child chosen opened.bounds (Member-drop child i chosen m) in
+              let bounded = at_member (λ c. IsBound mid r (set ++ c.rank ∷ []) c.bound) child chosen opened.bounds (Member-drop child i chosen m) in
               let under = bounded e grows (counts-mid e counts) in
               let falls = fall-later chosen i d child fall m in
               let high = counts.high in
@@ -286,3 +279,6 @@ mined-patterns r rules old new result = mined (Grows r []) old new (item_pattern
   λ g. Contains-from_member e (item_patterns (unranked r)) (pattern-grows r rules e g),
   λ c. grows-pattern r rules e (Member-from_contains e (item_patterns (unranked r)) c),
 ))
+
+pub barren-reached : (s : State) (r : Ranking) (set : List ℕ) → IsInOrder s → IsBarren s r set → Reached s (Grows r set) s
+barren-reached s r set ordered barren = reached-none {P = Grows r set} s ordered (λ e grows pass high. barren e grows (record { pass = pass; high = high }))

@@ -1,7 +1,6 @@
 -- Sets of ranks and the sets of their items.
-use Rattle.std.proofs.Common.{◌≡◌, ◌≢◌, ℕ, ◌<◌, ◌≤◌, ◌+◌, Bool, true, false, cond, eqb, ◌&&◌, ◌||◌, ℤ, pos, ◌+ℤ◌, List}
-use Rattle.std.proofs.Common.{[], ◌∷◌, map, length, slice_index, refl, sym, ap, ◌∙◌, subst, inl, inr, ◌⊎◌, arith}
-use Rattle.std.proofs.Common.{flat_map, nat_cmp, Ordering, Less, Equal, Greater}
+use Rattle.std.proofs.Common.{◌≡◌, ◌≢◌, ℕ, ◌<◌, ◌≤◌, ◌+◌, Bool, true, false, cond, eqb, ◌&&◌, ◌||◌, ℤ, pos, ◌+ℤ◌, List, [], ◌∷◌, map, length, slice_index, refl}
+use Rattle.std.proofs.Common.{sym, ap, ◌∙◌, subst, inl, inr, ◌⊎◌, arith, flat_map, nat_cmp, Ordering, Less, Equal, Greater}
 use Rattle.std.specs.List.{AllByRecursion}
 use Rattle.std.specs.Ordering.{match_ordering, MatchOrdering}
 use Rattle.std.specs.BTreeSet.{insert_key}
@@ -17,14 +16,14 @@ use Rattle.hu_kind.specs.Database.{utility, support}
 use Rattle.hu_kind.specs.Itemsets.{occurring_sets, item_entry, item_patterns}
 use Rattle.hu_kind.specs.Order.{ranking, Ascend}
 use Rattle.hu_kind.proofs.lemmas.Members.{Member, Member-map, Member-from_map, Member-from_flat_map}
-use Rattle.hu_kind.proofs.lemmas.Occurring.{at_member, Ascend-ranking, Member-ranking, each-ranking, Occurs}
-use Rattle.hu_kind.proofs.lemmas.Occurring.{held-members, Occurs-from_member, Member-from_occurs}
+use Rattle.hu_kind.proofs.lemmas.Occurring.{at_member, Ascend-ranking, Member-ranking, each-ranking, Occurs, held-members, Occurs-from_member}
+use Rattle.hu_kind.proofs.lemmas.Occurring.{Member-from_occurs}
+use Rattle.hu_kind.proofs.lemmas.Ascending.{each-in_range}
+use Rattle.hu_kind.proofs.lemmas.Each.{each-weaker}
 use Rattle.hu_totals.specs.Ranked.{Ranking, IsRanking, unranked, item_at}
 use Rattle.hu_totals.proofs.lemmas.SortedLists.{Once, Member-from_ranking, ranking-members}
 use Rattle.hu_search.specs.Growth.{rank_entry, Grows, InTable}
-use Rattle.hu_kind.proofs.lemmas.Ascending.{each-in_range}
-use Rattle.hu_kind.proofs.lemmas.Each.{each-weaker}
-use Rattle.hu_search.proofs.KeyLemmas.{items_at, Once-items_at}
+use Rattle.hu_search.proofs.lemmas.ItemsAt.{items_at, Once-items_at}
 
 -- ---- putting a list in order changes neither what holds it nor what it earns
 

@@ -1,8 +1,8 @@
 -- What stands before and after the first element that passes a test.
-use Rattle.std.proofs.Common.{◌≡◌, suc, ◌+◌, nat_lt, true, false, Bool, List, [], ◌∷◌, ◌++◌, ◌||◌, length, take, drop}
-use Rattle.std.proofs.Common.{refl, ap, ◌∙◌, arith, None, Some, position, length-append}
+use Rattle.std.proofs.Common.{◌≡◌, suc, ◌+◌, nat_lt, true, false, Bool, List, [], ◌∷◌, ◌++◌, length, take, drop, refl, ap, ◌∙◌, arith, None, Some, position}
+use Rattle.std.proofs.Common.{length-append}
 use Rattle.std.specs.List.{AllByRecursion, before_first, after_first, position_or_len, list_any}
-use Rattle.std.proofs.lemmas.Bool.{lt-ltb}
+use Rattle.std.proofs.lemmas.Bool.{lt-ltb, or_parts}
 use Rattle.std.proofs.lemmas.Bool.Decides.{nat_tests}
 
 first_place : {X : Type 0} (p : X → Bool) (x : X) (xs : List X) → p x ≡ true → position_or_len p (x ∷ xs) ≡ 0
@@ -61,10 +61,6 @@ pub any-none : {X : Type 0} (p : X → Bool) (xs : List X) → AllByRecursion (�
 any-none p [] all = refl
 any-none p (x ∷ xs) all = rw all.0 (any-none p xs all.1)
 
-none-cases : (a b : Bool) → (a || b) ≡ false → (a ≡ false) × (b ≡ false)
-none-cases true b h = absurd (let never : true ≡ false = h in cc)
-none-cases false b h = (refl, h)
-
 pub none-any : {X : Type 0} (p : X → Bool) (xs : List X) → list_any p xs ≡ false → AllByRecursion (λ x. p x ≡ false) xs
 none-any p [] h = tt
-none-any p (x ∷ xs) h = let both = none-cases (p x) (list_any p xs) h in (both.0, none-any p xs both.1)
+none-any p (x ∷ xs) h = let both = or_parts (p x) (list_any p xs) h in (both.0, none-any p xs both.1)

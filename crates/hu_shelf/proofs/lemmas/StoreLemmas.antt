@@ -1,7 +1,6 @@
 -- A store's text tells the store, and a store's text is the only one that does.
-use Rattle.std.proofs.Common.{◌≡◌, ℕ, ◌<◌, ◌≤◌, ◌^◌, ◌==◌, ℤ, pos, negsuc, Bool, true, false, ◌&&◌, Option, None, Some}
-use Rattle.std.proofs.Common.{List, [], ◌∷◌, ◌++◌, length, codes, refl, ap, sym, ◌∙◌, arith, append_assoc, nat_lt}
-use Rattle.std.proofs.Common.{nat_le}
+use Rattle.std.proofs.Common.{◌≡◌, ℕ, ◌<◌, ◌≤◌, ◌^◌, ◌==◌, ℤ, pos, negsuc, Bool, true, false, ◌&&◌, Option, None, Some, List, [], ◌∷◌, ◌++◌, length, codes}
+use Rattle.std.proofs.Common.{refl, ap, sym, ◌∙◌, arith, append_assoc, nat_lt, nat_le}
 use Rattle.std.specs.Bool.{then_some}
 use Rattle.std.specs.List.{All, slice_split, sum_by}
 use Rattle.std.specs.Str.{bytes_eq}
@@ -11,14 +10,14 @@ use Rattle.std.proofs.lemmas.List.Splits.{slice_split_at}
 use Rattle.std.proofs.lemmas.Slice.Eq.{bytes_eq-Decides}
 use Rattle.std.specs.Fmt.{signed_decimal}
 use Rattle.hu_kind.specs.Record.{absolute_of}
+use Rattle.hu_kind.proofs.lemmas.Written.{number-decimal}
 use Rattle.hu_trans.specs.Canonical.{canonical_line}
 use Rattle.hu_kept.specs.Kept.{Keeping, fresh, with_batch}
-use Rattle.hu_shelf.specs.Store.{IsStore, IsWritten, closed_said, least_said, top_said, is_least, is_lawful, is_top}
-use Rattle.hu_shelf.specs.Store.{record_in, records_in, records_text, settings_in, settings_line, store_of, store_text}
-use Rattle.hu_shelf.specs.Store.{task_word, told_by, top_word, before_byte, after_byte}
-use Rattle.hu_kind.proofs.lemmas.Written.{number-decimal}
+use Rattle.hu_shelf.specs.Store.{IsStore, IsWritten, closed_said, least_said, top_said, is_least, is_lawful, is_top, record_in, records_in, records_text}
+use Rattle.hu_shelf.specs.Store.{settings_in, settings_line, store_of, store_text, task_word, told_by, top_word, before_byte, after_byte}
 use Rattle.hu_shelf.proofs.NumeralLemmas.{Lacks, decimal-lacks}
 use Rattle.hu_shelf.proofs.TextLemmas.{lacks_by_test, before_byte-lacks, after_byte-lacks, then_some-given}
+use Rattle.hu_shelf.specs.Keeper.{KeeperState, Stays}
 
 -- ---- records
 
@@ -157,3 +156,11 @@ text_of-store text s found =
     let given = then_some-given (is_lawful (told_by text) text && bytes_eq (store_text (told_by text)) text) (told_by text) s found in
     let same = (and_parts (is_lawful (told_by text) text) (bytes_eq (store_text (told_by text)) text) given.0).1 in
     sym ((bytes_eq-Decides (store_text (told_by text)) text).0 same) ∙ ap store_text given.1
+
+-- a keeper that is as before
+pub still_same : (state now : KeeperState) → now ≡ state → Stays state now
+still_same state now same = record {
+  texts = ap (λ s. s.texts) same;
+  later = λ other. omega (arith, ap (λ s. s.faults other) same);
+  plan = ap (λ s. s.plan) same;
+}

@@ -1,6 +1,6 @@
 -- The entries of an answer have numbers that are small enough to be read again.
-use Rattle.std.proofs.Common.{ℕ, ◌<◌, ◌≤◌, ◌^◌, nat_lt, ℤ, pos, negsuc, Option, None, Some, List, [], ◌∷◌, ◌++◌, length}
-use Rattle.std.proofs.Common.{map, take, subst, zero, suc, inl, inr, arith, filter, flat_map, is_some}
+use Rattle.std.proofs.Common.{ℕ, ◌<◌, ◌≤◌, ◌^◌, nat_lt, ℤ, pos, negsuc, Option, None, Some, List, [], ◌∷◌, ◌++◌, length, map, take, subst, zero, suc, inl, inr}
+use Rattle.std.proofs.Common.{arith, filter, flat_map, is_some}
 use Rattle.std.specs.List.{AllByRecursion}
 use Rattle.std.proofs.lemmas.List.Sums.{count_by-le-length}
 use Rattle.hu_kind.specs.declared.entry.Entry.{Entry}
@@ -11,7 +11,7 @@ use Rattle.hu_kind.specs.Record.{holds, items_in, IsItemset, IsRecord}
 use Rattle.hu_kind.specs.Sequence.{best_utility, led_by, sequence_entry, sequence_key, sequence_patterns, sequence_support, subsequences, IsSequence}
 use Rattle.hu_kind.proofs.lemmas.Each.{each-from_all, each-weaker, each-append}
 use Rattle.hu_kind.proofs.lemmas.Earned.{utility-within, sequences_earn_within}
-use Rattle.hu_kind.proofs.lemmas.Members.{Member, Contains-from_member, Member-from_map, Member-from_flat_map, Member-from_filter}
+use Rattle.hu_kind.proofs.lemmas.Members.{Member, Contains-from_member, Member-from_map, Member-from_flat_map, Member-from_filter, Member-from_take}
 use Rattle.hu_kind.proofs.lemmas.Occurring.{at_member, by_members, each-sublist, held-members, Occurs-from_member}
 use Rattle.hu_answer.proofs.lemmas.Answers.{Member-from_answer}
 use Rattle.hu_text.specs.Records.{AreRecords}
@@ -41,12 +41,6 @@ small-items [] all = tt
 small-items (i ∷ is) all = (omega (arith, all.0), small-items is all.1)
 
 -- ---- what stands in an answer is a pattern
-
-Member-from_take : {A : Type 0} (x : A) (k : ℕ) (xs : List A) → Member x (take k xs) → Member x xs
-Member-from_take x zero xs m = absurd m
-Member-from_take x (suc k) [] m = absurd m
-Member-from_take x (suc k) (y ∷ ys) (inl e) = inl e
-Member-from_take x (suc k) (y ∷ ys) (inr m) = inr (Member-from_take x k ys m)
 
 Member-from_cut : {A : Type 0} (x : A) (top : Option ℕ) (xs : List A) → Member x (cut top xs) → Member x xs
 Member-from_cut x None xs m = m

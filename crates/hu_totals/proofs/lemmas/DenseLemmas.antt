@@ -1,8 +1,7 @@
 -- A record's cells take the ranks of their items; put in order by rank they are the record over these ranks.
-use Rattle.std.proofs.Common.{◌≡◌, ◌≢◌, ℕ, suc, ◌<◌, ◌≤◌, ◌+◌, Bool, true, false, cond, eqb, nat_eq, nat_lt, ℤ, pos}
-use Rattle.std.proofs.Common.{unsigned_abs, List, [], ◌∷◌, ◌++◌, map, length, get_or, position, option_map, Option}
-use Rattle.std.proofs.Common.{Some, None, refl, sym, ap, ◌∙◌, subst, inl, inr, arith, Ordering, Less, Equal, Greater}
-use Rattle.std.proofs.Common.{nat_cmp, one-add}
+use Rattle.std.proofs.Common.{◌≡◌, ◌≢◌, ℕ, suc, ◌<◌, ◌≤◌, ◌+◌, Bool, true, false, cond, eqb, nat_eq, nat_lt, ℤ, pos, unsigned_abs, List, [], ◌∷◌, ◌++◌, map}
+use Rattle.std.proofs.Common.{length, get_or, position, option_map, Option, Some, None, refl, sym, ap, ◌∙◌, subst, inl, inr, arith, Ordering, Less, Equal}
+use Rattle.std.proofs.Common.{Greater, nat_cmp, one-add, zero, drop}
 use Rattle.std.specs.List.{AllByRecursion, position_or_len, IsDistinct}
 use Rattle.std.specs.List.Sorted.{IsPermutation, IsStrictlySortedBy, IsNonDecreasing, IsNonDecreasingBy, IsStrictlyIncreasing}
 use Rattle.std.specs.Option.{option_to_list}
@@ -22,9 +21,10 @@ use Rattle.hu_kind.specs.Record.{has, value_of, items_in, absolute_of}
 use Rattle.hu_kind.proofs.lemmas.Members.{Member}
 use Rattle.hu_kind.proofs.lemmas.Occurring.{at_member}
 use Rattle.hu_kind.proofs.lemmas.RankingLemmas.{IsExactOrder, ranking-permutation, ranking-sorted}
+use Rattle.hu_kind.proofs.lemmas.CellsLemmas.{pair_less}
 use Rattle.hu_totals.specs.declared.ranked.Dense.{Dense}
 use Rattle.hu_totals.specs.Ranked.{cells_from}
-use Rattle.hu_totals.specs.View.{dense_pair}
+use Rattle.hu_totals.specs.View.{dense_pair, cells_of}
 use Rattle.hu_totals.specs.Weights.{dense_of, dense_cells}
 use Rattle.hu_totals.proofs.lemmas.RecordCells.{has-below}
 use Rattle.hu_totals.proofs.lemmas.SortedLists.{Once, IsDistinct-from_once}
@@ -104,9 +104,6 @@ pair_exact = record {
   total = then_total (on_total (λ pair. pair.0) nat_cmp_total) (on_total (λ pair. pair.1) int_cmp_total);
   exact = exact_pairs nat_cmp int_cmp exact_unsigned exact_signed;
 }
-
-pair_less : (a b : ℕ × ℤ) → a.0 < b.0 → pair_cmp a b ≡ Less
-pair_less a b below = let first : nat_cmp a.0 b.0 ≡ Less = grind (arith, nat_tests) in rw first refl
 
 pair_greater : (a b : ℕ × ℤ) → b.0 < a.0 → pair_cmp a b ≡ Greater
 pair_greater a b above = let first : nat_cmp a.0 b.0 ≡ Greater = grind (arith, nat_tests) in rw first refl
@@ -356,3 +353,26 @@ cells_from-within items cells o up =
       ranking-within (dense_cells items cells),
       dense-within items cells,
     )
+
+-- what holds of each rank holds of that at a place
+pub rank-at : (P : ℕ → Type 0) (cells : List Dense) (i : ℕ) (d : Dense) → AllByRecursion P (items_in (cells_of cells))
+    → i < length cells → P (get_or cells i d).rank
+rank-at P [] i d all within = absurd (omega arith)
+rank-at P (cell ∷ cells) zero d all within = all.0
+rank-at P (cell ∷ cells) (suc i) d all within = rank-at P cells i d all.1 (omega arith)
+
+-- a value is within the absolute values
+pub value-within : (cells : List Dense) (i : ℕ) (d : Dense) → i < length cells → unsigned_abs (get_or cells i d).value ≤ absolute_of (cells_of cells)
+value-within [] i d within = absurd (omega arith)
+value-within (cell ∷ cells) zero d within = omega (arith, sum_by-cons (λ (c : ℕ × ℤ). unsigned_abs c.1) (dense_pair cell) (cells_of cells))
+value-within (cell ∷ cells) (suc i) d within =
+    omega (arith, sum_by-cons (λ (c : ℕ × ℤ). unsigned_abs c.1) (dense_pair cell) (cells_of cells), value-within cells i d (omega (arith, within)))
+
+pub Ascend-rest : (cells : List Dense) (i : ℕ) → Ascend (items_in (cells_of cells)) → Ascend (items_in (cells_of (drop i cells)))
+Ascend-rest cells zero up = up
+Ascend-rest [] (suc i) up = tt
+Ascend-rest (cell ∷ cells) (suc i) up = Ascend-rest cells i up.1
+
+pub each-rank : (n : ℕ) (cells : List (ℕ × ℤ)) → AllByRecursion (λ cell. cell.0 < n) cells → AllByRecursion (λ rank. rank < n) (items_in cells)
+each-rank n [] all = tt
+each-rank n (cell ∷ cells) all = (all.0, each-rank n cells all.1)

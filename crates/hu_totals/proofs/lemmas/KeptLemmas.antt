@@ -1,14 +1,16 @@
 -- What kept cells gain: no less than a set of kept ranks earns in them, and no more than their absolute values.
-use Rattle.std.proofs.Common.{◌≡◌, ℕ, ◌<◌, ◌≤◌, Bool, true, false, cond, eqb, ◌&&◌, ℤ, pos, unsigned_abs, ◌+ℤ◌, ◌≤ℤ◌}
-use Rattle.std.proofs.Common.{List, [], ◌∷◌, inl, inr, refl, sym, ◌∙◌, subst, arith}
+use Rattle.std.proofs.Common.{◌≡◌, ℕ, ◌<◌, ◌≤◌, Bool, true, false, cond, eqb, ◌&&◌, ℤ, pos, unsigned_abs, ◌+ℤ◌, ◌≤ℤ◌, List, [], ◌∷◌, inl, inr, refl, sym, ◌∙◌}
+use Rattle.std.proofs.Common.{subst, arith}
 use Rattle.std.specs.List.{AllByRecursion}
-use Rattle.std.proofs.lemmas.Bool.{ne_eqb, eq-eqb, and_parts, cases_eq}
+use Rattle.std.proofs.lemmas.Bool.{ne_eqb, eq-eqb, and_parts, cases_eq, eqb-true, or_cases}
 use Rattle.std.proofs.lemmas.Int.{ints}
 use Rattle.std.proofs.lemmas.List.Sums.{sum_by-cons}
+use Rattle.std.proofs.Math.Bool.{or-true}
 use Rattle.hu_kind.specs.Order.{Ascend}
 use Rattle.hu_kind.specs.Record.{has, holds, value_of, values_of, items_in, absolute_of, positive_part}
 use Rattle.hu_kind.proofs.lemmas.Earned.{positive_part-upper, positive_part-within}
 use Rattle.hu_kind.proofs.lemmas.Occurring.{above_all, at_member, has-member}
+use Rattle.hu_kind.proofs.lemmas.Members.{Member}
 use Rattle.hu_totals.specs.Cells.{among, kept_gain}
 
 pub positive-least : (z : ℤ) → pos 0 ≤ℤ positive_part z
@@ -43,14 +45,14 @@ kept_gain-within keep (cell ∷ cells) =
 -- ---- what a set of kept ranks earns is within what kept cells gain
 
 -- ranks above that of the first cell stand among the others
-values_of-skip : (set : List ℕ) (cell : ℕ × ℤ) (cells : List (ℕ × ℤ)) → AllByRecursion (λ rank. cell.0 < rank) set
+pub values_of-skip : (set : List ℕ) (cell : ℕ × ℤ) (cells : List (ℕ × ℤ)) → AllByRecursion (λ rank. cell.0 < rank) set
     → values_of set (cell ∷ cells) ≡ values_of set cells
 values_of-skip [] cell cells above = refl
 values_of-skip (s ∷ set) cell cells above =
     let other : eqb s cell.0 ≡ false = ne_eqb s cell.0 (λ e. absurd (omega arith)) in
     rw other (λ j. value_of s cells +ℤ values_of-skip set cell cells above.1 j)
 
-holds-skip : (set : List ℕ) (cell : ℕ × ℤ) (cells : List (ℕ × ℤ)) → AllByRecursion (λ rank. cell.0 < rank) set → holds set (cell ∷ cells) ≡ holds set cells
+pub holds-skip : (set : List ℕ) (cell : ℕ × ℤ) (cells : List (ℕ × ℤ)) → AllByRecursion (λ rank. cell.0 < rank) set → holds set (cell ∷ cells) ≡ holds set cells
 holds-skip [] cell cells above = refl
 holds-skip (s ∷ set) cell cells above =
     let other : eqb s cell.0 ≡ false = ne_eqb s cell.0 (λ e. absurd (omega arith)) in
@@ -80,3 +82,18 @@ values_of-kept keep (cell ∷ cells) (s ∷ set) up rise kept h = elim (cases_eq
       let skip : values_of (s ∷ set) (cell ∷ cells) ≡ values_of (s ∷ set) cells = values_of-skip (s ∷ set) cell cells above in
       omega (arith, ints, part-least (among cell.0 keep) cell.1, rest, skip)
 ]
+
+-- a rank of a set that a tail holds stands in it
+pub has-among : (z : ℕ) (set : List ℕ) (cells : List (ℕ × ℤ)) → among z set ≡ true → holds set cells ≡ true → has z cells ≡ true
+has-among z [] cells m h = cc
+has-among z (s ∷ set) cells m h =
+    let both = and_parts (has s cells) (holds set cells) h in
+    elim (or_cases (eqb z s) (among z set) m) [
+      | inl e ↦ subst (λ r. has r cells ≡ true) (sym (eqb-true z s e)) both.0
+      | inr later ↦ has-among z set cells later both.1
+    ]
+
+pub among-member : (z : ℕ) (xs : List ℕ) → Member z xs → among z xs ≡ true
+among-member z [] m = absurd m
+among-member z (x ∷ xs) (inl e) = let here : eqb z x ≡ true = eq-eqb z x (sym e) in rw here refl
+among-member z (x ∷ xs) (inr m) = let later = among-member z xs m in rw later (or-true (eqb z x))

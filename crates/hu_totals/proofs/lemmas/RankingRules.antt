@@ -1,21 +1,21 @@
 -- The records over ranks keep the rules of ranked records.
-use Rattle.std.proofs.Common.{◌≡◌, ℕ, zero, suc, ◌<◌, ◌≤◌, ◌+◌, ◌^◌, Bool, true, false, cond, eqb, nat_lt, ℤ, pos, ◌≤ℤ◌}
-use Rattle.std.proofs.Common.{int_le, List, [], ◌∷◌, ◌++◌, map, filter, length, get_or, refl, sym, ap, ◌∙◌, inl, inr}
-use Rattle.std.proofs.Common.{arith, flat_map, sum_by, add-one}
+use Rattle.std.proofs.Common.{◌≡◌, ℕ, zero, suc, ◌<◌, ◌≤◌, ◌+◌, ◌^◌, Bool, true, false, cond, eqb, nat_lt, ℤ, pos, ◌≤ℤ◌, int_le, List, [], ◌∷◌, ◌++◌, map}
+use Rattle.std.proofs.Common.{filter, length, refl, sym, ap, ◌∙◌, inl, inr, arith, flat_map, sum_by, add-one}
 use Rattle.std.specs.List.{All, AllByRecursion, AllAdjacentBelow, list_any}
 use Rattle.std.proofs.lemmas.Bool.{eqb-true, eqb-false, or_cases, ltb-true}
 use Rattle.std.proofs.lemmas.List.Sums.{sum_by-cons}
 use Rattle.std.proofs.lemmas.Map.Keys.{apart_from_distinct}
 use Rattle.std.proofs.lemmas.Map.Steps.{length-le_from_distinct_below}
+use Rattle.std.specs.Ordering.{nat_cmp}
+use Rattle.std.specs.declared.vec.Vec.{Vec}
+use Rattle.std.specs.declared.alloc.Global.{Global}
 use Rattle.hu_kind.specs.Order.{Ascend}
 use Rattle.hu_kind.specs.Record.{has, value_of, items_in, absolute_of, IsRecord}
 use Rattle.hu_kind.specs.Database.{twu, items_of}
 use Rattle.hu_kind.proofs.lemmas.Members.{Member, Member-from_filter, Member-from_flat_map, Member-from_map, Contains-from_member}
 use Rattle.hu_kind.proofs.lemmas.Occurring.{at_member}
-use Rattle.std.specs.Ordering.{nat_cmp}
-use Rattle.std.specs.declared.vec.Vec.{Vec}
-use Rattle.std.specs.declared.alloc.Global.{Global}
 use Rattle.hu_kind.specs.declared.item.Item.{Item}
+use Rattle.hu_kind.proofs.lemmas.CellPlaces.{adjacent}
 use Rattle.hu_totals.specs.declared.ranked.Dense.{Dense}
 use Rattle.hu_totals.specs.View.{pairs_in, ranking_of}
 use Rattle.hu_totals.specs.Weights.{numbers_of}
@@ -48,12 +48,6 @@ Ascend-cells_from rank (x ∷ xs) cells =
         → Ascend (items_in (cond b ((rank, value_of x cells) ∷ []) [] ++ cells_from (rank + 1) xs cells))
     by true above up = (above, up)
     by false above up = up
-
-adjacent : (cells : List (ℕ × ℤ)) (k : ℕ) (d : ℕ × ℤ) → Ascend (items_in cells) → suc k < length cells → (get_or cells k d).0 < (get_or cells (suc k) d).0
-adjacent [] k d up within = absurd (omega arith)
-adjacent (a ∷ []) k d up within = absurd (omega arith)
-adjacent (a ∷ b ∷ cells) zero d up within = up.0.0
-adjacent (a ∷ b ∷ cells) (suc k) d up within = adjacent (b ∷ cells) k d up.1 (omega arith)
 
 AllAdjacentBelow-ascend : (cells : List (ℕ × ℤ)) → Ascend (items_in cells) → AllAdjacentBelow (λ a b. a.0 < b.0) cells (length cells)
 AllAdjacentBelow-ascend cells up k d within = rw add-one (adjacent cells k d up (omega arith))

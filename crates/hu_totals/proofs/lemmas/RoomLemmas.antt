@@ -1,8 +1,6 @@
 -- Totals stay within the sum of absolute values.
-use Rattle.std.proofs.Common.{◌≡◌, ◌≢◌, ℕ, zero, suc, ◌<◌, ◌≤◌, ◌+◌, ◌^◌, Bool, true, false, cond, eqb, nat_eq, ℤ, pos}
-use Rattle.std.proofs.Common.{◌+ℤ◌, unsigned_abs, List, [], ◌∷◌, fold, length, get_or, take, Some, refl, sym}
-use Rattle.std.proofs.Common.{ap, ◌∙◌, inl, inr, arith, sum_by}
-use Rattle.std.specs.List.{AllByRecursion}
+use Rattle.std.proofs.Common.{◌≡◌, ◌≢◌, ℕ, zero, suc, ◌<◌, ◌≤◌, ◌+◌, ◌^◌, Bool, true, false, cond, eqb, nat_eq, ℤ, pos, ◌+ℤ◌, unsigned_abs, List, [], ◌∷◌, fold}
+use Rattle.std.proofs.Common.{length, get_or, take, Some, refl, sym, ap, ◌∙◌, inl, inr, arith, sum_by}
 use Rattle.std.specs.Map.{lookup}
 use Rattle.std.specs.Option.{unwrap_or}
 use Rattle.std.proofs.lemmas.Int.{ints}
@@ -12,29 +10,15 @@ use Rattle.indexmap.specs.IndexMap.{insert_entry}
 use Rattle.hu_kind.specs.declared.item.Cell.{Cell}
 use Rattle.hu_kind.specs.Cell.{pair_of, pairs_of}
 use Rattle.hu_kind.specs.Order.{Ascend}
-use Rattle.hu_kind.specs.Record.{holds, value_of, utility_in, positive_part, gain, items_in, absolute_of}
+use Rattle.hu_kind.specs.Record.{holds, value_of, utility_in, gain, items_in, absolute_of}
 use Rattle.hu_kind.specs.Database.{utility, support, twu}
 use Rattle.hu_kind.proofs.lemmas.Earned.{positive_part-within, gain-within}
+use Rattle.hu_kind.proofs.lemmas.CellPlaces.{above-at}
 use Rattle.hu_totals.specs.declared.totals.ItemTotal.{ItemTotal}
 use Rattle.hu_totals.specs.Totals.{positive, total_of}
 use Rattle.hu_totals.specs.Adding.{no_total, total_in, with_cell, HasRoom}
 
 -- ---- a record's gain
-
-pub gain-more : (cells : List Cell) (i : ℕ) (d : Cell) → i < length cells → gain (pairs_of (take (suc i) cells))
-    ≡ gain (pairs_of (take i cells)) +ℤ positive_part (get_or cells i d).value
-gain-more [] i d within = absurd (omega arith)
-gain-more (cell ∷ cells) zero d within = omega (arith, ints)
-gain-more (cell ∷ cells) (suc i) d within = let ih = gain-more cells i d (omega arith) in omega (arith, ints)
-
-pub gain-take : (cells : List Cell) (i : ℕ) → unsigned_abs (gain (pairs_of (take i cells))) ≤ absolute_of (pairs_of cells)
-gain-take [] zero = omega arith
-gain-take [] (suc i) = omega arith
-gain-take (cell ∷ cells) zero = omega arith
-gain-take (cell ∷ cells) (suc i) =
-    let ih = gain-take cells i in
-    let head = positive_part-within cell.value in
-    omega (arith, ints, sum_by-cons (λ (c : ℕ × ℤ). unsigned_abs c.1) (pair_of cell) (pairs_of cells))
 
 -- a cell's value is within the sum
 pub value-within : (cells : List Cell) (i : ℕ) (d : Cell) → i < length cells → unsigned_abs (get_or cells i d).value ≤ absolute_of (pairs_of cells)
@@ -61,12 +45,6 @@ lookup-insert_other (e ∷ es) k item total ne = elim (cases_eq k e.0) [
       let no : eqb k e.0 ≡ false = ne_eqb k e.0 apart in
       rw no (ap (cond (eqb item e.0) (Some e.1)) (lookup-insert_other es k item total ne))
 ]
-
-above-at : (x : ℕ) (cells : List Cell) (k : ℕ) (d : Cell) → AllByRecursion (λ y. x < y) (items_in (pairs_of cells))
-    → k < length cells → x < (get_or cells k d).item.0
-above-at x [] k d above within = absurd (omega arith)
-above-at x (cell ∷ cells) zero d above within = above.0
-above-at x (cell ∷ cells) (suc k) d above within = above-at x cells k d above.1 (omega arith)
 
 pub total_in-before : (gained : ℤ) (totals : List (ℕ × ItemTotal)) (cells : List Cell) (i : ℕ) (d : Cell)
     → Ascend (items_in (pairs_of cells)) → i < length cells

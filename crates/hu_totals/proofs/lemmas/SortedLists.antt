@@ -1,13 +1,13 @@
 -- Lists that ascend strictly by an order, and numbers that stand once.
-use Rattle.std.proofs.Common.{◌≡◌, ◌≢◌, ℕ, false, eqb, List, [], ◌∷◌, refl, sym, ap, ◌∙◌, inl, inr, ◌⊎◌, Ordering, Less, Equal, Greater}
+use Rattle.std.proofs.Common.{◌≡◌, ◌≢◌, ℕ, false, eqb, List, [], ◌∷◌, refl, sym, ap, ◌∙◌, inl, inr, ◌⊎◌, Ordering, Less, Equal, Greater, suc, length}
 use Rattle.std.specs.List.{AllByRecursion, IsDistinct}
 use Rattle.std.specs.List.Sorted.{IsStrictlySortedBy}
 use Rattle.std.specs.Cmp.{IsTotalOrder}
-use Rattle.std.specs.Ordering.{match_ordering, ordering_reverse}
+use Rattle.std.specs.Ordering.{match_ordering, ordering_reverse, nat_cmp}
 use Rattle.std.specs.BTreeSet.{insert_key}
 use Rattle.std.proofs.lemmas.Cmp.{tied_itself}
 use Rattle.std.proofs.lemmas.Bool.{ne_eqb, eqb-false}
-use Rattle.std.proofs.lemmas.Map.Lookups.{CmpEqualImpliesEq}
+use Rattle.std.proofs.lemmas.Map.Lookups.{CmpEqualImpliesEq, exact_unsigned}
 use Rattle.hu_kind.specs.Order.{ranking}
 use Rattle.hu_kind.proofs.lemmas.Members.{Member}
 use Rattle.hu_kind.proofs.lemmas.Occurring.{at_member}
@@ -156,3 +156,18 @@ Once-from_sorted cmp o (x ∷ xs) up = (out, Once-from_sorted cmp o xs up.1)
         let below : cmp x x ≡ Less = at_member (λ z. cmp x z ≡ Less) x xs up.0 m in
         let never : Less ≡ Equal = sym below ∙ tied_itself o x in
         cc
+
+length-insert : (xs : List ℕ) (x : ℕ) → (Member x xs → ⊥) → length (insert_key nat_cmp xs x) ≡ suc (length xs)
+length-insert [] x out = refl
+length-insert (y ∷ ys) x out = by (nat_cmp x y) refl (length-insert ys x (λ m. out (inr m)))
+  where
+    by : (o : Ordering) → nat_cmp x y ≡ o → length (insert_key nat_cmp ys x) ≡ suc (length ys)
+        → length (insert_key nat_cmp (y ∷ ys) x) ≡ suc (length (y ∷ ys))
+    by Less e ih = rw e refl
+    by Greater e ih = rw e (ap suc ih)
+    by Equal e ih = absurd (out (inl (sym (exact_unsigned x y e))))
+
+pub length-ranking : (xs : List ℕ) → Once xs → length (ranking nat_cmp xs) ≡ length xs
+length-ranking [] once = refl
+length-ranking (x ∷ xs) once =
+    length-insert (ranking nat_cmp xs) x (λ m. once.0 (Member-from_ranking nat_cmp x xs m)) ∙ ap suc (length-ranking xs once.1)

@@ -1,7 +1,6 @@
 -- Items by their weight, and the steps of the loops that gather them.
-use Rattle.std.proofs.Common.{◌≡◌, ◌≢◌, ℕ, suc, ◌<◌, ◌≤◌, ◌+◌, ◌^◌, Bool, true, false, cond, eqb, nat_eq, ℤ, pos}
-use Rattle.std.proofs.Common.{int_le, List, [], ◌∷◌, ◌++◌, map, filter, length, get_or, take, slice_get, refl, sym, ap}
-use Rattle.std.proofs.Common.{◌∙◌, subst, inl, inr, arith, flat_map, Ordering, Less, Equal, Greater, nat_cmp}
+use Rattle.std.proofs.Common.{◌≡◌, ◌≢◌, ℕ, suc, ◌<◌, ◌≤◌, ◌+◌, ◌^◌, Bool, true, false, cond, eqb, nat_eq, ℤ, pos, int_le, List, [], ◌∷◌, ◌++◌, map, filter}
+use Rattle.std.proofs.Common.{length, get_or, take, slice_get, refl, sym, ap, ◌∙◌, subst, inl, inr, arith, flat_map, Ordering, Less, Equal, Greater, nat_cmp}
 use Rattle.std.proofs.Common.{append-nil, append_assoc}
 use Rattle.std.specs.List.{AllByRecursion, IsDistinct, list_any}
 use Rattle.std.specs.List.Sorted.{IsPermutation, IsSorted, IsStrictlySortedBy}
@@ -32,14 +31,14 @@ use Rattle.hu_kind.specs.Database.{twu, items_of}
 use Rattle.hu_kind.proofs.lemmas.Members.{Member-filter, Member-from_filter}
 use Rattle.hu_kind.proofs.lemmas.Occurring.{Member-ranking}
 use Rattle.hu_kind.proofs.lemmas.RankingLemmas.{IsExactOrder, ranking-permutation, ranking-sorted}
+use Rattle.hu_kind.proofs.lemmas.EntryOrder.{then_equal}
 use Rattle.hu_totals.specs.declared.totals.ItemTotal.{ItemTotal}
 use Rattle.hu_totals.specs.declared.weights.Weighed.{Weighed}
 use Rattle.hu_totals.specs.Totals.{first_seen, total_of, item_totals}
 use Rattle.hu_totals.specs.declared.weights.RankOrder.{RankOrder}
 use Rattle.hu_totals.specs.Ranked.{by_order, by_twu, ordered_items, smallness_of}
-use Rattle.hu_totals.specs.Weights.{Weight, weigh, weight_cmp, weights, by_weight, weight_of, numbers_of, dense_of, dense_cells}
+use Rattle.hu_totals.specs.Weights.{Weight, weigh, weight_cmp, weights, by_weight, weight_of, numbers_of, dense_of, dense_cells, same_item}
 use Rattle.hu_totals.proofs.lemmas.AddingLemmas.{Once-first_seen, Member-first_seen, Member-from_first_seen}
-use Rattle.hu_totals.specs.Weights.{same_item}
 use Rattle.hu_totals.proofs.lemmas.SortedLists.{Once, IsDistinct-from_once, Once-from_sorted, Member-from_ranking, sorted-ranking, ranking-members}
 
 -- ---- one place more
@@ -55,7 +54,7 @@ weights-append order floor (x ∷ xs) ys = by (int_le floor x.1.twu) (weights-ap
     by true ih = ap (λ ws. weigh order x ∷ ws) ih
     by false ih = ih
 
-place_more : {X : Type 0} (xs : List X) (i : ℕ) (d : X) → i < length xs → take (i + 1) xs ≡ take i xs ++ option_to_list (slice_get xs i)
+pub place_more : {X : Type 0} (xs : List X) (i : ℕ) (d : X) → i < length xs → take (i + 1) xs ≡ take i xs ++ option_to_list (slice_get xs i)
 place_more xs i d within = take_more xs i d within ∙ ap (λ one. take i xs ++ option_to_list one) (sym (slice_get-get_or xs i d within))
 
 no_entry : ℕ × ItemTotal
@@ -132,18 +131,13 @@ add-step ws i d keys keys' within so_far is =
 
 -- ---- weighed items sorted
 
-both_equal : (o p : Ordering) → ordering_then o p ≡ Equal → (o ≡ Equal) × (p ≡ Equal)
-both_equal Less p h = cc
-both_equal Equal p h = (refl, h)
-both_equal Greater p h = cc
-
 weight_total : IsTotalOrder weight_cmp
 weight_total = then_total (on_total (λ w. w.small) nat_cmp_total) (then_total (on_total (λ w. w.twu) int_cmp_total) (on_total (λ w. w.item) nat_cmp_total))
 
 weights_equal : CmpEqualImpliesEq weight_cmp
 weights_equal a b h =
-    let first = both_equal (nat_cmp a.small b.small) (ordering_then (int_cmp a.twu b.twu) (nat_cmp a.item b.item)) h in
-    let second = both_equal (int_cmp a.twu b.twu) (nat_cmp a.item b.item) first.1 in
+    let first = then_equal (nat_cmp a.small b.small) (ordering_then (int_cmp a.twu b.twu) (nat_cmp a.item b.item)) h in
+    let second = then_equal (int_cmp a.twu b.twu) (nat_cmp a.item b.item) first.1 in
     let small = exact_unsigned a.small b.small first.0 in
     let twu = exact_signed a.twu b.twu second.0 in
     let item = exact_unsigned a.item b.item second.1 in
@@ -270,7 +264,7 @@ by_order_total order records = then_total (on_total (λ item. smallness_of order
 
 pub by_order_exact : (order : RankOrder) (records : List (List (ℕ × ℤ))) → CmpEqualImpliesEq (by_order order records)
 by_order_exact order records x y h =
-    by_twu_exact records x y (both_equal (nat_cmp (smallness_of order (total_of records x)) (smallness_of order (total_of records y))) (by_twu records x y) h).1
+    by_twu_exact records x y (then_equal (nat_cmp (smallness_of order (total_of records x)) (smallness_of order (total_of records y))) (by_twu records x y) h).1
 
 module _ (order : RankOrder) (records : List (List (ℕ × ℤ))) where
   weigh_item : ℕ → Weight

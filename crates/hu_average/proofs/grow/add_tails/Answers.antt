@@ -1,11 +1,12 @@
-use Rattle.std.proofs.Common.{◌≡◌, ◌-◌, ◌+◌, ◌<◌, ◌++◌, ◌∷◌, [], pos, ◌+ℤ◌, to_z, of_z, cond, eqb, length, get_or}
-use Rattle.std.proofs.Common.{take, drop, ◌∙◌, subst, arith}
+use Rattle.std.proofs.Common.{◌≡◌, ◌-◌, ◌+◌, ◌<◌, ◌++◌, ◌∷◌, [], pos, ◌+ℤ◌, to_z, of_z, cond, eqb, length, get_or, take, drop, ◌∙◌, subst, arith}
 use Rattle.std.specs.Int.{w128}
 use Rattle.std.proofs.lemmas.Int.{ints}
 use Rattle.std.proofs.lemmas.List.{take_all, length-drop}
 use Rattle.hu_totals.specs.declared.ranked.Dense.{Dense}
-use Rattle.hu_average.specs.Tails.{left_from, cells_of, tails_at}
-use Rattle.hu_average.proofs.PassLemmas.{rank-at, value-within, lists-back}
+use Rattle.hu_totals.specs.View.{cells_of}
+use Rattle.hu_totals.proofs.lemmas.DenseLemmas.{rank-at, value-within}
+use Rattle.hu_average.specs.Tails.{left_from, tails_at}
+use Rattle.hu_average.proofs.PassLemmas.{lists-back}
 use Rattle.hu_average.proofs.grow.add_tails.Goals as goal
 
 no_cell : Dense

@@ -1,5 +1,6 @@
 use Rattle.std.proofs.Common.{◌≡◌, ℕ, ◌<◌, ◌≤◌, ◌++◌, length, get_or, drop}
-use Rattle.hu_average.specs.Tails.{left_from, cells_of, tails_at}
+use Rattle.hu_totals.specs.View.{cells_of}
+use Rattle.hu_average.specs.Tails.{left_from, tails_at}
 use Rattle.hu_average.proofs.grow.add_tails.Given as goal
 
 abbrev pub invariant-loop-place : goal.invariant-loop-place

@@ -5,12 +5,9 @@ use Rattle.std.proofs.lemmas.List.{length-append}
 use Rattle.hu_kind.specs.Order.{Ascend}
 use Rattle.hu_kind.proofs.lemmas.Each.{each-push, each-append, each-weaker}
 use Rattle.hu_kind.proofs.lemmas.Members.{Member, Member-append_left, Member-append_right}
+use Rattle.hu_kind.proofs.lemmas.Ascending.{Ascend-last}
 use Rattle.hu_average.specs.Children.{IsLater}
 use Rattle.hu_average.proofs.search.all_ranks.Goals as goal
-
-ascend-push : (xs : List ℕ) (z : ℕ) → Ascend xs → AllByRecursion (λ x. x < z) xs → Ascend (xs ++ z ∷ [])
-ascend-push [] z up below = (tt, tt)
-ascend-push (x ∷ xs) z up below = (each-append (λ y. x < y) xs (z ∷ []) up.0 (below.0, tt), ascend-push xs z up.1 below.1)
 
 pub loop-rank-preserved : goal.loop-rank-preserved
 loop-rank-preserved c =
@@ -23,7 +20,7 @@ loop-rank-preserved c =
       len = ap length pushed ∙ length-append old (z ∷ []) ∙ ap (λ n. n + 1) len;
       below = subst (AllByRecursion (λ x. x < z + 1)) (sym pushed)
           (each-push (λ x. x < z + 1) old z (each-weaker (λ x. x < z) (λ x. x < z + 1) old (λ x low. omega (arith, low)) was.below) (omega arith));
-      ascending = subst Ascend (sym pushed) (ascend-push old z was.ascending was.below);
+      ascending = subst Ascend (sym pushed) (Ascend-last old z was.ascending was.below);
       whole = λ x low. subst (Member x) (sym pushed) (elim (cases_lt x z) [
         | inl l ↦ Member-append_left x old (z ∷ []) (was.whole x l)
         | inr g ↦ Member-append_right x old (z ∷ []) (inl (omega (arith, low, g)))

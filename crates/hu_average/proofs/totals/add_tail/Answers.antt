@@ -1,8 +1,10 @@
 use Rattle.std.proofs.Common.{◌≡◌, ◌-◌, ◌+◌, ◌<◌, pos, length, get_or, drop, ◌∙◌, subst, arith}
 use Rattle.hu_totals.specs.declared.ranked.Dense.{Dense}
+use Rattle.hu_totals.specs.View.{cells_of}
+use Rattle.hu_totals.proofs.lemmas.DenseLemmas.{rank-at}
 use Rattle.hu_average.specs.Totals.{plus, total_at}
-use Rattle.hu_average.specs.Tails.{left_from, total_in, cells_of}
-use Rattle.hu_average.proofs.PassLemmas.{rank-at, totals-back, fits-back}
+use Rattle.hu_average.specs.Tails.{left_from, total_in}
+use Rattle.hu_average.proofs.PassLemmas.{totals-back, fits-back}
 use Rattle.hu_average.proofs.totals.add_tail.Goals as goal
 
 no_cell : Dense

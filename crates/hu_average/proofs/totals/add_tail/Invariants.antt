@@ -1,6 +1,7 @@
 use Rattle.std.proofs.Common.{◌≡◌, ℕ, ◌<◌, ◌≤◌, length, get_or, drop}
+use Rattle.hu_totals.specs.View.{cells_of}
 use Rattle.hu_average.specs.Totals.{plus, total_at}
-use Rattle.hu_average.specs.Tails.{left_from, total_in, cells_of}
+use Rattle.hu_average.specs.Tails.{left_from, total_in}
 use Rattle.hu_average.proofs.totals.add_tail.Given as goal
 
 abbrev pub invariant-loop-place : goal.invariant-loop-place

@@ -1,11 +1,12 @@
 use Rattle.std.proofs.Common.{◌∙◌, ◌++◌, ap, sym, subst, pos, get_or, option_to_list}
-use Rattle.hu_chain.specs.declared.place.Place.{Place}
 use Rattle.std.specs.List.{AllByRecursion}
+use Rattle.hu_chain.specs.declared.place.Place.{Place}
 use Rattle.hu_chain.specs.Bound.{IsFit}
 use Rattle.hu_chain.specs.Search.{IsPlaceOf}
 use Rattle.hu_chain.proofs.Tails.{found-after}
-use Rattle.hu_chain.proofs.Turns.{each-at, joined-next, fit-more}
+use Rattle.hu_chain.proofs.Turns.{joined-next, fit-more}
 use Rattle.hu_chain.proofs.chain.joined.Goals as goal
+use Rattle.hu_kind.proofs.lemmas.Each.{each-get}
 
 -- a place past the end
 no_place : Place
@@ -19,7 +20,7 @@ loop-place-preserved c =
     let k = c.loop-place.place-index in
     let made = c.loop-place.grown.items in
     let last = c.requires.places.0 in
-    let is = each-at (IsPlaceOf elements last) places k no_place c.requires.places.2 c.loop-place-test.true in
+    let is = each-get (IsPlaceOf elements last) places k no_place c.requires.places.2 c.loop-place-test.true in
     let here =
     c.ended.ensures.value ∙ found-after elements last c.args.item.0
     (get_or places k no_place) c.tail.result is c.requires.places.1 c.tail.ensures.plain c.tail.ensures.value in

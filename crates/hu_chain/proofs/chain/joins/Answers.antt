@@ -1,11 +1,12 @@
 use Rattle.std.proofs.Common.{◌≡◌, ◌∙◌, ap, pos, get_or, sym, is_some}
 use Rattle.hu_kind.specs.Cell.{pairs_of}
 use Rattle.hu_kind.specs.Record.{has}
+use Rattle.hu_kind.proofs.lemmas.Each.{each-get}
 use Rattle.hu_chain.specs.declared.place.Place.{Place}
 use Rattle.hu_chain.specs.Place.{element_at}
 use Rattle.hu_chain.specs.Search.{IsPlaceOf}
 use Rattle.hu_chain.proofs.Tails.{has-after, is_some-cell_in}
-use Rattle.hu_chain.proofs.Turns.{any-here, any-next, each-at}
+use Rattle.hu_chain.proofs.Turns.{any-here, any-next}
 use Rattle.hu_chain.proofs.chain.joins.Goals.{After-is_some}
 use Rattle.hu_chain.proofs.chain.joins.Goals as goal
 
@@ -23,7 +24,7 @@ here_at c =
     let k = c.loop-place.place-index in
     let place = get_or places k no_place in
     let last = c.requires.places.0 in
-    let is = each-at (IsPlaceOf elements last) places k no_place c.requires.places.2 c.loop-place-test.true in
+    let is = each-get (IsPlaceOf elements last) places k no_place c.requires.places.2 c.loop-place-test.true in
     let same = has-after elements last c.args.item.0 place is c.requires.places.1 c.tail.ensures.plain in
     c.is_some.ensures ∙ ap is_some c.cell_in.ensures
     ∙ is_some-cell_in c.args.item.0 (pairs_of c.tail.result.cells.now)

@@ -1,8 +1,8 @@
 use Rattle.std.proofs.Common.{ltb, rules}
 use Rattle.std.proofs.lemmas.List.Sorted.{IsPartitionPoint-from_clause, IsPartitionedBy-ltb}
 use Rattle.std.proofs.lemmas.Bool.{ltb-true, ltb-false}
-use Rattle.hu_chain.proofs.lemmas.Cells.{IsNonDecreasingBy-ascend}
 use Rattle.hu_chain.proofs.place.cells_below.Goals as goal
+use Rattle.hu_kind.proofs.lemmas.CellPlaces.{IsNonDecreasingBy-ascend}
 
 pub returns-clause-splits : goal.returns-clause-splits
 returns-clause-splits c =

@@ -2,7 +2,8 @@ use Rattle.std.proofs.Common.{◌+◌, drop, subst, take}
 use Rattle.std.specs.Prelude.{flat_map}
 use Rattle.hu_io.specs.State.{Broke}
 use Rattle.hu_input.specs.Part.{part_text}
-use Rattle.hu_input.proofs.PartLemmas.{flat_map-split, Appended-Broke, PutsAll-Broke}
+use Rattle.hu_input.proofs.PartLemmas.{Appended-Broke, PutsAll-Broke}
+use Rattle.hu_input.proofs.lemmas.Parts.{flat_map-split}
 use Rattle.hu_input.proofs.part.put_parts.Goals as goal
 
 pub returns-in_err-put_part : goal.returns-in_err-put_part

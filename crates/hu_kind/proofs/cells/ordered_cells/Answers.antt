@@ -1,5 +1,4 @@
-use Rattle.std.proofs.Common.{◌<◌, length, refl}
-use Rattle.std.specs.List.{AllAdjacentBelow}
+use Rattle.std.proofs.Common.{refl}
 use Rattle.std.proofs.lemmas.List.Sorted.{IsPermutation-refl}
 use Rattle.hu_kind.proofs.lemmas.CellsLemmas.{twice-ascending, items-strictly, by_item-ordered}
 use Rattle.hu_kind.proofs.cells.ordered_cells.Goals as goal

@@ -42,8 +42,8 @@ returns c =
     let within = best.within in
     let sum : to_z w128 (of_z w128 (to_z w128 (of_z w128 node.own) +ℤ to_z w128 (of_z w128 c.total.result))) ≡ node.own +ℤ sum_of c.deref-2.result.now =
     omega (arith, ints, least, within, c.requires.fits, c.total.ensures) in
-    let worth : c.positive.result ≡ positive_part (node.own +ℤ sum_of c.deref-2.result.now) = c.positive.ensures ∙ ap positive_part sum in
+    let worth : c.positive_part.result ≡ positive_part (node.own +ℤ sum_of c.deref-2.result.now) = c.positive_part.ensures.value ∙ ap positive_part sum in
     let part = positive_part-within (node.own +ℤ sum_of c.deref-2.result.now) in
-    let kept : to_z w128 (of_z w128 c.positive.result) ≡ positive_part (node.own +ℤ sum_of c.deref-2.result.now) =
+    let kept : to_z w128 (of_z w128 c.positive_part.result) ≡ positive_part (node.own +ℤ sum_of c.deref-2.result.now) =
     omega (arith, ints, worth, part, least, within, c.requires.fits) in
     kept ∙ ap (λ z. positive_part (node.own +ℤ z)) best.is

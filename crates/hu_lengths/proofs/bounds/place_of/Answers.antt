@@ -2,8 +2,8 @@ use Rattle.std.proofs.Common.{◌≡◌, ap, ◌∙◌, length, unwrap_or, int_l
 use Rattle.std.specs.Int.{w128}
 use Rattle.std.specs.List.{position}
 use Rattle.std.proofs.lemmas.Int.{to_z-of_z}
-use Rattle.hu_lengths.proofs.NodeLemmas.{unwrap_or-position}
 use Rattle.hu_lengths.proofs.bounds.place_of.Goals as goal
+use Rattle.hu_list.proofs.lemmas.Positions.{unwrap_or-position}
 
 pub returns-clause-value : goal.returns-clause-value
 returns-clause-value c =

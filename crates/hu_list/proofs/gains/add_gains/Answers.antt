@@ -3,12 +3,13 @@ use Rattle.std.specs.Int.{w128}
 use Rattle.std.proofs.lemmas.Int.{ints}
 use Rattle.hu_totals.specs.declared.ranked.Dense.{Dense}
 use Rattle.hu_totals.specs.Cells.{among}
+use Rattle.hu_totals.proofs.lemmas.DenseLemmas.{rank-at}
 use Rattle.hu_list.specs.Slots.{at}
 use Rattle.hu_list.specs.Tails.{share}
 use Rattle.hu_list.specs.Passes.{gaining}
 use Rattle.hu_list.specs.View.{tail_of}
 use Rattle.hu_list.proofs.ShareLemmas.{share-within}
-use Rattle.hu_list.proofs.PassLemmas.{rank-at, has-here, has-later, apart-later, pass-next}
+use Rattle.hu_list.proofs.PassLemmas.{has-here, has-later, apart-later, pass-next}
 use Rattle.hu_list.proofs.gains.add_gains.Goals as goal
 
 pub share-share-requires : goal.share-share-requires

@@ -1,16 +1,16 @@
-use Rattle.std.proofs.Common.{◌≡◌, ◌++◌, ◌∷◌, [], ℕ, List, pos, cond, get_or, length, drop, nat_lt, ◌&&◌, sym, ap, ◌∙◌}
-use Rattle.std.proofs.Common.{arith, ◌+ℤ◌, ◌+◌, ◌-◌, to_z, of_z, eqb, take}
+use Rattle.std.proofs.Common.{◌≡◌, ◌++◌, ◌∷◌, [], ℕ, List, pos, cond, get_or, length, drop, nat_lt, ◌&&◌, sym, ap, ◌∙◌, arith, ◌+ℤ◌, ◌+◌, ◌-◌, to_z, of_z, eqb}
+use Rattle.std.proofs.Common.{take}
 use Rattle.std.specs.Int.{w128}
 use Rattle.std.proofs.lemmas.List.{take_all, length-drop, length-map}
-use Rattle.hu_totals.specs.View.{dense_pair}
 use Rattle.std.proofs.lemmas.Int.{ints}
+use Rattle.hu_totals.specs.View.{dense_pair, cells_of}
 use Rattle.hu_totals.specs.declared.ranked.Dense.{Dense}
 use Rattle.hu_totals.specs.Cells.{among}
+use Rattle.hu_totals.proofs.lemmas.GainLemmas.{place-within}
 use Rattle.hu_list.specs.Slots.{at}
 use Rattle.hu_list.specs.Tails.{TailOf}
 use Rattle.hu_list.specs.Passes.{growing}
-use Rattle.hu_list.specs.View.{cells_of, tail_of, lists_of}
-use Rattle.hu_list.proofs.ShareLemmas.{place-within}
+use Rattle.hu_list.specs.View.{tail_of, lists_of}
 use Rattle.hu_list.proofs.PassLemmas.{pass-next}
 use Rattle.hu_list.proofs.grow.add_tails.Goals as goal
 

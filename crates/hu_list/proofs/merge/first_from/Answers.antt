@@ -1,6 +1,6 @@
 use Rattle.std.proofs.Common.{ap, sym, ◌∙◌, length, leb, unwrap_or, subst, ◌≤◌}
 use Rattle.hu_list.specs.declared.list.Node.{Node}
-use Rattle.hu_list.proofs.PlaceLemmas.{unwrap_or-position, position_or_len-le}
+use Rattle.hu_list.proofs.lemmas.Positions.{position_or_len-le, unwrap_or-position}
 use Rattle.hu_list.proofs.merge.first_from.Goals as goal
 
 pub returns-clause-value : goal.returns-clause-value

@@ -1,5 +1,5 @@
-use Rattle.std.proofs.Common.{rules, ◌≡◌, ◌<◌, ◌≤◌, ◌+◌, ◌-◌, ◌*◌, ◌≤ℤ◌, pos, [], ◌∷◌, ◌++◌, List, length, nat_eq, to_z}
-use Rattle.std.proofs.Common.{of_z, slice_index_or, inl, inr, refl, sym, ap, ◌∙◌, subst, arith}
+use Rattle.std.proofs.Common.{rules, ◌≡◌, ◌<◌, ◌≤◌, ◌+◌, ◌-◌, ◌*◌, ◌≤ℤ◌, pos, [], ◌∷◌, ◌++◌, List, length, nat_eq, to_z, of_z, slice_index_or, inl, inr, refl}
+use Rattle.std.proofs.Common.{sym, ap, ◌∙◌, subst, arith}
 use Rattle.std.specs.List.{AllByRecursion, IsDistinct}
 use Rattle.std.specs.Int.{w128}
 use Rattle.std.proofs.lemmas.Bool.{eqb-true}
@@ -12,18 +12,16 @@ use Rattle.hu_collect.proofs.lemmas.Searching.{stopped}
 use Rattle.hu_search.specs.declared.child.Child.{Child}
 use Rattle.hu_search.specs.Growth.{Grows, InTable}
 use Rattle.hu_search.specs.Children.{AreChildren, IsOneOf, AreEnough, IsBarren, ranks_of}
-use Rattle.hu_search.proofs.lemmas.Children.{offered-some, upto-none}
+use Rattle.hu_search.proofs.lemmas.Children.{offered-some, upto-none, barren-reached}
 use Rattle.hu_list.specs.declared.tail.Tail.{Tail}
 use Rattle.hu_list.specs.View.{tails_of, lists_of, tail_of}
 use Rattle.hu_list.specs.Board.{HasRoom}
 use Rattle.hu_list.specs.Level.{IsLeft, IsLevel, AreChosen, AreGrown}
-use Rattle.hu_list.proofs.SearchLemmas.{next, next-push, next-below, last-in, barren-reached, empty-barren, chosen-children}
+use Rattle.hu_list.proofs.SearchLemmas.{next, next-push, next-below, last-in, empty-barren, chosen-children}
 use Rattle.hu_list.proofs.LengthLemmas.{longest-reached}
-use Rattle.hu_list.proofs.TurnLemmas.{offers-as, offered-stopped, so_far-ordered, so_far-rule, so_far-rises}
-use Rattle.hu_list.proofs.TurnLemmas.{so_far-once, so_far-within, so_far-all, so_far-child, so_far-enough, so_far-left}
-use Rattle.hu_list.proofs.TurnLemmas.{so_far-next, so_far-some}
-use Rattle.hu_list.proofs.search.+search.Goals.{enter-then-is_empty-via-then-is_empty}
-use Rattle.hu_list.proofs.search.+search.Goals.{enter-then-is_empty-via-else-is_empty+in_ok-opens+then-not-branch}
+use Rattle.hu_list.proofs.TurnLemmas.{offers-as, offered-stopped, so_far-ordered, so_far-rule, so_far-rises, so_far-once, so_far-within, so_far-all}
+use Rattle.hu_list.proofs.TurnLemmas.{so_far-child, so_far-enough, so_far-left, so_far-next, so_far-some}
+use Rattle.hu_list.proofs.search.+search.Goals.{enter-then-is_empty-via-then-is_empty, enter-then-is_empty-via-else-is_empty+in_ok-opens+then-not-branch}
 use Rattle.hu_list.proofs.search.+search.Goals.{search-else-chosen-test, search-then-chosen-test+then-child-floor}
 use Rattle.hu_list.proofs.search.+search.Goals as goal
 

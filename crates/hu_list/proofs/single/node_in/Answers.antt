@@ -15,8 +15,8 @@ pub returns-in_err-at : goal.returns-in_err-at
 returns-in_err-at c = ap option_to_list c.from_residual.ensures
     ∙ sym (node_in-none c.args.place c.args.rank c.args.cells.now (sym c.place_of.ensures ∙ c.in_err-at.was))
 
-pub gain-requires : goal.gain-requires
-gain-requires c =
+pub gain_of-requires : goal.gain_of-requires
+gain_of-requires c =
     let cells = c.args.cells.now in
     let within = absolute_of-drop cells (c.in_ok-at.at + 1) in
     rw (take_rest cells (c.in_ok-at.at + 1)) (omega (arith, within, c.requires))
@@ -27,7 +27,7 @@ returns c =
     let cells = c.args.cells.now in
     let at = c.in_ok-at.at in
     let found = node_in-at c.args.place c.args.rank at cells no_cell (sym c.place_of.ensures ∙ c.in_ok-at.was) in
-    let rest : c.gain.result ≡ gain (map dense_pair (drop (suc at) cells)) = c.gain.ensures
+    let rest : c.gain_of.result ≡ gain (map dense_pair (drop (suc at) cells)) = c.gain_of.ensures
     ∙ ap (λ cs. gain (map dense_pair cs)) (take_rest cells (at + 1) ∙ ap (λ n. drop n cells) (add-one at)) in
     same_single c.args.place _ (get_or cells at no_cell).value _ (gain (map dense_pair (drop (suc at) cells))) _
-    (omega (arith, ints)) (omega (arith, ints, rest, c.gain.type_inv)) found
+    (omega (arith, ints)) (omega (arith, ints, rest, c.gain_of.type_inv)) found

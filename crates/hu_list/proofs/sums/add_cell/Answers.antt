@@ -1,7 +1,8 @@
-use Rattle.std.proofs.Common.{◌≡◌, ◌+ℤ◌, ◌+◌, ◌<◌, true, cond, unsigned_abs, to_z, of_z, get_or, length, sym, ap, ◌∙◌, subst, arith}
+use Rattle.std.proofs.Common.{◌≡◌, ◌+ℤ◌, ◌+◌, ◌<◌, true, cond, pos, unsigned_abs, to_z, of_z, get_or, length, sym, ap, ◌∙◌, subst, arith}
 use Rattle.std.specs.Int.{w128}
 use Rattle.std.proofs.lemmas.Int.{ints}
 use Rattle.std.proofs.lemmas.List.{get_or_read}
+use Rattle.hu_kind.specs.Record.{positive_part}
 use Rattle.hu_list.specs.declared.sums.Sum.{Sum}
 use Rattle.hu_list.specs.Slots.{at}
 use Rattle.hu_list.specs.Passes.{no_sum, sum_with, SumsFit}
@@ -46,3 +47,11 @@ returns-in-Some-clause-sums c z =
     let worth : c.with.result ≡ change (at no_sum ranks sums rank) =
     made ∙ sym (ap (λ b. cond b (sum_with (at no_sum ranks sums rank) (c.args.own +ℤ c.args.cell.now.value) c.args.rest) (at no_sum ranks sums rank)) kept) in
     at-set no_sum ranks sums rank c.in-Some.slot c.with.result place within z ∙ changed_at (at no_sum ranks sums) change rank c.with.result worth z
+
+pub returns-in-Some-clause-part : goal.returns-in-Some-clause-part
+returns-in-Some-clause-part c =
+    let value = c.args.cell.now.value in
+    let same : to_z w128 (of_z w128 value) ≡ value = omega (arith, ints, c.requires.fits.utility) in
+    let out : to_z w128 (of_z w128 c.positive_part.result) ≡ c.positive_part.result = omega (arith, ints, c.positive_part.type_inv) in
+    let kept : among c.args.cell.now.rank c.args.slots.now.ranks ≡ true = place-among c.args.slots.now.ranks c.args.cell.now.rank c.in-Some.slot c.in-Some.ensures in
+    out ∙ c.positive_part.ensures.value ∙ ap positive_part same ∙ sym (ap (λ b. cond b (positive_part value) (pos 0)) kept)

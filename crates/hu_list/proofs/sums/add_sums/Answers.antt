@@ -3,12 +3,13 @@ use Rattle.std.specs.Int.{w128}
 use Rattle.std.proofs.lemmas.Int.{ints}
 use Rattle.hu_totals.specs.declared.ranked.Dense.{Dense}
 use Rattle.hu_totals.specs.Cells.{among, kept_gain}
+use Rattle.hu_totals.specs.View.{cells_of}
+use Rattle.hu_totals.proofs.lemmas.GainLemmas.{kept_gain-rest, place-within, rest-within}
 use Rattle.hu_list.specs.declared.sums.Sum.{Sum}
 use Rattle.hu_list.specs.Slots.{at}
 use Rattle.hu_list.specs.Tails.{size_of}
 use Rattle.hu_list.specs.Passes.{met, summing, no_sum, sum_with, SumsFit}
-use Rattle.hu_list.specs.View.{tail_of, cells_of}
-use Rattle.hu_list.proofs.ShareLemmas.{place-within, rest-within, kept_gain-rest}
+use Rattle.hu_list.specs.View.{tail_of}
 use Rattle.hu_list.proofs.PassLemmas.{rank-below, met-below, pass-back, fits-less}
 use Rattle.hu_list.proofs.sums.add_sums.Goals as goal
 

@@ -1,8 +1,9 @@
 use Rattle.std.proofs.Common.{◌≡◌, ℕ, length, drop, ◌-◌}
 use Rattle.hu_list.specs.Slots.{at}
-use Rattle.hu_totals.specs.Cells.{kept_gain}
 use Rattle.hu_list.specs.Passes.{met, summing, no_sum}
-use Rattle.hu_list.specs.View.{tail_of, cells_of}
+use Rattle.hu_list.specs.View.{tail_of}
+use Rattle.hu_totals.specs.Cells.{kept_gain}
+use Rattle.hu_totals.specs.View.{cells_of}
 use Rattle.hu_list.proofs.sums.add_sums.Given as goal
 
 abbrev pub invariant-loop-back : goal.invariant-loop-back

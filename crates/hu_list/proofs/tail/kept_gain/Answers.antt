@@ -3,8 +3,9 @@ use Rattle.std.specs.Int.{w128}
 use Rattle.std.proofs.lemmas.Int.{ints, to_z-of_z}
 use Rattle.hu_totals.specs.declared.ranked.Dense.{Dense}
 use Rattle.hu_totals.specs.Cells.{kept_gain}
-use Rattle.hu_list.specs.View.{cells_of}
-use Rattle.hu_list.proofs.ShareLemmas.{kept_gain-more, kept_gain-take}
+use Rattle.hu_totals.specs.View.{cells_of}
+use Rattle.hu_totals.proofs.lemmas.GainLemmas.{kept_gain-take}
+use Rattle.hu_list.proofs.ShareLemmas.{kept_gain-more}
 use Rattle.hu_list.proofs.tail.kept_gain.Goals.{After-kept_part-gain}
 use Rattle.hu_list.proofs.tail.kept_gain.Goals as goal
 

@@ -1,6 +1,6 @@
 use Rattle.std.proofs.Common.{◌≡◌, take}
 use Rattle.hu_totals.specs.Cells.{kept_gain}
-use Rattle.hu_list.specs.View.{cells_of}
+use Rattle.hu_totals.specs.View.{cells_of}
 use Rattle.hu_list.proofs.tail.kept_gain.Given as goal
 
 abbrev pub invariant-loop-cell : goal.invariant-loop-cell

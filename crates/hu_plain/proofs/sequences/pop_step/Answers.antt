@@ -1,5 +1,6 @@
 use Rattle.std.proofs.Common.{◌∙◌, ap, pos}
-use Rattle.hu_plain.specs.Growth.{closed, stepped_key}
+use Rattle.hu_kind.specs.Sequence.{closed}
+use Rattle.hu_plain.specs.Growth.{stepped_key}
 use Rattle.hu_plain.proofs.SearchLemmas.{popped}
 use Rattle.hu_plain.proofs.PlaceLemmas.{popped_closed}
 use Rattle.hu_plain.proofs.sequences.pop_step.Goals as goal

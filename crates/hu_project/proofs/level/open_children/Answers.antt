@@ -16,10 +16,7 @@ use Rattle.hu_project.proofs.PreparedLemmas.{AreOffered, some-offers, IsNarrow-k
 use Rattle.hu_project.proofs.level.open_children.Given.{Over}
 use Rattle.hu_project.proofs.level.open_children.Goals.{In_ok-kept}
 use Rattle.hu_project.proofs.level.open_children.Goals as goal
-
-on_err : {T E : Type 0} (result : Result T E) (P : Type 0) → P → OnErr result P
-on_err (Ok x) P p = tt
-on_err (Err e) P p = p
+use Rattle.hu_collect.proofs.lemmas.Searching.{on_err}
 
 pub offer_children-requires-clause-children : goal.offer_children-requires-clause-children
 offer_children-requires-clause-children g c =

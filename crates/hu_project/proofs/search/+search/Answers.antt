@@ -1,19 +1,20 @@
 use Rattle.std.proofs.Common.{rules, ◌≡◌, ◌<◌, ◌≤◌, ◌+◌, ◌-◌, ◌*◌, ◌<ℤ◌, pos, [], ◌∷◌, ◌++◌, length, get_or, refl, sym, ap, ◌∙◌, subst, arith, inl, inr}
 use Rattle.std.proofs.lemmas.Int.{ints}
+use Rattle.std.specs.declared.vec.Vec.{Vec}
+use Rattle.std.specs.declared.alloc.Global.{Global}
+use Rattle.std.proofs.lemmas.List.{get_or-map, length-map, length-append}
 use Rattle.hu_collect.specs.State.{floor_in, IsInOrder, Reached, ReachedSome}
 use Rattle.hu_collect.specs.Ranks.{RestsOn}
 use Rattle.hu_rows.specs.declared.places.Place.{Place}
 use Rattle.hu_rows.specs.Handed.{handed, ArePlaces}
 use Rattle.hu_rows.specs.Places.{lists_in}
-use Rattle.std.specs.declared.vec.Vec.{Vec}
-use Rattle.std.specs.declared.alloc.Global.{Global}
-use Rattle.std.proofs.lemmas.List.{get_or-map, length-map, length-append}
 use Rattle.hu_search.specs.declared.child.Child.{Child}
 use Rattle.hu_search.specs.Growth.{Grows}
 use Rattle.hu_search.specs.Children.{IsBarren}
+use Rattle.hu_search.proofs.lemmas.Children.{barren-reached}
 use Rattle.hu_project.specs.Level.{IsSoFar, IsLater, IsLevel}
-use Rattle.hu_project.proofs.TurnLemmas.{so_far-none, so_far-ordered, so_far-rule, so_far-all, turn-later, turn-level, turn-places, so_far-next}
-use Rattle.hu_project.proofs.TurnLemmas.{so_far-some, barren-none, few-ranks}
+use Rattle.hu_project.proofs.TurnLemmas.{so_far-none, so_far-ordered, so_far-rule, so_far-all, turn-later, turn-level, turn-places, so_far-next, so_far-some}
+use Rattle.hu_project.proofs.TurnLemmas.{few-ranks}
 use Rattle.hu_project.proofs.search.+search.Goals as goal
 
 pub search-children-init : goal.search-children-init
@@ -125,4 +126,4 @@ enter-returns-then-not-branch-clause-made g t c =
     let barren : IsBarren (g.C.Collect.state c.args.collect.now) c.args.ranked.now (c.args.ranks.now.items ++ c.args.rank ∷ []) =
     subst (λ set. IsBarren (g.C.Collect.state c.args.collect.now) c.args.ranked.now (set ++ c.args.rank ∷ [])) c.deref.ensures.value
     (c.in_ok-opens.ensures c.if-not-branch.true) in
-    barren-none (g.C.Collect.state c.args.collect.now) c.args.ranked.now (c.args.ranks.now.items ++ c.args.rank ∷ []) c.requires.ordered barren
+    barren-reached (g.C.Collect.state c.args.collect.now) c.args.ranked.now (c.args.ranks.now.items ++ c.args.rank ∷ []) c.requires.ordered barren

@@ -1,6 +1,7 @@
 use Rattle.std.proofs.Common.{sym}
-use Rattle.hu_proof.proofs.Orders.{member-among, not_among}
+use Rattle.hu_proof.proofs.Orders.{member-among}
 use Rattle.hu_proof.proofs.Ranks.{StandsAt-position, not_among-drop, Member-drop, not_in-drop, after-drop}
+use Rattle.hu_proof.proofs.lemmas.OrderMembers.{not_among}
 use Rattle.hu_proof.proofs.place.later_rank.Goals as goal
 
 pub returns-in_err-rank-clause-none : goal.returns-in_err-rank-clause-none

@@ -1,8 +1,8 @@
 use Rattle.std.proofs.Common.{◌∙◌, sym, ◌≤◌, length, ◌⊎◌, inl, inr, arith}
-use Rattle.hu_rows.specs.View.{cells_of}
-use Rattle.hu_rows.proofs.AddedCells.{added_cells-none, fits-added, step-added, end-added}
 use Rattle.std.proofs.lemmas.Bool.{cases_lt}
+use Rattle.hu_rows.proofs.AddedCells.{added_cells-none, fits-added, step-added, end-added}
 use Rattle.hu_rows.proofs.PastEnd.{past_cell}
+use Rattle.hu_totals.specs.View.{cells_of}
 use Rattle.hu_rows.proofs.merge.add_cells.Goals as goal
 
 pub loop-i-init : goal.loop-i-init

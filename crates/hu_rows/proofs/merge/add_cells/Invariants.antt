@@ -1,6 +1,6 @@
 use Rattle.std.proofs.Common.{◌≡◌, take}
+use Rattle.hu_totals.specs.View.{cells_of}
 use Rattle.hu_rows.specs.Merging.{added_cells}
-use Rattle.hu_rows.specs.View.{cells_of}
 use Rattle.hu_rows.proofs.merge.add_cells.Given as goal
 
 abbrev pub invariant-loop-i : goal.invariant-loop-i

@@ -2,8 +2,9 @@ use Rattle.std.proofs.Common.{◌≡◌, ◌≤◌, take, length, reverse}
 use Rattle.std.specs.Ordering.{nat_cmp}
 use Rattle.std.specs.Cmp.Lexicographic.{slice_cmp}
 use Rattle.hu_rows.specs.Merging.{row_cmp}
-use Rattle.hu_rows.specs.View.{cells_of, row_of}
+use Rattle.hu_rows.specs.View.{row_of}
 use Rattle.hu_kind.specs.Record.{items_in}
+use Rattle.hu_totals.specs.View.{cells_of}
 use Rattle.hu_rows.proofs.merge.compare.Given as goal
 
 abbrev pub invariant-loop-left : goal.invariant-loop-left

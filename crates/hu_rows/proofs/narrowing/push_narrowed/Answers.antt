@@ -1,9 +1,9 @@
 use Rattle.std.proofs.Common.{◌≡◌, ◌∙◌, ◌<◌, length, eqb, cond, ap, refl, arith, rules}
 use Rattle.std.specs.Int.{w128}
 use Rattle.std.proofs.lemmas.Int.{to_z-of_z}
+use Rattle.hu_totals.specs.View.{cells_of}
 use Rattle.hu_rows.specs.declared.rows.Row.{Row}
 use Rattle.hu_rows.specs.Handed.{reaches, only}
-use Rattle.hu_rows.specs.View.{cells_of}
 use Rattle.hu_rows.proofs.NarrowingLemmas.{cells-chosen, narrowed-some, narrowed-none}
 use Rattle.hu_rows.proofs.narrowing.push_narrowed.Goals as goal
 

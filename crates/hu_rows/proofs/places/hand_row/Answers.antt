@@ -1,10 +1,10 @@
 use Rattle.std.proofs.Common.{◌<◌, ◌∙◌, ◌++◌, ℕ, ◌-◌, length, to_z, of_z, ap, arith}
 use Rattle.std.specs.Int.{w128}
 use Rattle.std.proofs.lemmas.Int.{to_z-of_z}
+use Rattle.hu_totals.specs.View.{cells_of}
+use Rattle.hu_totals.proofs.lemmas.DenseLemmas.{rank-at}
 use Rattle.hu_rows.specs.Handed.{reaches, places_at}
 use Rattle.hu_rows.specs.Places.{lists_in, places_in}
-use Rattle.hu_rows.specs.View.{cells_of}
-use Rattle.hu_rows.proofs.NarrowingLemmas.{rank-each}
 use Rattle.hu_rows.proofs.PlaceLemmas.{hand-more, hand-end}
 use Rattle.hu_rows.proofs.PastEnd.{past_cell}
 use Rattle.hu_rows.proofs.places.hand_row.Goals as goal
@@ -13,7 +13,7 @@ pub reaches-requires : goal.reaches-requires
 reaches-requires c =
     omega (
       arith,
-      rank-each (λ (rank : ℕ). rank < length (lists_in c.args.lists.now.items)) c.args.cells.now (c.loop-next.next - 1) past_cell c.requires.below
+      rank-at (λ (rank : ℕ). rank < length (lists_in c.args.lists.now.items)) c.args.cells.now (c.loop-next.next - 1) past_cell c.requires.below
           (omega arith),
       c.requires.told,
     )
@@ -22,7 +22,7 @@ pub push_place-requires : goal.push_place-requires
 push_place-requires c =
     omega (
       arith,
-      rank-each (λ (rank : ℕ). rank < length (lists_in c.args.lists.now.items)) c.args.cells.now (c.loop-next.next - 1) past_cell c.requires.below
+      rank-at (λ (rank : ℕ). rank < length (lists_in c.args.lists.now.items)) c.args.cells.now (c.loop-next.next - 1) past_cell c.requires.below
           (omega arith),
       c.loop-next.invariant.len,
     )

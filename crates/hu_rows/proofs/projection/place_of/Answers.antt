@@ -2,7 +2,7 @@ use Rattle.std.proofs.Common.{◌≡◌, ℕ, sym, subst, rules, false, MatchOpt
 use Rattle.std.proofs.lemmas.List.Sorted.{answers_always}
 use Rattle.hu_kind.specs.Record.{items_in, has}
 use Rattle.hu_totals.specs.declared.ranked.Dense.{Dense}
-use Rattle.hu_rows.specs.View.{cells_of}
+use Rattle.hu_totals.specs.View.{cells_of}
 use Rattle.hu_rows.proofs.CellChecks.{place-searched}
 use Rattle.hu_rows.proofs.projection.place_of.Goals as goal
 

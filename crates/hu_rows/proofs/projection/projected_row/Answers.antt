@@ -2,10 +2,10 @@ use Rattle.std.proofs.Common.{◌≡◌, ◌∷◌, [], ◌+ℤ◌, to_z, of_z, 
 use Rattle.std.specs.Int.{w128}
 use Rattle.std.proofs.lemmas.Int.{ints}
 use Rattle.hu_rows.specs.View.{row_with}
-use Rattle.hu_rows.proofs.AddedCells.{value-within}
 use Rattle.hu_rows.proofs.CellChecks.{projected_row-at}
 use Rattle.hu_rows.proofs.PastEnd.{past_cell}
 use Rattle.hu_rows.proofs.projection.projected_row.Goals as goal
+use Rattle.hu_totals.proofs.lemmas.DenseLemmas.{value-within}
 
 pub overflow_add-result : goal.overflow_add-result
 overflow_add-result c =

@@ -14,6 +14,6 @@ returns c =
     let two : to_z w128 (of_z w128 (to_z w128 (of_z w128 c.args.before) +ℤ to_z w128 (of_z w128 c.args.value))) ≡ c.args.before +ℤ c.args.value =
     ap (λ z. to_z w128 (of_z w128 z)) (λ j. before j +ℤ value j) ∙ same-fit (c.args.before +ℤ c.args.value) (omega (arith, ints, c.requires)) in
     let three = same-fit (c.args.before +ℤ c.args.value +ℤ c.args.rest) (omega (arith, ints, c.requires)) in
-    let share = c.positive.ensures ∙ ap positive_part (ap (λ z. to_z w128 (of_z w128 z)) (λ j. two j +ℤ rest j) ∙ three) in
+    let share = c.positive_part.ensures.value ∙ ap positive_part (ap (λ z. to_z w128 (of_z w128 z)) (λ j. two j +ℤ rest j) ∙ three) in
     ap (λ z. to_z w128 (of_z w128 z)) share ∙ same-fit (positive_part (c.args.before +ℤ c.args.value +ℤ c.args.rest))
     (omega (arith, ints, positive_part-within (c.args.before +ℤ c.args.value +ℤ c.args.rest), c.requires))

@@ -2,11 +2,12 @@ use Rattle.std.proofs.Common.{◌≡◌, ◌-◌, ◌∙◌, drop, get_or, ap, t
 use Rattle.std.specs.Int.{w128}
 use Rattle.std.proofs.lemmas.Int.{ints}
 use Rattle.hu_kind.specs.Record.{gain}
-use Rattle.hu_rows.specs.View.{cells_of, row_of}
+use Rattle.hu_kind.proofs.lemmas.Earned.{gain-within}
+use Rattle.hu_rows.specs.View.{row_of}
 use Rattle.hu_rows.proofs.SettingLemmas.{same-fit}
 use Rattle.hu_rows.proofs.TallyLemmas.{gain-room, gain-step, most-is}
 use Rattle.hu_rows.proofs.PastEnd.{past_cell}
-use Rattle.hu_kind.proofs.lemmas.Earned.{gain-within}
+use Rattle.hu_totals.specs.View.{cells_of}
 use Rattle.hu_rows.proofs.tally.most.Goals as goal
 
 pub with_gain-sum-requires : goal.with_gain-sum-requires
@@ -42,4 +43,4 @@ returns c =
     let end : c.loop-place.place ≡ 0 = omega arith in
     let whole : to_z w128 c.loop-place.sum-bits ≡ gain (cells_of c.args.row.now.cells.now) = c.loop-place.invariant.sum
     ∙ ap (λ n. gain (cells_of (drop n c.args.row.now.cells.now))) end in
-    most-is (row_of c.args.row.now) (to_z w128 c.loop-place.sum-bits) c.positive.result whole c.requires c.positive.ensures
+    most-is (row_of c.args.row.now) (to_z w128 c.loop-place.sum-bits) c.positive_part.result whole c.requires c.positive_part.ensures.value

@@ -1,6 +1,6 @@
 use Rattle.std.proofs.Common.{◌≡◌, ◌≤◌, length, drop}
 use Rattle.hu_kind.specs.Record.{gain}
-use Rattle.hu_rows.specs.View.{cells_of}
+use Rattle.hu_totals.specs.View.{cells_of}
 use Rattle.hu_rows.proofs.tally.most.Given as goal
 
 abbrev pub invariant-loop-place : goal.invariant-loop-place

@@ -1,8 +1,9 @@
 use Rattle.std.proofs.Common.{◌-◌, ◌∙◌, refl, sym, get_or, length, unsigned_abs, ap, arith}
 use Rattle.std.proofs.lemmas.Int.{ints}
 use Rattle.hu_kind.specs.Record.{gain}
+use Rattle.hu_totals.specs.View.{cells_of}
 use Rattle.hu_rows.specs.Tally.{tail_share}
-use Rattle.hu_rows.specs.View.{cells_of, row_of}
+use Rattle.hu_rows.specs.View.{row_of}
 use Rattle.hu_rows.proofs.SettingLemmas.{same-fit}
 use Rattle.hu_rows.proofs.TallyLemmas.{Turn-at, adds-none, turn-rank, turn-value, turn-earned, turn-fits, turn-adds, turn-sum, turn-rest, turn-given}
 use Rattle.hu_rows.proofs.TallyLemmas.{tail_most-within, gain-room, gain-step, gain-end}

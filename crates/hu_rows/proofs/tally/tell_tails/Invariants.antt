@@ -1,7 +1,8 @@
 use Rattle.std.proofs.Common.{◌≡◌, ◌≤◌, length, drop}
 use Rattle.hu_kind.specs.Record.{gain}
+use Rattle.hu_totals.specs.View.{cells_of}
 use Rattle.hu_rows.specs.Tally.{tail_share, Adds}
-use Rattle.hu_rows.specs.View.{cells_of, row_of}
+use Rattle.hu_rows.specs.View.{row_of}
 use Rattle.hu_rows.proofs.TallyLemmas.{told_by}
 use Rattle.hu_rows.proofs.tally.tell_tails.Given as goal
 

@@ -3,8 +3,8 @@ use Rattle.std.specs.Prelude.{flat_map}
 use Rattle.hu_io.specs.State.{Broke}
 use Rattle.hu_io.proofs.lemmas.PutLemmas.{Broke-append, Broke-longer, PutsAll-from_err}
 use Rattle.hu_run.specs.Answer.{line_text}
-use Rattle.hu_run.proofs.LineLemmas.{flat_map-split}
 use Rattle.hu_run.proofs.answer.write_lines.Goals as goal
+use Rattle.hu_input.proofs.lemmas.Parts.{flat_map-split}
 
 pub returns-in_err-write_summary : goal.returns-in_err-write_summary
 returns-in_err-write_summary g c =

@@ -2,6 +2,7 @@ use Rattle.std.proofs.Common.{◌≡◌, ◌∙◌, ◌<◌, ◌++◌, suc, pos,
 use Rattle.std.proofs.Common.{append_assoc, append-nil}
 use Rattle.std.specs.List.{AllByRecursion}
 use Rattle.std.proofs.lemmas.List.{get_or-map, length-map, take_all, take_more}
+use Rattle.std.proofs.lemmas.List.Elements.{filter-append}
 use Rattle.hu_kind.proofs.lemmas.Each.{each-push}
 use Rattle.hu_kind.specs.Sequence.{IsSequence}
 use Rattle.hu_chain.specs.Place.{totals}
@@ -11,7 +12,6 @@ use Rattle.hu_span.specs.Mark.{record_at}
 use Rattle.hu_span.specs.Trail.{cells_from, trail_marks, trail_spans, AreSpans}
 use Rattle.hu_span.proofs.BeginLemmas.{first-fit, first-marks, first-spans}
 use Rattle.hu_span.proofs.GatherLemmas.{first_from}
-use Rattle.hu_span.proofs.MarkLemmas.{filter-append}
 use Rattle.hu_span.proofs.RowsLemmas.{first-kept, first-next, record_at-any}
 use Rattle.hu_span.proofs.SpanLemmas.{spans-append}
 use Rattle.hu_span.proofs.ThinLemmas.{spans-grown}

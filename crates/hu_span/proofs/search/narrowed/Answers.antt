@@ -13,8 +13,9 @@ use Rattle.hu_span.specs.Cut.{AreBelow, AreOpen}
 use Rattle.hu_span.specs.Kept.{keeps, weighed_of}
 use Rattle.hu_span.specs.Search.{IsOneOf}
 use Rattle.hu_span.specs.Step.{pattern_of}
-use Rattle.hu_span.proofs.SearchLemmas.{marks-fit, ended, marks-within, narrowed-all, offered-some, narrows-stopped}
+use Rattle.hu_span.proofs.SearchLemmas.{ended, marks-within, narrowed-all, offered-some, narrows-stopped}
 use Rattle.hu_span.proofs.WeighedLemmas.{weighed-records}
+use Rattle.hu_span.proofs.RowsLemmas.{fit-each}
 use Rattle.hu_span.proofs.search.narrowed.Goals as goal
 
 pub set_reaches-requires-clause-within : goal.set_reaches-requires-clause-within
@@ -26,7 +27,7 @@ set_reaches-requires-clause-within g c =
 pub set_reaches-requires-clause-fit : goal.set_reaches-requires-clause-fit
 set_reaches-requires-clause-fit g c =
     subst (λ ms. AllByRecursion IsFit (places_of ms)) (sym c.deref.ensures.value)
-    (marks-fit (weighed_of (keeps c.args.level.kept.now) c.args.level.records.now) _ c.args.held.now.marks.items c.requires.held.places.each)
+    (fit-each (weighed_of (keeps c.args.level.kept.now) c.args.level.records.now) _ c.args.held.now.marks.items c.requires.held.places.each)
 
 pub scanned-requires : goal.scanned-requires
 scanned-requires g c = (keeps c.args.level.kept.now, c.args.level.records.now, pattern_of c.args.steps.now.items, c.requires.held)

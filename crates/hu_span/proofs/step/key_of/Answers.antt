@@ -2,7 +2,8 @@ use Rattle.std.proofs.Common.{◌∙◌, [], sym, ap, arith, add-one, get_or}
 use Rattle.std.proofs.lemmas.List.{take_all}
 use Rattle.hu_chain.specs.declared.chain.Growth.TheVariants.{IntoLast}
 use Rattle.hu_span.specs.declared.step.Step.{Step}
-use Rattle.hu_span.specs.Step.{closed, grown_key, open_key}
+use Rattle.hu_kind.specs.Sequence.{closed}
+use Rattle.hu_span.specs.Step.{grown_key, open_key}
 use Rattle.hu_span.proofs.StepLemmas.{closed-open_key, open_key-next}
 use Rattle.hu_span.proofs.step.key_of.Goals as goal
 
@@ -16,4 +17,4 @@ steps-preserved c =
 pub returns : goal.returns
 returns c =
     let all = take_all c.steps.step-index c.args.steps.now (omega (arith, c.steps-test.false)) in
-    c.in_ok-close.ensures ∙ ap closed (c.steps.invariant ∙ ap (open_key []) all) ∙ closed-open_key c.args.steps.now c.requires
+    c.in_ok-end_itemset.ensures.ok ∙ ap closed (c.steps.invariant ∙ ap (open_key []) all) ∙ closed-open_key c.args.steps.now c.requires

@@ -4,13 +4,14 @@ use Rattle.std.proofs.lemmas.Int.{ints}
 use Rattle.std.proofs.lemmas.List.{take_all}
 use Rattle.hu_rows.specs.Rows.{size_of}
 use Rattle.hu_rows.specs.Bounds.{value_at, local_share}
-use Rattle.hu_rows.specs.View.{cells_of, row_of}
-use Rattle.hu_totals.proofs.lemmas.KeptLemmas.{kept_gain-within}
+use Rattle.hu_rows.specs.View.{row_of}
 use Rattle.hu_rows.proofs.BoundLemmas.{local_share-within}
 use Rattle.hu_rows.proofs.SettingLemmas.{given, given-more, given-fresh, local_share-is}
 use Rattle.hu_rows.proofs.PastEnd.{past_cell}
-use Rattle.hu_rows.proofs.setting.Setting.add_local.Goals as goal
+use Rattle.hu_totals.proofs.lemmas.KeptLemmas.{kept_gain-within}
 use Rattle.hu_totals.specs.Cells.{among}
+use Rattle.hu_totals.specs.View.{cells_of}
+use Rattle.hu_rows.proofs.setting.Setting.add_local.Goals as goal
 
 pub gain-requires : goal.gain-requires
 gain-requires c = omega (arith, c.requires.fits 0)
@@ -26,8 +27,8 @@ add-requires c =
     let row = row_of c.args.row.now in
     let rank = (get_or c.args.row.now.cells.now c.loop-cell.cell-index past_cell).rank in
     let size : size_of row < 2 ^ 127 = omega (arith, c.requires.fits 0) in
-    let share : to_z w128 (of_z w128 c.positive-share.result) ≡ local_share kept row =
-    local_share-is kept row c.gain.result c.positive-share.result c.gain.ensures.value size c.positive-share.ensures in
+    let share : to_z w128 (of_z w128 c.positive_part-share.result) ≡ local_share kept row =
+    local_share-is kept row c.gain.result c.positive_part-share.result c.gain.ensures.value size c.positive_part-share.ensures.value in
     let fresh = given-fresh kept (λ _. local_share kept row) c.args.row.now.cells.now c.loop-cell.cell-index past_cell c.requires.ascending
     c.loop-cell-test.true in
     omega (arith, ints, share, fresh, c.loop-cell.invariant.value rank, local_share-within kept row, c.requires.fits rank)
@@ -38,8 +39,8 @@ loop-cell-preserved c =
     let row = row_of c.args.row.now in
     let rank = (get_or c.args.row.now.cells.now c.loop-cell.cell-index past_cell).rank in
     let size : size_of row < 2 ^ 127 = omega (arith, c.requires.fits 0) in
-    let share : to_z w128 (of_z w128 c.positive-share.result) ≡ local_share kept row =
-    local_share-is kept row c.gain.result c.positive-share.result c.gain.ensures.value size c.positive-share.ensures in
+    let share : to_z w128 (of_z w128 c.positive_part-share.result) ≡ local_share kept row =
+    local_share-is kept row c.gain.result c.positive_part-share.result c.gain.ensures.value size c.positive_part-share.ensures.value in
     let added : (other : ℕ) → value_at c.add.new.self.values other
     ≡ value_at c.loop-cell.self.values other +ℤ cond (among other kept && eqb other rank) (local_share kept row) (pos 0) =
     λ other. c.add.ensures.value other

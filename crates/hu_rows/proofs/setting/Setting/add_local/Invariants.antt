@@ -1,6 +1,7 @@
 use Rattle.std.proofs.Common.{◌≡◌, ℕ, ◌+ℤ◌, length, take}
+use Rattle.hu_totals.specs.View.{cells_of}
 use Rattle.hu_rows.specs.Bounds.{value_at, local_share}
-use Rattle.hu_rows.specs.View.{cells_of, row_of}
+use Rattle.hu_rows.specs.View.{row_of}
 use Rattle.hu_rows.proofs.SettingLemmas.{given}
 use Rattle.hu_rows.proofs.setting.Setting.add_local.Given as goal
 

@@ -1,9 +1,10 @@
 use Rattle.std.proofs.Common.{◌≡◌, ℕ, ◌+ℤ◌, length, take, drop}
 use Rattle.hu_rows.specs.Bounds.{value_at, subtree_share}
-use Rattle.hu_rows.specs.View.{cells_of, row_of}
+use Rattle.hu_rows.specs.View.{row_of}
 use Rattle.hu_rows.proofs.SettingLemmas.{given}
 use Rattle.hu_rows.proofs.setting.Setting.add_subtree.Given as goal
 use Rattle.hu_totals.specs.Cells.{kept_gain}
+use Rattle.hu_totals.specs.View.{cells_of}
 
 abbrev pub invariant-loop-cell : goal.invariant-loop-cell
 invariant-loop-cell l = record {

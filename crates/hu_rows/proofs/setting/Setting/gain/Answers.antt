@@ -2,8 +2,9 @@ use Rattle.std.proofs.Common.{◌≡◌, ◌∙◌, ◌+◌, ◌+ℤ◌, take, t
 use Rattle.std.specs.Int.{w128}
 use Rattle.std.proofs.lemmas.Int.{ints, to_z-of_z}
 use Rattle.hu_totals.specs.Cells.{kept_gain}
-use Rattle.hu_rows.specs.View.{cells_of}
-use Rattle.hu_rows.proofs.SettingLemmas.{kept_gain-more, kept_gain-take}
+use Rattle.hu_totals.specs.View.{cells_of}
+use Rattle.hu_totals.proofs.lemmas.GainLemmas.{kept_gain-take}
+use Rattle.hu_rows.proofs.SettingLemmas.{kept_gain-more}
 use Rattle.hu_rows.proofs.PastEnd.{past_cell}
 use Rattle.hu_rows.proofs.setting.Setting.gain.Goals.{After-kept_part-gain}
 use Rattle.hu_rows.proofs.setting.Setting.gain.Goals as goal

@@ -1,9 +1,9 @@
-use Rattle.std.proofs.Common.{◌<◌, ◌^◌, unsigned_abs, arith}
+use Rattle.std.proofs.Common.{◌<◌, ◌^◌, unsigned_abs, arith, ◌≡◌, false}
 use Rattle.std.proofs.lemmas.Int.{ints}
 use Rattle.std.proofs.lemmas.Bool.Decides.{nat_tests}
-use Rattle.std.proofs.Common.{◌≡◌, false}
-use Rattle.hu_shelf.proofs.FindLemmas.{found_there, still_same}
+use Rattle.hu_shelf.proofs.FindLemmas.{found_there}
 use Rattle.hu_shelf.proofs.ShelfLemmas.{IsStore-fresh}
+use Rattle.hu_shelf.proofs.lemmas.StoreLemmas.{still_same}
 use Rattle.hu_shelf.proofs.shelf.Shelf.create.Goals as goal
 
 pub returns-clause-store : goal.returns-clause-store

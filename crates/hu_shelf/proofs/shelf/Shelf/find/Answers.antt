@@ -1,6 +1,7 @@
 use Rattle.std.proofs.Common.{◌<◌, length, arith}
 use Rattle.std.proofs.lemmas.Bool.Decides.{nat_tests}
-use Rattle.hu_shelf.proofs.FindLemmas.{found_none, found_text, found_told, long_damaged, read_text, still_same}
+use Rattle.hu_shelf.proofs.FindLemmas.{found_none, found_text, found_told, long_damaged, read_text}
+use Rattle.hu_shelf.proofs.lemmas.StoreLemmas.{still_same}
 use Rattle.hu_shelf.proofs.shelf.Shelf.find.Goals as goal
 
 pub returns-in_default-clause-err : goal.returns-in_default-clause-err
