@@ -1,7 +1,7 @@
 //! The tails of the sets with one rank more.
 
 ghost use Rattle.std.specs.Prelude.{◌≡◌, ◌<◌, ◌^◌, ◌==◌, ◌++◌, [], ◌∷◌, ℕ, length, slice_index_or, if◌then◌else◌, IfOk, OnOk};
-ghost use Rattle.hu_list.specs.Slots.{AreSlots};
+ghost use Rattle.hu_search.specs.Slots.{AreSlots};
 ghost use Rattle.hu_average.specs.Tails.{left_in, grown, tail_of, tails_of, size_of, tails_at, IsTail, AreTails};
 
 use crate::slots::find;

@@ -3,7 +3,7 @@
 ghost use Rattle.std.specs.Prelude.{◌≡◌, ◌<◌, ℕ, length, Some, slice_index_or, IfSome};
 ghost use Rattle.std.specs.List.{AllByRecursion};
 ghost use Rattle.hu_kind.specs.Order.{Ascend};
-ghost use Rattle.hu_list.specs.Slots.{AreSlots};
+ghost use Rattle.hu_search.specs.Slots.{AreSlots};
 ghost use Rattle.hu_average.specs.Tails.{IsAt};
 
 /// Writes the slot of each of these ranks, its place among them, into a table over all ranks. What the table says of other ranks

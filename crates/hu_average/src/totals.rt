@@ -1,7 +1,7 @@
 //! What sets with one rank more earn, and what sets that hold them can earn.
 
 ghost use Rattle.std.specs.Prelude.{◌≡◌, ◌<◌, ◌+◌, ◌^◌, ◌==◌, ◌+ℤ◌, ℕ, max, unsigned_abs, length, slice_index_or, if◌then◌else◌, IfOk};
-ghost use Rattle.hu_list.specs.Slots.{AreSlots};
+ghost use Rattle.hu_search.specs.Slots.{AreSlots};
 ghost use Rattle.hu_average.specs.Totals.{total_with, no_total, plus, total_at, Fits};
 ghost use Rattle.hu_average.specs.Tails.{left_in, total_in, tail_of, tails_of, size_of, IsTail, AreTails, AreSums};
 

@@ -6,9 +6,9 @@ use Rattle.std.specs.List.{AllByRecursion, IsDistinct}
 use Rattle.std.proofs.lemmas.List.{length-map}
 use Rattle.hu_search.specs.declared.child.Child.{Child}
 use Rattle.hu_search.specs.Children.{AreChildren, ranks_of}
-use Rattle.hu_list.specs.Slots.{at, IsPlace}
+use Rattle.hu_search.specs.Slots.{at, IsPlace}
 use Rattle.hu_list.specs.Passes.{met_in, growing}
-use Rattle.hu_list.proofs.SlotLemmas.{at-place, place-among, distinct-before}
+use Rattle.hu_search.proofs.lemmas.Slots.{at-place, place-among, distinct-before}
 use Rattle.hu_list.proofs.GrowthLemmas.{grew}
 use Rattle.std.proofs.lemmas.Bool.{ltb-true, lt-ltb}
 use Rattle.std.proofs.lemmas.Int.{ints}

@@ -22,12 +22,12 @@ use Rattle.hu_search.specs.declared.child.Child.{Child}
 use Rattle.hu_search.specs.Growth.{InTable}
 use Rattle.hu_search.specs.Children.{IsChild, AreEnough, ranks_of}
 use Rattle.hu_list.specs.declared.sums.Sum.{Sum}
-use Rattle.hu_list.specs.Slots.{at}
+use Rattle.hu_search.specs.Slots.{at}
 use Rattle.hu_list.specs.Tails.{TailOf, held, gain_with}
 use Rattle.hu_list.specs.Passes.{met_in, gaining, summing, no_sum}
 use Rattle.hu_list.specs.View.{IsTail}
 use Rattle.hu_list.specs.Level.{IsLeft, IsRefused, IsMost, IsLevel, AreKept, sum_of}
-use Rattle.hu_list.proofs.SlotLemmas.{at-absent, distinct-before, at-place}
+use Rattle.hu_search.proofs.lemmas.Slots.{at-absent, distinct-before, at-place}
 use Rattle.hu_list.proofs.GrowthLemmas.{AllUp, gained, gained-out, gain-unheld, earned-gain, summed-support, summed-utility, summed-bound}
 
 -- ---- ranks among others, and members

@@ -1,4 +1,3 @@
-pub mod SlotLemmas
 pub mod PassLemmas
 pub mod ShareLemmas
 pub mod GrowthLemmas

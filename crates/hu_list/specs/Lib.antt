@@ -1,7 +1,6 @@
 pub mod Nodes
 pub mod Bounds
 pub mod Joins
-pub mod Slots
 pub mod Tails
 pub mod View
 pub mod Passes

@@ -1,15 +1,15 @@
 //! What the tails that hold a rank can give.
 
 ghost use Rattle.std.specs.Prelude.{◌≡◌, ◌<◌, ◌+◌, ◌^◌, ◌==◌, ◌+ℤ◌, ℕ, pos, false, true, unsigned_abs, length, if◌then◌else◌, IfOk, OnOk};
-ghost use Rattle.hu_list.specs.Slots.{at};
+ghost use Rattle.hu_search.specs.Slots.{at};
 ghost use Rattle.hu_list.specs.Tails.{size_of};
 ghost use Rattle.hu_list.specs.Passes.{met, met_in, gaining};
 ghost use Rattle.hu_list.specs.View.{tail_of, tails_of, IsTail, AreTails};
 ghost use Rattle.hu_totals.specs.Cells.{among};
 
-use crate::slots::Slots;
 use crate::tail::Tail;
 use hu_kind::NoMemory;
+use hu_search::Slots;
 use std::alloc::Global;
 
 /// Finds the kept ranks at tails, each with the sum of the shares of the tails that hold it: no set that holds it earns more.

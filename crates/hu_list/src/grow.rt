@@ -1,15 +1,15 @@
 //! The tails of the sets with one rank more.
 
 ghost use Rattle.std.specs.Prelude.{◌≡◌, ◌<◌, ◌+◌, ◌^◌, ◌==◌, ◌&&◌, nat_lt, ◌++◌, [], ◌∷◌, ℕ, List, pos, length, if◌then◌else◌, IfOk, OnOk};
-ghost use Rattle.hu_list.specs.Slots.{at, IsPlace};
+ghost use Rattle.hu_search.specs.Slots.{at, IsPlace};
 ghost use Rattle.hu_list.specs.Tails.{size_of};
 ghost use Rattle.hu_list.specs.Passes.{met, met_in, growing};
 ghost use Rattle.hu_list.specs.View.{tail_of, tails_of, lists_of, IsTail, AreTails};
 ghost use Rattle.hu_totals.specs.Cells.{among};
 
-use crate::slots::Slots;
 use crate::tail::Tail;
 use hu_kind::NoMemory;
+use hu_search::Slots;
 use std::alloc::Global;
 
 /// The tails of the set with each of these ranks more, where cells are left, in one pass over the cells.

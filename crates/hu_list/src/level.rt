@@ -8,19 +8,18 @@ ghost use Rattle.hu_collect.specs.State.{floor_in};
 ghost use Rattle.hu_search.specs.declared.child.Child.{Child};
 ghost use Rattle.hu_search.specs.Growth.{InTable};
 ghost use Rattle.hu_search.specs.Children.{AreChildren, AreEnough, ranks_of};
-ghost use Rattle.hu_list.specs.Slots.{at};
+ghost use Rattle.hu_search.specs.Slots.{at};
 ghost use Rattle.hu_list.specs.Passes.{no_sum};
 ghost use Rattle.hu_list.specs.View.{tails_of, lists_of};
 ghost use Rattle.hu_list.specs.Level.{IsLeft, IsRefused, IsLevel, AreKept, AreChosen, AreGrown, sum_of};
 
 use crate::gains::gains;
 use crate::grow::grown;
-use crate::slots::Slots;
 use crate::sums::{Sum, sums};
 use crate::tail::Tail;
 use hu_collect::{Collect, Gate};
 use hu_kind::NoMemory;
-use hu_search::{Child, best_first};
+use hu_search::{Child, Slots, best_first};
 use hu_totals::Ranked;
 use std::alloc::Global;
 

@@ -14,7 +14,6 @@ mod list;
 mod merge;
 mod search;
 mod single;
-mod slots;
 mod sums;
 mod tail;
 

@@ -4,16 +4,15 @@ ghost use Rattle.std.specs.Prelude.{◌≡◌, ◌<◌, ◌+◌, ◌^◌, ◌==�
 ghost use Rattle.hu_kind.specs.Record.{positive_part};
 ghost use Rattle.hu_totals.specs.View.{dense_pair};
 ghost use Rattle.hu_totals.specs.Cells.{among};
-ghost use Rattle.hu_list.specs.Slots.{at, IsPlace};
+ghost use Rattle.hu_search.specs.Slots.{at, IsPlace};
 ghost use Rattle.hu_list.specs.Tails.{size_of};
 ghost use Rattle.hu_list.specs.Passes.{met, met_in, summing, sum_with, no_sum, SumsFit};
 ghost use Rattle.hu_list.specs.Level.{sum_of};
 ghost use Rattle.hu_list.specs.View.{tail_of, tails_of, IsTail, AreTails};
 
-use crate::slots::Slots;
 use crate::tail::Tail;
 use hu_kind::{NoMemory, positive_part};
-use hu_search::Child;
+use hu_search::{Child, Slots};
 use hu_totals::Dense;
 use std::alloc::Global;
 

@@ -7,8 +7,8 @@ ghost use Rattle.hu_totals.specs.Cells.{among, kept_gain};
 ghost use Rattle.hu_list.specs.Tails.{share, size_of};
 ghost use Rattle.hu_list.specs.View.{tail_of};
 
-use crate::slots::Slots;
 use hu_kind::positive_part;
+use hu_search::Slots;
 use hu_totals::Dense;
 
 /// What a set earns in a record that holds it, and the record's cells after the set's last rank.

@@ -1,4 +1,5 @@
 pub mod lemmas
 pub mod KeyLemmas
 pub mod OpenLemmas
+mod SlotLemmas
 mod ChildLemmas

@@ -4,7 +4,7 @@ use Rattle.std.proofs.lemmas.Int.{ints}
 use Rattle.hu_totals.specs.declared.ranked.Dense.{Dense}
 use Rattle.hu_totals.specs.Cells.{among}
 use Rattle.hu_totals.proofs.lemmas.DenseLemmas.{rank-at}
-use Rattle.hu_list.specs.Slots.{at}
+use Rattle.hu_search.specs.Slots.{at}
 use Rattle.hu_list.specs.Tails.{share}
 use Rattle.hu_list.specs.Passes.{gaining}
 use Rattle.hu_list.specs.View.{tail_of}

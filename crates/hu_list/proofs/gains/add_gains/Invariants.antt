@@ -1,7 +1,7 @@
 use Rattle.std.proofs.Common.{◌≡◌, ◌<◌, ◌+◌, ◌^◌, ℕ, pos, true, unsigned_abs, length, drop}
 use Rattle.hu_kind.specs.Record.{has}
 use Rattle.hu_totals.specs.View.{cells_of}
-use Rattle.hu_list.specs.Slots.{at}
+use Rattle.hu_search.specs.Slots.{at}
 use Rattle.hu_list.specs.Tails.{size_of}
 use Rattle.hu_list.specs.Passes.{met, gaining}
 use Rattle.hu_list.specs.View.{tail_of}

@@ -3,8 +3,8 @@ use Rattle.std.specs.Int.{w128}
 use Rattle.std.proofs.lemmas.Int.{ints}
 use Rattle.std.proofs.lemmas.List.{get_or_read}
 use Rattle.hu_totals.specs.Cells.{among}
-use Rattle.hu_list.specs.Slots.{at}
-use Rattle.hu_list.proofs.SlotLemmas.{at-set, at-push, at-place, at-absent, changed_at}
+use Rattle.hu_search.specs.Slots.{at}
+use Rattle.hu_search.proofs.lemmas.Slots.{at-set, at-push, at-place, at-absent, changed_at}
 use Rattle.hu_list.proofs.gains.add_kept.Goals as goal
 
 -- a kept rank has a share more

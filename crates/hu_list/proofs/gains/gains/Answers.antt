@@ -1,6 +1,6 @@
 use Rattle.std.proofs.Common.{ℕ, ℤ, pos, unsigned_abs, get_or, [], sym, ap, ◌∙◌, subst, arith}
 use Rattle.hu_list.specs.declared.tail.Tail.{Tail}
-use Rattle.hu_list.specs.Slots.{at}
+use Rattle.hu_search.specs.Slots.{at}
 use Rattle.hu_list.specs.Passes.{gaining}
 use Rattle.hu_list.specs.View.{tail_of, IsTail}
 use Rattle.hu_list.proofs.PassLemmas.{tail-at, tails-next, sizes-split, gaining-within}

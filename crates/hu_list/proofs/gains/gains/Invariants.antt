@@ -1,5 +1,5 @@
 use Rattle.std.proofs.Common.{◌≡◌, ◌<◌, ◌+◌, ◌^◌, ℕ, pos, unsigned_abs, length, drop, sum_by}
-use Rattle.hu_list.specs.Slots.{at}
+use Rattle.hu_search.specs.Slots.{at}
 use Rattle.hu_list.specs.Tails.{size_of}
 use Rattle.hu_list.specs.Passes.{met_in, gaining}
 use Rattle.hu_list.specs.View.{tails_of}

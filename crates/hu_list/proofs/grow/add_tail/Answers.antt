@@ -4,10 +4,10 @@ use Rattle.std.specs.declared.alloc.Global.{Global}
 use Rattle.std.proofs.lemmas.Bool.{lt-ltb, cases_eq, eq-eqb}
 use Rattle.std.proofs.lemmas.List.{map-set, get_or-map, map-append, length-map}
 use Rattle.hu_list.specs.declared.tail.Tail.{Tail}
-use Rattle.hu_list.specs.Slots.{at}
+use Rattle.hu_search.specs.Slots.{at}
 use Rattle.hu_list.specs.Tails.{TailOf}
 use Rattle.hu_list.specs.View.{tail_of, tails_of, lists_of}
-use Rattle.hu_list.proofs.SlotLemmas.{at-set, at-place, place-among, changed_at}
+use Rattle.hu_search.proofs.lemmas.Slots.{at-set, at-place, place-among, changed_at}
 use Rattle.hu_list.proofs.grow.add_tail.Goals as goal
 use Rattle.hu_totals.specs.Cells.{among}
 

@@ -7,7 +7,7 @@ use Rattle.hu_totals.specs.View.{dense_pair, cells_of}
 use Rattle.hu_totals.specs.declared.ranked.Dense.{Dense}
 use Rattle.hu_totals.specs.Cells.{among}
 use Rattle.hu_totals.proofs.lemmas.GainLemmas.{place-within}
-use Rattle.hu_list.specs.Slots.{at}
+use Rattle.hu_search.specs.Slots.{at}
 use Rattle.hu_list.specs.Tails.{TailOf}
 use Rattle.hu_list.specs.Passes.{growing}
 use Rattle.hu_list.specs.View.{tail_of, lists_of}

@@ -1,6 +1,6 @@
 use Rattle.std.proofs.Common.{◌≡◌, ℕ, [], length, drop}
 use Rattle.hu_totals.specs.View.{cells_of}
-use Rattle.hu_list.specs.Slots.{at}
+use Rattle.hu_search.specs.Slots.{at}
 use Rattle.hu_list.specs.Passes.{met, growing}
 use Rattle.hu_list.specs.View.{tail_of, lists_of}
 use Rattle.hu_list.proofs.grow.add_tails.Given as goal

@@ -1,6 +1,6 @@
 use Rattle.std.proofs.Common.{[]}
 use Rattle.hu_list.specs.View.{lists_of}
-use Rattle.hu_list.proofs.SlotLemmas.{at-same}
+use Rattle.hu_search.proofs.lemmas.Slots.{at-same}
 use Rattle.hu_list.proofs.grow.empty_lists.Goals as goal
 
 pub returns-clause-none : goal.returns-clause-none

@@ -1,5 +1,5 @@
 use Rattle.std.proofs.Common.{◌≡◌, ℕ, [], length, drop}
-use Rattle.hu_list.specs.Slots.{at}
+use Rattle.hu_search.specs.Slots.{at}
 use Rattle.hu_list.specs.Passes.{met_in, growing}
 use Rattle.hu_list.specs.View.{tails_of, lists_of}
 use Rattle.hu_list.proofs.grow.grown.Given as goal

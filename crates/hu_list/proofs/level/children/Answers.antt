@@ -7,7 +7,7 @@ use Rattle.std.specs.declared.alloc.Global.{Global}
 use Rattle.hu_collect.specs.State.{floor_in}
 use Rattle.hu_search.specs.declared.child.Child.{Child}
 use Rattle.hu_search.specs.Children.{ranks_of}
-use Rattle.hu_list.specs.Slots.{at}
+use Rattle.hu_search.specs.Slots.{at}
 use Rattle.hu_list.specs.Passes.{met_in, gaining, no_sum}
 use Rattle.hu_list.specs.View.{tails_of}
 use Rattle.hu_list.specs.Level.{IsLevel, AreKept, sum_of}

@@ -4,10 +4,10 @@ use Rattle.std.specs.List.{AllByRecursion}
 use Rattle.hu_search.specs.declared.child.Child.{Child}
 use Rattle.hu_search.specs.Children.{ranks_of}
 use Rattle.hu_kind.proofs.lemmas.Each.{each-append}
-use Rattle.hu_list.specs.Slots.{at}
+use Rattle.hu_search.specs.Slots.{at}
 use Rattle.hu_list.specs.Passes.{no_sum}
 use Rattle.hu_list.specs.Level.{sum_of}
-use Rattle.hu_list.proofs.SlotLemmas.{at-place, distinct-before}
+use Rattle.hu_search.proofs.lemmas.Slots.{at-place, distinct-before}
 use Rattle.hu_list.proofs.level.children_of.Goals as goal
 
 pub loop-slot-preserved : goal.loop-slot-preserved

@@ -5,7 +5,7 @@ use Rattle.std.specs.declared.alloc.Global.{Global}
 use Rattle.std.proofs.lemmas.List.{length-map}
 use Rattle.hu_list.specs.declared.tail.Tail.{Tail}
 use Rattle.hu_search.specs.Children.{ranks_of}
-use Rattle.hu_list.specs.Slots.{at}
+use Rattle.hu_search.specs.Slots.{at}
 use Rattle.hu_list.specs.Passes.{met_in, growing}
 use Rattle.hu_list.specs.View.{tails_of, lists_of}
 use Rattle.hu_list.specs.Level.{AreGrown}

@@ -6,7 +6,7 @@ use Rattle.std.proofs.lemmas.Bool.{false≢true}
 use Rattle.std.proofs.lemmas.List.{take_all}
 use Rattle.hu_kind.proofs.lemmas.Each.{each-get}
 use Rattle.hu_totals.specs.Cells.{among}
-use Rattle.hu_list.specs.Slots.{at}
+use Rattle.hu_search.specs.Slots.{at}
 use Rattle.hu_list.specs.Level.{AreKept, IsRefused}
 use Rattle.hu_list.proofs.LeftLemmas.{value-at, kept-fresh, before-more, kept-more, kept-none}
 use Rattle.hu_list.proofs.level.keep_reaching.Goals as goal

@@ -1,5 +1,5 @@
 use Rattle.std.proofs.Common.{◌≡◌, ℕ, true, pos, take}
-use Rattle.hu_list.specs.Slots.{at}
+use Rattle.hu_search.specs.Slots.{at}
 use Rattle.hu_list.specs.Level.{AreKept}
 use Rattle.hu_list.proofs.level.keep_reaching.Given as goal
 use Rattle.hu_totals.specs.Cells.{among}

@@ -4,9 +4,9 @@ use Rattle.std.proofs.lemmas.Int.{ints}
 use Rattle.std.proofs.lemmas.List.{get_or_read}
 use Rattle.hu_kind.specs.Record.{positive_part}
 use Rattle.hu_list.specs.declared.sums.Sum.{Sum}
-use Rattle.hu_list.specs.Slots.{at}
+use Rattle.hu_search.specs.Slots.{at}
 use Rattle.hu_list.specs.Passes.{no_sum, sum_with, SumsFit}
-use Rattle.hu_list.proofs.SlotLemmas.{at-set, at-place, place-among, changed_at}
+use Rattle.hu_search.proofs.lemmas.Slots.{at-set, at-place, place-among, changed_at}
 use Rattle.hu_list.proofs.PassLemmas.{fits-less}
 use Rattle.hu_list.proofs.sums.add_cell.Goals as goal
 use Rattle.hu_totals.specs.Cells.{among}

@@ -6,7 +6,7 @@ use Rattle.hu_totals.specs.Cells.{among, kept_gain}
 use Rattle.hu_totals.specs.View.{cells_of}
 use Rattle.hu_totals.proofs.lemmas.GainLemmas.{kept_gain-rest, place-within, rest-within}
 use Rattle.hu_list.specs.declared.sums.Sum.{Sum}
-use Rattle.hu_list.specs.Slots.{at}
+use Rattle.hu_search.specs.Slots.{at}
 use Rattle.hu_list.specs.Tails.{size_of}
 use Rattle.hu_list.specs.Passes.{met, summing, no_sum, sum_with, SumsFit}
 use Rattle.hu_list.specs.View.{tail_of}

@@ -1,5 +1,5 @@
 use Rattle.std.proofs.Common.{◌≡◌, ℕ, length, drop, ◌-◌}
-use Rattle.hu_list.specs.Slots.{at}
+use Rattle.hu_search.specs.Slots.{at}
 use Rattle.hu_list.specs.Passes.{met, summing, no_sum}
 use Rattle.hu_list.specs.View.{tail_of}
 use Rattle.hu_totals.specs.Cells.{kept_gain}

@@ -2,11 +2,11 @@ use Rattle.std.proofs.Common.{◌≡◌, ℕ, pos, unsigned_abs, get_or, length,
 use Rattle.std.proofs.lemmas.List.{length-replicate}
 use Rattle.hu_list.specs.declared.tail.Tail.{Tail}
 use Rattle.hu_list.specs.declared.sums.Sum.{Sum}
-use Rattle.hu_list.specs.Slots.{at}
+use Rattle.hu_search.specs.Slots.{at}
 use Rattle.hu_list.specs.Tails.{size_of}
 use Rattle.hu_list.specs.Passes.{met_in, summing, no_sum}
 use Rattle.hu_list.specs.View.{tail_of, tails_of, IsTail}
-use Rattle.hu_list.proofs.SlotLemmas.{at-replicate}
+use Rattle.hu_search.proofs.lemmas.Slots.{at-replicate}
 use Rattle.hu_list.proofs.PassLemmas.{tail-at, tails-next, sizes-split, Sums, summing-within}
 use Rattle.hu_list.proofs.sums.sums.Goals as goal
 

@@ -1,8 +1,8 @@
 use Rattle.std.proofs.Common.{◌<◌, subst, nat_eq}
 use Rattle.std.specs.List.{AllByRecursion, IsDistinct}
-use Rattle.hu_list.specs.Slots.{SlotsOf}
-use Rattle.hu_list.proofs.SlotLemmas.{slots-distinct, slots-below}
-use Rattle.hu_list.proofs.slots.Slots.ranks.Goals as goal
+use Rattle.hu_search.specs.Slots.{SlotsOf}
+use Rattle.hu_search.proofs.SlotLemmas.{slots-distinct, slots-below}
+use Rattle.hu_search.proofs.slots.Slots.ranks.Goals as goal
 
 pub returns-clause-once : goal.returns-clause-once
 returns-clause-once c =

@@ -1,5 +1,5 @@
 use Rattle.std.proofs.Common.{◌≡◌, take}
-use Rattle.hu_list.proofs.slots.Slots.fill.Given as goal
+use Rattle.hu_search.proofs.slots.Slots.fill.Given as goal
 
 abbrev pub invariant-loop-rank : goal.invariant-loop-rank
 invariant-loop-rank l = record {

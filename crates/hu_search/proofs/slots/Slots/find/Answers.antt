@@ -1,8 +1,8 @@
 use Rattle.std.proofs.Common.{◌≡◌, ◌<◌, ap, sym, ◌∙◌, false, length, get_or, subst, arith, IsSome}
 use Rattle.std.proofs.lemmas.Bool.{false≢true}
-use Rattle.hu_list.specs.Slots.{IsPlace, SlotsOf}
-use Rattle.hu_list.proofs.SlotLemmas.{missing, slots-place}
-use Rattle.hu_list.proofs.slots.Slots.find.Goals as goal
+use Rattle.hu_search.specs.Slots.{IsPlace, SlotsOf}
+use Rattle.hu_search.proofs.SlotLemmas.{missing, slots-place}
+use Rattle.hu_search.proofs.slots.Slots.find.Goals as goal
 use Rattle.hu_totals.specs.Cells.{among}
 
 pub returns-in_err-place : goal.returns-in_err-place

@@ -2,8 +2,8 @@
 
 ghost use Rattle.std.specs.Prelude.{◌≡◌, ◌<◌, [], ◌∷◌, ◌++◌, false, nat_eq, length, IfOk, OnOk, MatchOption};
 ghost use Rattle.std.specs.List.{AllByRecursion, IsDistinct};
-ghost use Rattle.hu_list.specs.Slots.{IsPlace};
 ghost use Rattle.hu_totals.specs.Cells.{among};
+ghost use Rattle.hu_search.specs.Slots.{IsPlace};
 
 use hu_kind::NoMemory;
 use std::alloc::Global;
@@ -12,14 +12,14 @@ use std::marker::Model;
 /// Some of the ranks of a table, each once, in an order. The slot of a rank, its place in the order, is found in constant time,
 /// and all ranks are forgotten at once. After the sparse sets of Briggs and Torczon (1993).
 #[derive(Drop)]
-pub(crate) struct Slots {
+pub struct Slots {
     places: Vec<usize>,
     ranks: Vec<u32>,
 }
 
 impl Model for Slots {
     ghost use Rattle.std.specs.Prelude.{length};
-    ghost use Rattle.hu_list.specs.Slots.{SlotsOf, AreSlots};
+    ghost use Rattle.hu_search.specs.Slots.{SlotsOf, AreSlots};
 
     ghost Value = { SlotsOf };
 
@@ -29,8 +29,8 @@ impl Model for Slots {
 }
 
 impl Slots {
-    /// None of so many ranks.
-    pub(crate) fn new(alloc: Global, room: u32) -> Result<Slots, NoMemory>
+    /// None of so many ranks. It takes a word for each, and as many steps.
+    pub fn new(alloc: Global, room: u32) -> Result<Slots, NoMemory>
         ensures room { IfOk result (λ slots. slots.room ≡ room) }
         ensures none { IfOk result (λ slots. slots.ranks ≡ []) }
     {
@@ -40,8 +40,8 @@ impl Slots {
         })
     }
 
-    /// The ranks in their order.
-    pub(crate) fn ranks(&self) -> &[u32]
+    /// The ranks in their order, lent in constant time.
+    pub fn ranks(&self) -> &[u32]
         ensures ranks { result.now ≡ self.now.ranks }
         ensures once { IsDistinct nat_eq self.now.ranks }
         ensures within { AllByRecursion (λ rank. rank < self.now.room) self.now.ranks }
@@ -49,8 +49,8 @@ impl Slots {
         self.ranks.as_slice()
     }
 
-    /// The slot of a rank, if it has one.
-    pub(crate) fn find(&self, rank: u32) -> Option<usize>
+    /// The slot of a rank, if it has one, in constant time.
+    pub fn find(&self, rank: u32) -> Option<usize>
         ensures { MatchOption result (among rank self.now.ranks ≡ false)
             (IsPlace self.now.ranks rank) }
     {
@@ -61,15 +61,15 @@ impl Slots {
         }
     }
 
-    /// Whether a rank has a slot.
-    pub(crate) fn has(&self, rank: u32) -> bool
+    /// Whether a rank has a slot, in constant time.
+    pub fn has(&self, rank: u32) -> bool
         ensures { result ≡ among rank self.now.ranks }
     {
         self.find(rank).is_some()
     }
 
-    /// Gives a rank the next slot.
-    pub(crate) fn push(&mut self, rank: u32) -> Result<(), NoMemory>
+    /// Gives a rank the next slot, in constant time but for the growth of the order.
+    pub fn push(&mut self, rank: u32) -> Result<(), NoMemory>
         requires within { rank < self.old.room }
         requires fresh { among rank self.old.ranks ≡ false }
         ensures room { self.new.room ≡ self.old.room }
@@ -81,15 +81,15 @@ impl Slots {
     }
 
     /// Forgets all ranks, in constant time.
-    pub(crate) fn clear(&mut self)
+    pub fn clear(&mut self)
         ensures room { self.new.room ≡ self.old.room }
         ensures none { self.new.ranks ≡ [] }
     {
         self.ranks.clear();
     }
 
-    /// Has these ranks in place of all others.
-    pub(crate) fn fill(&mut self, ranks: &[u32]) -> Result<(), NoMemory>
+    /// Has these ranks in place of all others, in a step for each of them. After want of memory it has some of them.
+    pub fn fill(&mut self, ranks: &[u32]) -> Result<(), NoMemory>
         requires within { AllByRecursion (λ rank. rank < self.old.room) ranks.now }
         requires once { IsDistinct nat_eq ranks.now }
         ensures room { self.new.room ≡ self.old.room }

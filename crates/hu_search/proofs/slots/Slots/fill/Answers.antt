@@ -1,7 +1,7 @@
 use Rattle.std.proofs.Common.{ap, ◌∙◌, get_or}
 use Rattle.hu_totals.specs.Cells.{among}
-use Rattle.hu_list.proofs.SlotLemmas.{distinct-before}
-use Rattle.hu_list.proofs.slots.Slots.fill.Goals as goal
+use Rattle.hu_search.proofs.lemmas.Slots.{distinct-before}
+use Rattle.hu_search.proofs.slots.Slots.fill.Goals as goal
 
 pub push-requires-clause-fresh : goal.push-requires-clause-fresh
 push-requires-clause-fresh c =
