@@ -1,5 +1,5 @@
 -- What the list of a set says of the set.
-use Rattle.std.proofs.Common.{◌≡◌, ℕ, ◌<◌, ◌≤◌, ◌+◌, ◌^◌, Bool, true, false, cond, ltb, ℤ, pos, ◌+ℤ◌, ◌≤ℤ◌, List, [], ◌∷◌, ◌++◌, length, refl, sym, ap, ◌∙◌}
+use Rattle.std.proofs.Common.{◌≡◌, ℕ, ◌<◌, ◌≤◌, ◌+◌, ◌^◌, Bool, true, false, cond, ltb, ℤ, pos, ◌+ℤ◌, ◌≤ℤ◌, List, [], ◌∷◌, ◌++◌, refl, sym, ap, ◌∙◌}
 use Rattle.std.proofs.Common.{subst, arith, sum_by}
 use Rattle.std.specs.List.{AllByRecursion, list_all}
 use Rattle.std.proofs.lemmas.Bool.{and_parts}
@@ -7,7 +7,7 @@ use Rattle.std.proofs.lemmas.Int.{ints}
 use Rattle.std.proofs.lemmas.List.Sums.{sum_by-cons}
 use Rattle.hu_kind.proofs.lemmas.Earned.{positive_part-upper}
 use Rattle.hu_kind.specs.Record.{holds, values_of, utility_in, positive_part, items_in, absolute_of}
-use Rattle.hu_kind.specs.Database.{utility, support}
+use Rattle.hu_kind.specs.Database.{utility}
 use Rattle.hu_kind.specs.Order.{Ascend}
 use Rattle.hu_kind.proofs.lemmas.Occurring.{by_members, holds-append, values_of-append}
 use Rattle.hu_kind.proofs.lemmas.Ascending.{each-ascending, Ascend-right, Ascend-across}
@@ -38,16 +38,6 @@ bound_of-nodes place (cells ∷ records) set = by (holds set cells) (bound_of-no
         ≡ cond b (positive_part (values_of set cells +ℤ rest_after set cells)) (pos 0) +ℤ list_bound records set
     by true ih = ap (λ v. positive_part (values_of set cells +ℤ rest_after set cells) +ℤ v) ih
     by false ih = omega (arith, ints)
-
-pub length-nodes : (place : ℕ) (records : List (List (ℕ × ℤ))) (set : List ℕ) → length (nodes_from place records set) ≡ support records set
-length-nodes place [] set = refl
-length-nodes place (cells ∷ records) set = by (holds set cells) (length-nodes (place + 1) records set)
-    ∙ sym (sum_by-cons (λ c. cond (holds set c) 1 0) cells records)
-  where
-    by : (b : Bool) → length (nodes_from (place + 1) records set) ≡ support records set
-        → length (cond b (node_of set place cells ∷ []) [] ++ nodes_from (place + 1) records set) ≡ cond b 1 0 + support records set
-    by true ih = omega arith
-    by false ih = omega arith
 
 pub weight-nodes : (place : ℕ) (records : List (List (ℕ × ℤ))) (set : List ℕ) → Ascend set → AllByRecursion (λ cells. Ascend (items_in cells)) records
     → sum_by weight_of (nodes_from place records set) ≤ sum_by absolute_of records

@@ -35,11 +35,6 @@ bound_of-within (node ∷ nodes) zero = omega arith
 bound_of-within (node ∷ nodes) (suc i) = let ih = bound_of-within nodes i in let one =
     most_at-within node in omega (arith, ints, sum_by-cons weight_of node nodes)
 
-pub weight_of-at : (nodes : List Node) (i : ℕ) (d : Node) → i < length nodes → weight_of (get_or nodes i d) ≤ sum_by weight_of nodes
-weight_of-at [] i d within = absurd (omega arith)
-weight_of-at (node ∷ nodes) zero d within = omega (arith, sum_by-cons weight_of node nodes)
-weight_of-at (node ∷ nodes) (suc i) d within = let ih = weight_of-at nodes i d (omega arith) in omega (arith, sum_by-cons weight_of node nodes)
-
 pub own_sum-all : (nodes : List Node) → unsigned_abs (own_sum nodes) ≤ sum_by weight_of nodes
 own_sum-all nodes = rw (take_all (length nodes) nodes (omega arith)) at (own_sum-within nodes (length nodes))
 

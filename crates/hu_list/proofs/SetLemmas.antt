@@ -17,9 +17,6 @@ use Rattle.hu_totals.proofs.lemmas.KeptLemmas.{values_of-skip, holds-skip, part-
 has-past : (item : ℕ) (cell : ℕ × ℤ) (cells : List (ℕ × ℤ)) → cell.0 < item → has item (cell ∷ cells) ≡ has item cells
 has-past item cell cells above = let other : eqb item cell.0 ≡ false = ne_eqb item cell.0 (λ e. absurd (omega arith)) in rw other refl
 
-value_of-past : (item : ℕ) (cell : ℕ × ℤ) (cells : List (ℕ × ℤ)) → cell.0 < item → value_of item (cell ∷ cells) ≡ value_of item cells
-value_of-past item cell cells above = let other : eqb item cell.0 ≡ false = ne_eqb item cell.0 (λ e. absurd (omega arith)) in rw other refl
-
 value_of-first : (item : ℕ) (cell : ℕ × ℤ) (cells : List (ℕ × ℤ)) → item ≡ cell.0 → value_of item (cell ∷ cells) ≡ cell.1
 value_of-first item cell cells e = let here : eqb item cell.0 ≡ true = eq-eqb item cell.0 e in rw here refl
 

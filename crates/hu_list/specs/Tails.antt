@@ -61,11 +61,6 @@ has_cells tail = nat_lt 0 (length tail.cells)
 abbrev pub share : List ℕ → TailOf → ℤ
 share keep tail = positive_part (tail.own +ℤ kept_gain keep tail.cells)
 
--- the sum of the shares
-abbrev pub bound_over : List ℕ → List TailOf → ℤ
-bound_over keep [] = pos 0
-bound_over keep (tail ∷ tails) = share keep tail +ℤ bound_over keep tails
-
 -- the sum of the shares of the tails that hold a rank
 abbrev pub gain_with : List ℕ → List TailOf → ℕ → ℤ
 gain_with keep [] z = pos 0
@@ -75,8 +70,3 @@ gain_with keep (tail ∷ tails) z =
 -- the absolute values of a tail
 abbrev pub size_of : TailOf → ℕ
 size_of tail = unsigned_abs tail.own + absolute_of tail.cells
-
--- the sum of what a set earns at its tails
-abbrev pub own_over : List TailOf → ℤ
-own_over [] = pos 0
-own_over (tail ∷ tails) = tail.own +ℤ own_over tails

@@ -19,7 +19,7 @@ use crate::sums::{Sum, sums};
 use crate::tail::Tail;
 use hu_collect::{Collect, Gate};
 use hu_kind::NoMemory;
-use hu_search::{Child, Slots, best_first};
+use hu_search::{Child, Slots, best_first, ranks_of};
 use hu_totals::Ranked;
 use std::alloc::Global;
 
@@ -177,17 +177,6 @@ fn reaching(children: &[Child], floor: i128) -> usize
         }
     }
     children.len()
-}
-
-/// The ranks of children.
-pub(crate) fn ranks_of(alloc: Global, children: &[Child]) -> Result<Vec<u32>, NoMemory>
-    ensures { IfOk result (λ ranks. ranks.items ≡ ranks_of children.now) }
-{
-    let mut ranks = Vec::with_capacity(alloc, children.len())?;
-    for child in children {
-        ranks.push(child.rank)?;
-    }
-    Ok(ranks)
 }
 
 /// For each child to be entered the tails of its set, where cells are left. It passes once over the cells, if there are children.

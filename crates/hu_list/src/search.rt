@@ -15,11 +15,11 @@ ghost use Rattle.hu_list.specs.Level.{IsLeft};
 ghost use Rattle.hu_list.specs.Board.{HasRoom};
 ghost use Rattle.hu_list.specs.Lengths.{WantsUpto};
 
-use crate::level::{Board, children, chosen, grown_by, ranks_of};
+use crate::level::{Board, children, chosen, grown_by};
 use crate::tail::Tail;
 use hu_collect::{Collect, Gate};
 use hu_kind::NoMemory;
-use hu_search::{Child, Slots, offer_children, opens};
+use hu_search::{Child, Slots, offer_children, opens, ranks_of};
 use hu_totals::Ranked;
 use std::alloc::Global;
 

@@ -13,7 +13,7 @@ mod key;
 mod offer;
 mod slots;
 
-pub use child::{Child, best_first};
+pub use child::{Child, best_first, ranks_of};
 pub use key::key_of;
 pub use offer::{offer_children, opens};
 pub use slots::Slots;

@@ -1,5 +1,5 @@
 -- Lists that may be joined.
-use Rattle.std.proofs.Common.{◌≡◌, ℕ, ◌<◌, None, Some, List, [], ◌∷◌, refl, arith}
+use Rattle.std.proofs.Common.{◌≡◌, ℕ, ◌<◌, None, List, [], ◌∷◌, refl}
 use Rattle.hu_totals.specs.Ranked.{Ranking, IsRanking}
 use Rattle.hu_list.specs.declared.list.Node.{Node}
 use Rattle.hu_list.specs.Nodes.{list_of}
@@ -17,15 +17,3 @@ Joins-single r rules x y a b below x_is y_is =
       x_is = x_is;
       y_is = y_is;
     }
-
--- the lists of one rank with each of two later ones
-pub Joins-double : (r : Ranking) → IsRanking r → (prefix x y : List Node) (a b c : ℕ) → a < b → b < c → prefix
-    ≡ list_of r.records (a ∷ []) → x ≡ list_of r.records (a ∷ b ∷ []) → y ≡ list_of r.records (a ∷ c ∷ [])
-    → Joins (Some prefix) x y r.records (a ∷ []) b c
-Joins-double r rules prefix x y a b c below above prefix_is x_is y_is = record {
-  ranked = AreRanked-ranking r rules;
-  ascending = ((below, (omega arith, tt)), ((above, tt), (tt, tt)));
-  prefix_is = (omega arith, prefix_is);
-  x_is = x_is;
-  y_is = y_is;
-}
