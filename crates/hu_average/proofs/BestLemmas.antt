@@ -1,7 +1,7 @@
 -- What a collector by average makes of entries.
-use Rattle.std.proofs.Common.{◌≡◌, ℕ, Bool, true, false, cond, ℤ, Option, List, [], ◌∷◌, ◌++◌, Result, Ok, Err, IfOk, refl, sym, ap, ◌∙◌, subst, append_assoc}
+use Rattle.std.proofs.Common.{◌≡◌, ℕ, true, false, cond, ℤ, Option, List, [], ◌∷◌, ◌++◌, Result, Ok, Err, IfOk, refl, sym, ap, ◌∙◌, subst, append_assoc}
 use Rattle.std.proofs.Common.{append-nil}
-use Rattle.std.specs.List.{AllByRecursion, filter}
+use Rattle.std.specs.List.{AllByRecursion}
 use Rattle.std.specs.List.Sorted.{IsStrictlySortedBy}
 use Rattle.std.specs.BTreeSet.{insert_key}
 use Rattle.std.proofs.lemmas.List.Elements.{filter-append}
@@ -31,9 +31,6 @@ firsts-twice top xs = firsts-in_turn top xs [] ∙ ap (firsts top) (append-nil x
 -- what is held is the ranking of itself, cut
 pub kept-content : (b : BestOf) → IsKept b → firsts b.top b.content ≡ b.content
 kept-content b kept = ap (firsts b.top) (sym (append-nil b.content)) ∙ ap (λ (s : BestOf). s.content) kept
-
-pub content-kept : (b : BestOf) → firsts b.top b.content ≡ b.content → IsKept b
-content-kept b same = ap (best_with b.least b.top) (ap (firsts b.top) (append-nil b.content) ∙ same)
 
 pub kept-sorted : (b : BestOf) → IsKept b → IsStrictlySortedBy average_cmp b.content
 kept-sorted b kept = subst (IsStrictlySortedBy average_cmp) (kept-content b kept)

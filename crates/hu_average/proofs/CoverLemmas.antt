@@ -13,7 +13,7 @@ use Rattle.std.proofs.lemmas.Int.{ints}
 use Rattle.std.proofs.lemmas.List.{take_at, take_all, length-take}
 use Rattle.hu_kind.specs.declared.entry.Entry.{Entry}
 use Rattle.hu_kind.specs.Order.{ranking, cut}
-use Rattle.hu_kind.proofs.lemmas.Each.{each-take, each-append, each-weaker}
+use Rattle.hu_kind.proofs.lemmas.Each.{each-take, each-weaker}
 use Rattle.hu_kind.proofs.lemmas.Members.{Member, Member-append_left, Member-append_right, Member-append_cases, Member-filter, Member-from_filter}
 use Rattle.hu_kind.proofs.lemmas.RankingLemmas.{ranking-sorted}
 use Rattle.hu_collect.proofs.lemmas.Cutting.{sorted-ranking, sorted-cut}
@@ -230,11 +230,6 @@ covers-as {P} {R} {old} {new} p cases first = record {
 
 member-last : {A : Type 0} (z x : A) (xs : List A) → Member z (xs ++ x ∷ []) → Member z xs ⊎ (x ≡ z)
 member-last z x xs m = elim (Member-append_cases z xs (x ∷ []) m) [ inl k ↦ inl k | inr k ↦ elim k [ inl s ↦ inr s | inr none ↦ absurd none ] ]
-
-sorted-push : (xs : List Entry) (e : Entry) → IsStrictlySortedBy average_cmp xs → AllBefore xs e → IsStrictlySortedBy average_cmp (xs ++ e ∷ [])
-unfolding IsStrictlySortedBy
-sorted-push [] e up all = (tt, tt)
-sorted-push (x ∷ xs) e up all = (each-append (λ y. average_cmp x y ≡ Less) xs (e ∷ []) up.0 (all.0, tt), sorted-push xs e up.1 all.1)
 
 -- an entry more that is there already, or past, changes nothing
 firsts-more : (top : Option ℕ) (xs : List Entry) (e : Entry) → Member e xs ⊎ IsPast top (firsts top xs) e → firsts top (xs ++ e ∷ []) ≡ firsts top xs

@@ -9,7 +9,7 @@ use Rattle.std.proofs.lemmas.List.Sums.{sum_by-cons}
 use Rattle.hu_kind.specs.Order.{Ascend}
 use Rattle.hu_kind.specs.Record.{items_in, absolute_of}
 use Rattle.hu_totals.specs.declared.ranked.Dense.{Dense}
-use Rattle.hu_totals.specs.View.{dense_pair, cells_of}
+use Rattle.hu_totals.specs.View.{cells_of}
 use Rattle.hu_totals.proofs.lemmas.DenseLemmas.{value-within, Ascend-rest}
 use Rattle.hu_average.specs.declared.tail.Tail.{Tail}
 use Rattle.hu_average.specs.declared.totals.RankTotal.{RankTotal}
@@ -25,10 +25,6 @@ left-above z own most (cell ∷ cells) above =
     let low = above.0 in
     let other : eqb z cell.0 ≡ false = ne_eqb z cell.0 (λ e. absurd (omega (arith, low, e))) in
     rw other (left-above z own most cells above.1)
-
-pub left-end : (z : ℕ) (own most : ℤ) (cells : List Dense) → left_from z own most (cells_of (drop (length cells) cells)) ≡ []
-left-end z own most [] = refl
-left-end z own most (cell ∷ cells) = left-end z own most cells
 
 module _ (own most : ℤ) (cells : List Dense) (i : ℕ) (d : Dense) (up : Ascend (items_in (cells_of cells))) (within : i < length cells) where
   abbrev cell : Dense

@@ -1,6 +1,6 @@
 -- Fractions by their quotients and remainders.
 use Rattle.std.proofs.Common.{◌≡◌, ℕ, suc, ◌<◌, ◌≤◌, ◌+◌, ◌*◌, ◌/◌, ◌%◌, Bool, true, false, ℤ, pos, negsuc, ◌*ℤ◌, ◌≤ℤ◌}
-use Rattle.std.proofs.Common.{◌<ℤ◌, int_le, max, refl, sym, ap, ◌∙◌, arith}
+use Rattle.std.proofs.Common.{◌<ℤ◌, int_le, refl, sym, ap, ◌∙◌, arith}
 use Rattle.std.specs.declared.cmp.Ordering.{Ordering}
 use Rattle.std.specs.declared.cmp.Ordering.TheVariants.{Less, Equal, Greater}
 use Rattle.std.specs.Ordering.{nat_cmp, int_cmp, ordering_then, MatchOrdering}
@@ -86,11 +86,3 @@ same_cmp p q = int_cmp_is (pos p) (pos q) (nat_cmp p q) (by (nat_cmp p q) (ranke
     by Less h = omega (arith, ints, h)
     by Equal h = ap pos h
     by Greater h = omega (arith, ints, h)
-
--- fractions of numbers that aren't below 0
-pub fraction-naturals : (x y : ℤ) (u n v m : ℕ) → pos u ≡ x → pos v ≡ y → 0 < n → 0 < m
-    → nat_cmp (u * m) (v * n) ≡ int_cmp (x *ℤ pos (max m 1)) (y *ℤ pos (max n 1))
-fraction-naturals x y u n v m a b some more =
-    let c : m ≡ max m 1 = omega arith in
-    let d : n ≡ max n 1 = omega arith in
-    same_cmp (u * m) (v * n) ∙ (λ j. int_cmp (a j *ℤ pos (c j)) (b j *ℤ pos (d j)))

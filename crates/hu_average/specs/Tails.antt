@@ -27,9 +27,8 @@ use Rattle.std.specs.declared.vec.Vec.{Vec}
 use Rattle.std.specs.declared.alloc.Global.{Global}
 use Rattle.hu_kind.specs.Record.{holds, values_of, items_in, absolute_of}
 use Rattle.hu_kind.specs.Order.{Ascend}
-use Rattle.hu_totals.specs.declared.ranked.Dense.{Dense}
 use Rattle.hu_totals.specs.Ranked.{Ranking}
-use Rattle.hu_totals.specs.View.{dense_pair, cells_of}
+use Rattle.hu_totals.specs.View.{cells_of}
 use Rattle.hu_average.specs.declared.tail.Tail.{Tail}
 use Rattle.hu_average.specs.declared.totals.RankTotal.{RankTotal}
 use Rattle.hu_average.specs.Bound.{greatest}
@@ -114,11 +113,6 @@ pub record IsLeft (r : Ranking) (set : List ℕ) (tails : List TailOf) : Type 0 
       → total_of r.records (set ++ first ∷ more) ≡ sums tails (first ∷ more)
 
 -- ---- along with ranks
-
--- a rank stands at a place of some
-pub record IsAt (ranks : List ℕ) (rank place : ℕ) : Type 0 where
-  pub within : place < length ranks
-  pub here : slice_index_or ranks place 0 ≡ rank
 
 -- totals are those of ranks over tails
 pub record AreSums (ranks : List ℕ) (tails : List TailOf) (totals : List RankTotal) : Type 0 where

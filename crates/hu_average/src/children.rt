@@ -9,11 +9,10 @@ ghost use Rattle.hu_average.specs.Children.{AreLater, AreTotals, IsChild, AreChi
 
 use crate::best::Best;
 use crate::order::Average;
-use crate::slots::fill;
 use crate::tail::Tail;
 use crate::totals::{RankTotal, totals};
 use hu_kind::{Entry, NoMemory};
-use hu_search::key_of;
+use hu_search::{Slots, key_of};
 use hu_totals::Ranked;
 use std::alloc::Global;
 
@@ -32,19 +31,19 @@ pub(crate) fn children(
     ranks: &[u32],
     tails: &[Tail<'_>],
     later: &[u32],
-    slots: &mut [usize],
+    slots: &mut Slots,
     best: &Best,
 ) -> Result<Vec<Child>, NoMemory>
     requires rules { IsRanking ranked.now }
     requires left { IsLeft ranked.now ranks.now (tails_of tails.now) }
     requires later { AreLater ranked.now ranks.now later.now }
-    requires room { length slots.old ≡ length ranked.now.items }
-    ensures room { length slots.new ≡ length slots.old }
+    requires room { slots.old.room ≡ length ranked.now.items }
+    ensures room { slots.new.room ≡ slots.old.room }
     ensures picked { IfOk result
         (λ children. ArePicked best.now ranked.now ranks.now later.now children.items) }
 {
-    fill(slots, later);
-    let totals = totals(alloc, tails, later, slots)?;
+    slots.fill(later)?;
+    let totals = totals(alloc, tails, slots)?;
     let all = children_of(alloc, ranked, ranks, later, &totals)?;
     picked(alloc, ranked, ranks, &all, best)
 }

@@ -16,7 +16,6 @@ mod grow;
 mod order;
 mod plain;
 mod search;
-mod slots;
 mod tail;
 mod text;
 mod totals;

@@ -12,9 +12,9 @@ ghost use Rattle.hu_average.specs.Children.{IsChild, AreLater, AreEnough};
 use crate::best::Best;
 use crate::children::{Child, children, is_shut, offer_children, picked, ranks_of};
 use crate::grow::grown;
-use crate::slots::fill;
 use crate::tail::{Tail, record_tails};
 use hu_kind::{Entry, NoMemory};
+use hu_search::Slots;
 use hu_totals::Ranked;
 use std::alloc::Global;
 
@@ -37,7 +37,7 @@ pub fn mine(
 {
     let tails = record_tails(alloc, ranked)?;
     let later = all_ranks(alloc, ranked)?;
-    let mut slots = vec![in alloc; 0usize; later.len()]?;
+    let mut slots = Slots::new(alloc, ranked.len())?;
     let mut best = Best::new(alloc, least, top);
     search(
         alloc,
@@ -54,7 +54,6 @@ pub fn mine(
 /// All ranks.
 fn all_ranks(alloc: Global, ranked: &Ranked) -> Result<Vec<u32>, NoMemory>
     ensures later { IfOk result (λ ranks. AreLater ranked.now [] ranks.items) }
-    ensures len { IfOk result (λ ranks. length ranks.items ≡ length ranked.now.items) }
     ensures whole { IfOk result
         (λ ranks. (z : ℕ) → z < length ranked.now.items → Member z ranks.items) }
 {
@@ -73,17 +72,17 @@ fn search(
     ranks: &mut Vec<u32>,
     tails: &[Tail<'_>],
     later: &[u32],
-    slots: &mut [usize],
+    slots: &mut Slots,
     best: &mut Best,
 ) -> Result<(), NoMemory>
     requires rules { IsRanking ranked.now }
     requires left { IsLeft ranked.now ranks.old.items (tails_of tails.now) }
     requires later { AreLater ranked.now ranks.old.items later.now }
     requires enough { AreEnough best.old ranked.now ranks.old.items later.now }
-    requires room { length slots.old ≡ length ranked.now.items }
+    requires room { slots.old.room ≡ length ranked.now.items }
     requires kept { IsKept best.old }
     ensures ranks { OnOk result (ranks.new.items ≡ ranks.old.items) }
-    ensures room { length slots.new ≡ length slots.old }
+    ensures room { slots.new.room ≡ slots.old.room }
     ensures covers { OnOk result (Covers best.old (Grows ranked.now ranks.old.items) best.new) }
 {
     let children = children(alloc, ranked, ranks, tails, later, slots, best)?;
@@ -91,9 +90,8 @@ fn search(
     let entered = picked(alloc, ranked, ranks, &children, best)?;
     let left = ranks_of(alloc, &entered)?;
     // The last child can't grow by a later one, so that it needs no tails.
-    let front = all_but_last(&left);
-    fill(slots, front);
-    let lists = grown(alloc, tails, front, slots)?;
+    slots.fill(all_but_last(&left))?;
+    let lists = grown(alloc, tails, slots)?;
     'lists: for (at, list) in lists.iter().enumerate() {
         let after = after(&left, at);
         enter(alloc, ranked, ranks, &entered[at], list, after, slots, best)?;
@@ -125,7 +123,7 @@ fn enter(
     child: &Child,
     tails: &[Tail<'_>],
     later: &[u32],
-    slots: &mut [usize],
+    slots: &mut Slots,
     best: &mut Best,
 ) -> Result<(), NoMemory>
     requires rules { IsRanking ranked.now }
@@ -135,10 +133,10 @@ fn enter(
     requires later { AreLater ranked.now (ranks.old.items ++ child.now.rank ∷ []) later.now }
     requires enough { AreEnough best.old ranked.now (ranks.old.items ++ child.now.rank ∷ [])
         later.now }
-    requires room { length slots.old ≡ length ranked.now.items }
+    requires room { slots.old.room ≡ length ranked.now.items }
     requires kept { IsKept best.old }
     ensures ranks { OnOk result (ranks.new.items ≡ ranks.old.items) }
-    ensures room { length slots.new ≡ length slots.old }
+    ensures room { slots.new.room ≡ slots.old.room }
     ensures covers { OnOk result
         (Covers best.old (Grows ranked.now (ranks.old.items ++ child.now.rank ∷ [])) best.new) }
 {

@@ -1,13 +1,19 @@
 -- Ranks with a slot each, and lists that go along with them.
-use Rattle.std.proofs.Common.{◌≡◌, ℕ, zero, suc, ◌<◌, Bool, true, false, cond, eqb, ◌||◌, List, [], ◌∷◌, ◌++◌, length, get_or, set, take, replicate}
+use Rattle.std.proofs.Common.{◌≡◌, ◌≢◌, ℕ, zero, suc, ◌<◌, Bool, true, false, cond, eqb, ◌||◌, List, [], ◌∷◌, ◌++◌, length, get_or, set, take, replicate}
 use Rattle.std.proofs.Common.{inl, inr, refl, sym, ap, ◌∙◌, subst, arith, nat_eq}
 use Rattle.std.specs.List.{AllByRecursion, IsDistinct}
 use Rattle.std.proofs.Math.Bool.{or-true}
 use Rattle.std.proofs.lemmas.Bool.{ne_eqb, eq-eqb, cases_eq}
+use Rattle.hu_kind.specs.Order.{Ascend}
+use Rattle.hu_kind.proofs.lemmas.Each.{each-get, each-weaker}
 use Rattle.hu_totals.specs.Cells.{among}
 use Rattle.hu_search.specs.Slots.{IsPlace, at}
 
 -- ---- ranks among others
+
+both_false : (a b : Bool) → a || b ≡ false → (a ≡ false) × (b ≡ false)
+both_false true b h = cc
+both_false false b h = (refl, h)
 
 pub among-at : (ranks : List ℕ) (i rank : ℕ) → i < length ranks → get_or ranks i 0 ≡ rank → among rank ranks ≡ true
 among-at [] i rank within e = absurd (omega arith)
@@ -21,21 +27,45 @@ distinct-before [] i d apart within = absurd (omega arith)
 distinct-before (r ∷ ranks) zero d apart within = refl
 distinct-before (r ∷ ranks) (suc i) d apart within =
     let ih = distinct-before ranks i d apart.1 (omega arith) in
+    let no = each-get (λ y. eqb r y ≡ false) ranks i d apart.0 (omega arith) in
     let other : eqb (get_or ranks i d) r ≡ false =
-    ne_eqb (get_or ranks i d) r (λ e. let same : eqb r (get_or ranks i d) ≡ true =
-    eq-eqb r (get_or ranks i d) (sym e) in let no = at ranks i apart.0 (omega arith) in cc) in
+    ne_eqb (get_or ranks i d) r (λ e. let same : eqb r (get_or ranks i d) ≡ true = eq-eqb r (get_or ranks i d) (sym e) in cc) in
     rw other ih
-  where
-    at : (ranks : List ℕ) (i : ℕ) → AllByRecursion (λ y. eqb r y ≡ false) ranks → i < length ranks → eqb r (get_or ranks i d) ≡ false
-    at [] i all within = absurd (omega arith)
-    at (x ∷ xs) zero all within = all.0
-    at (x ∷ xs) (suc i) all within = at xs i all.1 (omega arith)
+
+-- ascending ranks are distinct
+pub Ascend-distinct : (ranks : List ℕ) → Ascend ranks → IsDistinct nat_eq ranks
+unfolding IsDistinct
+Ascend-distinct [] up = tt
+Ascend-distinct (r ∷ ranks) up = (
+  each-weaker (λ y. r < y) (λ y. eqb r y ≡ false) ranks (λ y low. ne_eqb r y (λ e. absurd (omega (arith, low, e)))) up.0,
+  Ascend-distinct ranks up.1,
+)
+
+-- a rank that isn't one of the ranks stands at none of their places
+pub absent-at : (ranks : List ℕ) (rank i : ℕ) → among rank ranks ≡ false → i < length ranks → get_or ranks i 0 ≢ rank
+absent-at ranks rank i none within e = let there = among-at ranks i rank within e in cc
+
+-- and one of distinct ranks at one place alone
+pub place-once : (ranks : List ℕ) (rank place i : ℕ) → IsDistinct nat_eq ranks → IsPlace ranks rank place → i < length ranks
+    → get_or ranks i 0 ≡ rank → i ≡ place
+unfolding IsDistinct
+place-once [] rank place i apart is within e = absurd (omega arith)
+place-once (r ∷ ranks) rank zero zero apart is within e = refl
+place-once (r ∷ ranks) rank zero (suc i) apart is within e =
+    let other = each-get (λ y. eqb r y ≡ false) ranks i 0 apart.0 (omega (arith, within)) in
+    let same : eqb r (get_or ranks i 0) ≡ true = eq-eqb r (get_or ranks i 0) (is.here ∙ sym e) in
+    cc
+place-once (r ∷ ranks) rank (suc place) zero apart is within e =
+    let first = both_false (eqb rank r) (among rank (take place ranks)) is.first in
+    let same : eqb rank r ≡ true = eq-eqb rank r (sym e) in
+    let other = first.0 in
+    cc
+place-once (r ∷ ranks) rank (suc place) (suc i) apart is within e =
+    let first = both_false (eqb rank r) (among rank (take place ranks)) is.first in
+    let low = is.within in
+    ap suc (place-once ranks rank place i apart.1 (record { within = omega (arith, low); here = is.here; first = first.1 }) (omega (arith, within)) e)
 
 -- ---- lists that go along with ranks
-
-both_false : (a b : Bool) → a || b ≡ false → (a ≡ false) × (b ≡ false)
-both_false true b h = cc
-both_false false b h = (refl, h)
 
 -- a rank apart from one has what it has
 choose : {A : Type 0} (r rank z : ℕ) (w v x : A) → eqb rank r ≡ false → cond (eqb z r) w (cond (eqb z rank) v x) ≡ cond (eqb z rank) v (cond (eqb z r) w x)

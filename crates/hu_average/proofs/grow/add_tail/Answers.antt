@@ -1,20 +1,21 @@
-use Rattle.std.proofs.Common.{◌≡◌, ◌≢◌, ◌<◌, ◌++◌, ◌∷◌, [], List, true, false, cond, eqb, length, get_or, set, Some, inl, inr, map}
+use Rattle.std.proofs.Common.{◌≡◌, ◌≢◌, ◌<◌, ◌++◌, ◌∷◌, [], List, true, false, cond, eqb, length, get_or, set, inl, inr, map}
 use Rattle.std.proofs.Common.{sym, ap, ◌∙◌, arith, append-nil}
 use Rattle.std.specs.declared.vec.Vec.{Vec}
 use Rattle.std.specs.declared.alloc.Global.{Global}
 use Rattle.std.proofs.lemmas.Bool.{cases_eq, eq-eqb, ne_eqb}
 use Rattle.std.proofs.lemmas.List.{map-set, get_or-map, map-append, length-map, get_or-set_same, get_or-set_other}
+use Rattle.hu_search.proofs.lemmas.Slots.{place-once}
 use Rattle.hu_average.specs.declared.tail.Tail.{Tail}
 use Rattle.hu_average.specs.Tails.{TailOf, tail_of, tails_of, tails_at}
 use Rattle.hu_average.proofs.grow.add_tail.Goals as goal
 
 pub returns-in_ok-push-clause-lists : goal.returns-in_ok-push-clause-lists
 returns-in_ok-push-clause-lists c i within =
-    let ranks = c.args.ranks.now in
+    let ranks = c.args.slots.now.ranks in
     let lists = c.args.lists.now.items in
     let rank = c.args.rank in
     let slot = c.in-Some.slot in
-    let at = c.in-Some.ensures.some in
+    let at = c.in-Some.ensures in
     let low = at.within in
     let inside : slot < length lists = omega (arith, low, c.requires.len) in
     let old = c.index_mut.result.now in
@@ -37,9 +38,7 @@ returns-in_ok-push-clause-lists c i within =
           ∙ ap (λ b. tails_at lists i ++ cond b one []) (sym same)
       | inr ne ↦
           let apart : eqb (get_or ranks i 0) rank ≡ false =
-          ne_eqb (get_or ranks i 0) rank (λ e.
-          let is : Some slot ≡ Some i = c.in-Some.ensures.whole i (record { within = within; here = e }) in
-          let same : slot ≡ i = cc in absurd (ne (sym same))) in
+          ne_eqb (get_or ranks i 0) rank (λ e. ne (place-once ranks rank slot i c.requires.once at within e)) in
           let other : i ≢ slot = ne in
           get_or-set_other seen slot i (tails_of c.push.new.self.items) [] other ∙ sym (append-nil (tails_at lists i))
           ∙ ap (λ b. tails_at lists i ++ cond b one []) (sym apart)

@@ -4,7 +4,7 @@ use Rattle.std.proofs.lemmas.Int.{ints}
 use Rattle.std.proofs.lemmas.List.{take_all, length-drop}
 use Rattle.hu_totals.specs.declared.ranked.Dense.{Dense}
 use Rattle.hu_totals.specs.View.{cells_of}
-use Rattle.hu_totals.proofs.lemmas.DenseLemmas.{rank-at, value-within}
+use Rattle.hu_totals.proofs.lemmas.DenseLemmas.{value-within}
 use Rattle.hu_average.specs.Tails.{left_from, tails_at}
 use Rattle.hu_average.proofs.PassLemmas.{lists-back}
 use Rattle.hu_average.proofs.grow.add_tails.Goals as goal
@@ -18,14 +18,6 @@ overflow_add-left c =
     let some = c.loop-place-test.true in
     let upto = c.loop-place.invariant.within in
     omega (arith, ints, value-within c.args.tail.now.cells.now (c.loop-place.place - 1) no_cell (omega (arith, some, upto)), c.requires.fits)
-
-pub add_tail-requires-clause-within : goal.add_tail-requires-clause-within
-unfolding no_cell
-add_tail-requires-clause-within c =
-    let some = c.loop-place-test.true in
-    let upto = c.loop-place.invariant.within in
-    rank-at (λ rank. rank < length c.args.slots.now) c.args.tail.now.cells.now (c.loop-place.place - 1) no_cell c.requires.rules.in_range
-    (omega (arith, some, upto))
 
 pub loop-place-preserved : goal.loop-place-preserved
 unfolding no_cell
@@ -50,7 +42,7 @@ loop-place-preserved c =
       within = omega (arith, upto);
       len = c.in_ok-add_tail.ensures.len;
       lists = λ i within.
-          let z = get_or c.args.ranks.now i 0 in
+          let z = get_or c.args.slots.now.ranks i 0 in
           let old = tails_at c.args.lists.now.items i in
           let now = tails_at c.loop-place.lists.items i in
           let new = tails_at c.add_tail.new.lists.items i in

@@ -1,4 +1,4 @@
-use Rattle.std.proofs.Common.{◌++◌, pos, [], length, get_or, sym, ap, ◌∙◌, arith}
+use Rattle.std.proofs.Common.{◌++◌, pos, [], get_or, sym, ap, ◌∙◌, arith}
 use Rattle.hu_average.specs.declared.tail.Tail.{Tail}
 use Rattle.hu_average.specs.Tails.{IsTail, left_in, tail_of}
 use Rattle.hu_average.proofs.PassLemmas.{tail-at, size-at, grown-next}
@@ -10,7 +10,7 @@ no_tail = record { own = pos 0; most = pos 0; cells = record { ref_ptr = (0, 0);
 pub add_tails-requires-clause-rules : goal.add_tails-requires-clause-rules
 unfolding no_tail
 add_tails-requires-clause-rules c =
-    tail-at (IsTail (length c.args.slots.now)) c.args.tails.now c.loop-tail.tail-index no_tail c.requires.rules.each c.loop-tail-test.true
+    tail-at (IsTail (c.args.slots.now.room)) c.args.tails.now c.loop-tail.tail-index no_tail c.requires.rules.each c.loop-tail-test.true
 
 pub add_tails-requires-clause-fits : goal.add_tails-requires-clause-fits
 unfolding no_tail
@@ -25,7 +25,7 @@ loop-tail-preserved c =
     record {
       len = c.in_ok-add_tails.ensures.len;
       lists = λ i within.
-          let z = get_or c.args.ranks.now i 0 in
+          let z = get_or c.args.slots.now.ranks i 0 in
           c.in_ok-add_tails.ensures.lists i within
           ∙ ap (λ ts. ts ++ left_in z (tail_of (get_or tails k no_tail))) (c.loop-tail.invariant.lists i within)
           ∙ sym (grown-next z tails k no_tail c.loop-tail-test.true);

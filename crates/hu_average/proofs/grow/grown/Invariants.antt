@@ -4,6 +4,6 @@ use Rattle.hu_average.proofs.grow.grown.Given as goal
 
 abbrev pub invariant-loop-tail : goal.invariant-loop-tail
 invariant-loop-tail l = record {
-  len : length l.lists.items ≡ length l.ranks;
-  lists : (i : ℕ) → i < length l.ranks → tails_at l.lists.items i ≡ grown (get_or l.ranks i 0) (tails_of (take l.tail-index l.tails));
+  len : length l.lists.items ≡ length l.slots.ranks;
+  lists : (i : ℕ) → i < length l.slots.ranks → tails_at l.lists.items i ≡ grown (get_or l.slots.ranks i 0) (tails_of (take l.tail-index l.tails));
 }

@@ -1,11 +1,11 @@
-use Rattle.std.proofs.Common.{rules, ◌≡◌, ◌<◌, ◌+◌, ◌-◌, ◌*◌, ◌++◌, ℕ, List, [], ◌∷◌, length, drop, get_or, refl, sym, ap, ◌∙◌, subst, arith}
-use Rattle.std.specs.List.{AllByRecursion}
+use Rattle.std.proofs.Common.{rules, ◌≡◌, ◌<◌, ◌+◌, ◌-◌, ◌*◌, ◌++◌, ℕ, List, [], ◌∷◌, length, drop, get_or, nat_eq, refl, sym, ap, ◌∙◌, subst, arith}
+use Rattle.std.specs.List.{AllByRecursion, IsDistinct}
 use Rattle.std.specs.declared.vec.Vec.{Vec}
 use Rattle.std.specs.declared.alloc.Global.{Global}
 use Rattle.std.proofs.lemmas.List.{length-map, length-drop}
-use Rattle.hu_kind.specs.Order.{Ascend}
 use Rattle.hu_kind.proofs.lemmas.Each.{each-take}
 use Rattle.hu_search.specs.Growth.{Grows}
+use Rattle.hu_search.proofs.lemmas.Slots.{Ascend-distinct}
 use Rattle.hu_average.specs.declared.tail.Tail.{Tail}
 use Rattle.hu_average.specs.declared.children.Child.{Child}
 use Rattle.hu_average.specs.Best.{IsKept, Covers, offered}
@@ -39,19 +39,22 @@ enter-search-requires t c =
 
 -- ---- search
 
-pub search-fill-requires-clause-ascending : goal.search-fill-requires-clause-ascending
-search-fill-requires-clause-ascending t c =
-    subst Ascend (sym (c.all_but_last-front.ensures ∙ ap all_but_last (c.deref-7.ensures.value ∙ c.in_ok-left.ensures ∙ ap ranks_of c.deref-6.ensures.value)))
-    (ascend-take (length (ranks_of c.in_ok-entered.entered.items) - 1) (ranks_of c.in_ok-entered.entered.items) c.in_ok-entered.ensures.children.ascending)
+pub search-fill-requires-clause-once : goal.search-fill-requires-clause-once
+search-fill-requires-clause-once t c =
+    let later = ranks_of c.in_ok-entered.entered.items in
+    let front : c.all_but_last.result.now ≡ all_but_last later =
+    c.all_but_last.ensures ∙ ap all_but_last (c.deref-7.ensures.value ∙ c.in_ok-left.ensures ∙ ap ranks_of c.deref-6.ensures.value) in
+    subst (IsDistinct nat_eq) (sym front)
+    (Ascend-distinct (all_but_last later) (ascend-take (length later - 1) later c.in_ok-entered.ensures.children.ascending))
 
 pub search-fill-requires-clause-within : goal.search-fill-requires-clause-within
 search-fill-requires-clause-within t c =
     let r = c.args.ranked.now in
     let entered = c.in_ok-entered.entered.items in
-    let room : length r.items ≡ length c.children.new.slots = sym (c.children.ensures.room ∙ c.requires.room) in
-    let front : all_but_last (ranks_of entered) ≡ c.all_but_last-front.result.now =
-    sym (c.all_but_last-front.ensures ∙ ap all_but_last (c.deref-7.ensures.value ∙ c.in_ok-left.ensures ∙ ap ranks_of c.deref-6.ensures.value)) in
-    subst (λ ranks. AllByRecursion (λ rank. rank < length c.children.new.slots) ranks) front
+    let room : length r.items ≡ c.children.new.slots.room = sym (c.children.ensures.room ∙ c.requires.room) in
+    let front : all_but_last (ranks_of entered) ≡ c.all_but_last.result.now =
+    sym (c.all_but_last.ensures ∙ ap all_but_last (c.deref-7.ensures.value ∙ c.in_ok-left.ensures ∙ ap ranks_of c.deref-6.ensures.value)) in
+    subst (λ ranks. AllByRecursion (λ rank. rank < c.children.new.slots.room) ranks) front
     (subst (λ n. AllByRecursion (λ rank. rank < n) (all_but_last (ranks_of entered))) room
     (each-take (λ rank. rank < length r.items) (length (ranks_of entered) - 1) (ranks_of entered)
     (later-within r c.deref-4.result.now (ranks_of entered) (later-of r c.deref-4.result.now entered c.in_ok-entered.ensures.children))))
@@ -67,7 +70,7 @@ search-lists-init t c =
     let entered = c.in_ok-entered.entered.items in
     let items = c.deref-list-items.result.now in
     let tails = tails_of c.args.tails.now in
-    let front = c.all_but_last-front.result.now in
+    let front = c.fill.new.self.ranks in
     let first : ArePicked old r set later children =
     subst (λ s. ArePicked old r s later children) c.deref.ensures.value c.in_ok-children.ensures.picked in
     let offers : mid ≡ offered old (entries_of r set children) =
@@ -76,13 +79,13 @@ search-lists-init t c =
     subst (λ (cs : List Child). ArePicked mid r set (ranks_of cs) entered) c.deref-5.ensures.value
     (subst (λ s. ArePicked mid r s (ranks_of c.deref-5.result.now) entered) c.deref-4.ensures.value c.in_ok-entered.ensures) in
     let is : front ≡ all_but_last (ranks_of entered) =
-    c.all_but_last-front.ensures ∙ ap all_but_last (c.deref-7.ensures.value ∙ c.in_ok-left.ensures ∙ ap ranks_of c.deref-6.ensures.value) in
+    c.in_ok-fill.ensures.ranks ∙ c.all_but_last.ensures ∙ ap all_but_last (c.deref-7.ensures.value ∙ c.in_ok-left.ensures ∙ ap ranks_of c.deref-6.ensures.value) in
     let are : (k : ℕ) → k < length front → tails_at items k ≡ grown (get_or front k 0) tails =
     subst (λ (ls : List (Vec Tail Global)). (k : ℕ) → k < length front → tails_at ls k ≡ grown (get_or front k 0) tails)
     (sym c.deref-list-items.ensures.value) c.in_ok-lists.ensures.lists in
     record {
       ranks = refl;
-      room = c.fill.ensures.len ∙ c.children.ensures.room;
+      room = c.fill.ensures.room ∙ c.children.ensures.room;
       so_far = so_far-first old mid r set later front tails children entered items c.requires.kept c.requires.enough first offers picked
           c.requires.left is (ap length c.deref-list-items.ensures.value ∙ c.in_ok-lists.ensures.len) are;
     }
@@ -117,7 +120,7 @@ search-enter-requires t c =
     subst (AreEnough b r (ranks ++ child.rank ∷ [])) after
     (subst (λ s. AreEnough b r (s ++ child.rank ∷ []) (drop (at + 1) (ranks_of entered))) same
     (subst (λ (x : Child). AreEnough b r (set ++ x.rank ∷ []) (drop (at + 1) (ranks_of entered))) here (so_far-enough so_far child inside))) in
-    let room : length c.lists.slots ≡ length r.items = c.lists.invariant.room ∙ c.requires.room in
+    let room : c.lists.slots.room ≡ length r.items = c.lists.invariant.room ∙ c.requires.room in
     let kept : IsKept b = so_far-kept so_far in
     let smaller : 2 * length c.after-after.result.now + 1 < 2 * length c.args.later.now =
     omega (

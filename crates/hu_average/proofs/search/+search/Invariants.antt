@@ -12,6 +12,6 @@ decreases-search l = 2 * length l.later.now
 abbrev pub invariant-search-lists : goal.invariant-search-lists
 invariant-search-lists l = record {
   ranks : l.ranks.items ≡ l.fn.ranks.items;
-  room : length l.slots ≡ length l.fn.slots;
+  room : l.slots.room ≡ l.fn.slots.room;
   so_far : IsSoFar l.fn.best l.best l.ranked l.fn.ranks.items l.entered.items l.list-items l.at;
 }

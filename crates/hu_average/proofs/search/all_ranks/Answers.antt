@@ -1,9 +1,8 @@
-use Rattle.std.proofs.Common.{◌≡◌, ℕ, ◌+◌, ◌<◌, ◌++◌, List, [], ◌∷◌, length, inl, inr, ap, ◌∙◌, sym, subst, arith}
+use Rattle.std.proofs.Common.{◌≡◌, ◌+◌, ◌<◌, ◌++◌, [], ◌∷◌, length, inl, inr, sym, subst, arith}
 use Rattle.std.specs.List.{AllByRecursion}
 use Rattle.std.proofs.lemmas.Bool.{cases_lt}
-use Rattle.std.proofs.lemmas.List.{length-append}
 use Rattle.hu_kind.specs.Order.{Ascend}
-use Rattle.hu_kind.proofs.lemmas.Each.{each-push, each-append, each-weaker}
+use Rattle.hu_kind.proofs.lemmas.Each.{each-push, each-weaker}
 use Rattle.hu_kind.proofs.lemmas.Members.{Member, Member-append_left, Member-append_right}
 use Rattle.hu_kind.proofs.lemmas.Ascending.{Ascend-last}
 use Rattle.hu_average.specs.Children.{IsLater}
@@ -15,9 +14,7 @@ loop-rank-preserved c =
     let was = c.loop-rank.invariant in
     let old = c.loop-rank.ranks.items in
     let pushed : c.push.new.self.items ≡ old ++ z ∷ [] = c.in_ok-push.ensures.items in
-    let len = was.len in
     record {
-      len = ap length pushed ∙ length-append old (z ∷ []) ∙ ap (λ n. n + 1) len;
       below = subst (AllByRecursion (λ x. x < z + 1)) (sym pushed)
           (each-push (λ x. x < z + 1) old z (each-weaker (λ x. x < z) (λ x. x < z + 1) old (λ x low. omega (arith, low)) was.below) (omega arith));
       ascending = subst Ascend (sym pushed) (Ascend-last old z was.ascending was.below);

@@ -1,9 +1,10 @@
 use Rattle.std.proofs.Common.{◌≡◌, ◌≢◌, ◌<◌, true, false, cond, eqb, max, unsigned_abs, ◌+ℤ◌, to_z, of_z, length, get_or, set}
-use Rattle.std.proofs.Common.{Some, inl, inr, sym, ap, ◌∙◌, subst, arith}
+use Rattle.std.proofs.Common.{inl, inr, sym, ap, ◌∙◌, subst, arith}
 use Rattle.std.specs.Int.{w128}
 use Rattle.std.proofs.lemmas.Bool.{cases_eq, eq-eqb, ne_eqb}
 use Rattle.std.proofs.lemmas.Int.{ints}
 use Rattle.std.proofs.lemmas.List.{get_or-set_same, get_or-set_other, get_or_default}
+use Rattle.hu_search.proofs.lemmas.Slots.{place-once}
 use Rattle.hu_average.specs.Totals.{total_with, no_total, plus, total_at, Fits}
 use Rattle.hu_average.proofs.TailLemmas.{plus-none}
 use Rattle.hu_average.proofs.totals.add_cell.Goals as goal
@@ -12,7 +13,7 @@ pub with-requires : goal.with-requires
 with-requires c =
     let totals = c.args.totals.now.items in
     let slot = c.in-Some.slot in
-    let at = c.in-Some.ensures.some in
+    let at = c.in-Some.ensures in
     let low = at.within in
     let fits = c.requires.fits slot at.within at.here in
     let here : total_at totals slot ≡ c.index.result.now =
@@ -27,7 +28,7 @@ pub returns-in-Some-clause-totals : goal.returns-in-Some-clause-totals
 returns-in-Some-clause-totals c i within =
     let totals = c.args.totals.now.items in
     let slot = c.in-Some.slot in
-    let at = c.in-Some.ensures.some in
+    let at = c.in-Some.ensures in
     let low = at.within in
     let inside : slot < length totals = omega (arith, low, c.requires.len) in
     let fits = c.requires.fits slot at.within at.here in
@@ -43,17 +44,15 @@ returns-in-Some-clause-totals c i within =
     let more = total_with (c.args.tail.now.own +ℤ c.args.cell.now.value) 1 c.args.tail.now.most in
     elim (cases_eq i slot) [
       | inl e ↦
-          let same : eqb (get_or c.args.ranks.now i 0) c.args.cell.now.rank ≡ true =
-          eq-eqb (get_or c.args.ranks.now i 0) c.args.cell.now.rank (ap (λ k. get_or c.args.ranks.now k 0) e ∙ at.here) in
+          let same : eqb (get_or c.args.slots.now.ranks i 0) c.args.cell.now.rank ≡ true =
+          eq-eqb (get_or c.args.slots.now.ranks i 0) c.args.cell.now.rank (ap (λ k. get_or c.args.slots.now.ranks k 0) e ∙ at.here) in
           ap (λ k. get_or (set totals slot c.with.result) k no_total) e
           ∙ get_or-set_same totals slot c.with.result no_total inside ∙ worth
           ∙ ap (λ k. plus (total_at totals k) more) (sym e)
           ∙ ap (λ b. plus (total_at totals i) (cond b more no_total)) (sym same)
       | inr ne ↦
-          let apart : eqb (get_or c.args.ranks.now i 0) c.args.cell.now.rank ≡ false =
-          ne_eqb (get_or c.args.ranks.now i 0) c.args.cell.now.rank (λ e.
-          let is : Some slot ≡ Some i = c.in-Some.ensures.whole i (record { within = within; here = e }) in
-          let same : slot ≡ i = cc in absurd (ne (sym same))) in
+          let apart : eqb (get_or c.args.slots.now.ranks i 0) c.args.cell.now.rank ≡ false =
+          ne_eqb (get_or c.args.slots.now.ranks i 0) c.args.cell.now.rank (λ e. ne (place-once c.args.slots.now.ranks c.args.cell.now.rank slot i c.requires.once at within e)) in
           let other : i ≢ slot = ne in
           get_or-set_other totals slot i c.with.result no_total other ∙ sym (plus-none (total_at totals i))
           ∙ ap (λ b. plus (total_at totals i) (cond b more no_total)) (sym apart)

@@ -1,7 +1,6 @@
-use Rattle.std.proofs.Common.{◌≡◌, ◌-◌, ◌+◌, ◌<◌, pos, length, get_or, drop, ◌∙◌, subst, arith}
+use Rattle.std.proofs.Common.{◌≡◌, ◌-◌, ◌+◌, pos, get_or, drop, ◌∙◌, subst, arith}
 use Rattle.hu_totals.specs.declared.ranked.Dense.{Dense}
 use Rattle.hu_totals.specs.View.{cells_of}
-use Rattle.hu_totals.proofs.lemmas.DenseLemmas.{rank-at}
 use Rattle.hu_average.specs.Totals.{plus, total_at}
 use Rattle.hu_average.specs.Tails.{left_from, total_in}
 use Rattle.hu_average.proofs.PassLemmas.{totals-back, fits-back}
@@ -9,14 +8,6 @@ use Rattle.hu_average.proofs.totals.add_tail.Goals as goal
 
 no_cell : Dense
 no_cell = record { rank = 0; value = pos 0 }
-
-pub add_cell-requires-clause-within : goal.add_cell-requires-clause-within
-unfolding no_cell
-add_cell-requires-clause-within c =
-    let some = c.loop-place-test.true in
-    let upto = c.loop-place.invariant.within in
-    rank-at (λ rank. rank < length c.args.slots.now) c.args.tail.now.cells.now (c.loop-place.place - 1) no_cell c.requires.rules.in_range
-    (omega (arith, some, upto))
 
 pub add_cell-requires-clause-fits : goal.add_cell-requires-clause-fits
 unfolding no_cell
@@ -26,7 +17,7 @@ add_cell-requires-clause-fits c i within e =
     let place = c.loop-place.place in
     let some = c.loop-place-test.true in
     let upto = c.loop-place.invariant.within in
-    let z = get_or c.args.ranks.now i 0 in
+    let z = get_or c.args.slots.now.ranks i 0 in
     let one : place ≡ place - 1 + 1 = omega (arith, some) in
     let was : total_at c.loop-place.totals.items i ≡ plus (total_at c.args.totals.now.items i)
     (total_in (left_from z tail.own tail.most (cells_of (drop (place - 1 + 1) cells)))) =
@@ -48,7 +39,7 @@ loop-place-preserved c =
       within = omega (arith, upto);
       len = c.add_cell.ensures.len ∙ c.loop-place.invariant.len;
       totals = λ i within.
-          let z = get_or c.args.ranks.now i 0 in
+          let z = get_or c.args.slots.now.ranks i 0 in
           let was : total_at c.loop-place.totals.items i ≡ plus (total_at c.args.totals.now.items i)
           (total_in (left_from z tail.own tail.most (cells_of (drop (place - 1 + 1) cells)))) =
           subst (λ k. total_at c.loop-place.totals.items i ≡ plus (total_at c.args.totals.now.items i)
