@@ -13,7 +13,7 @@ use Rattle.hu_kind.proofs.lemmas.Occurring.{at_member}
 use Rattle.hu_totals.specs.Ranked.{Ranking, IsRanking, unranked}
 use Rattle.hu_collect.specs.Rule.{passes}
 use Rattle.hu_collect.specs.State.{State, offered, floor_in, IsInOrder, Reached, ReachedSome, Searches, Mines}
-use Rattle.hu_collect.proofs.lemmas.Searching.{empty-contains, reached-rule, reached-in_order, reached-floor, passes-new, reached-none, reached-one}
+use Rattle.hu_collect.proofs.lemmas.Searching.{empty-contains, reached-rule, reached-floor, passes-new, reached-none, reached-one}
 use Rattle.hu_collect.proofs.lemmas.Searching.{reached-then, reached-as, some-reached, some-as, some-then, mined}
 use Rattle.hu_search.specs.declared.child.Child.{Child}
 use Rattle.hu_search.specs.Growth.{rank_entry, Grows}
@@ -179,13 +179,6 @@ module _ (r : Ranking) (set : List ℕ) where
             ]
           ])
           first second
-
-      -- one needn't be entered
-      pub upto-barren : {old s : State} → IsInOrder old → Reached old (IsUpto r set ranks chosen i) s
-          → IsBarren s r (set ++ (get_or chosen i d).rank ∷ []) → Reached old (IsUpto r set ranks chosen (i + 1)) s
-      upto-barren {s = s} ordered first barren =
-          upto-next ordered first (reached-none {P = Grows r (set ++ (get_or chosen i d).rank ∷ [])} s (reached-in_order first)
-          (λ e grows pass high. barren e grows (record { pass = pass; high = high })))
 
       -- want of memory below one
       pub upto-some : {old s t : State} → Reached old (IsUpto r set ranks chosen i) s

@@ -1,5 +1,5 @@
 -- Ranks with a slot each, and lists that go along with them.
-use Rattle.std.proofs.Common.{◌≡◌, ◌≢◌, ℕ, zero, suc, ◌<◌, Bool, true, false, cond, eqb, ◌||◌, List, [], ◌∷◌, ◌++◌, length, get_or, set, take, replicate}
+use Rattle.std.proofs.Common.{◌≡◌, ℕ, zero, suc, ◌<◌, Bool, true, false, cond, eqb, ◌||◌, List, [], ◌∷◌, ◌++◌, length, get_or, set, take, replicate}
 use Rattle.std.proofs.Common.{inl, inr, refl, sym, ap, ◌∙◌, subst, arith, nat_eq}
 use Rattle.std.specs.List.{AllByRecursion, IsDistinct}
 use Rattle.std.proofs.Math.Bool.{or-true}
@@ -41,11 +41,7 @@ Ascend-distinct (r ∷ ranks) up = (
   Ascend-distinct ranks up.1,
 )
 
--- a rank that isn't one of the ranks stands at none of their places
-pub absent-at : (ranks : List ℕ) (rank i : ℕ) → among rank ranks ≡ false → i < length ranks → get_or ranks i 0 ≢ rank
-absent-at ranks rank i none within e = let there = among-at ranks i rank within e in cc
-
--- and one of distinct ranks at one place alone
+-- one of distinct ranks stands at one place alone
 pub place-once : (ranks : List ℕ) (rank place i : ℕ) → IsDistinct nat_eq ranks → IsPlace ranks rank place → i < length ranks
     → get_or ranks i 0 ≡ rank → i ≡ place
 unfolding IsDistinct
