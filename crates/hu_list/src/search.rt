@@ -23,6 +23,18 @@ use hu_search::{Child, Slots, offer_children, opens, ranks_of};
 use hu_totals::Ranked;
 use std::alloc::Global;
 
+/// What stays the same through a search.
+#[derive(Drop)]
+struct Walk<'a, G> {
+    alloc: Global,
+    /// The records, by the ranks of their items.
+    ranked: &'a Ranked,
+    /// Sets of so many ranks aren't entered.
+    long: u32,
+    /// What says which ranks may stand beside one another.
+    gate: &'a G,
+}
+
 /// Offers the itemsets of the ranked records that can change what the collector holds, with their utility and support, so
 /// that it holds what all itemsets would make. From the records that hold a set it walks on to find all sets with one later rank
 /// more; these are offered before one is entered, best bound first. What grows a set is left out only where its bound is below
@@ -70,16 +82,13 @@ pub fn mine_upto<C: Collect, G: Gate>(
         kept: all_ranks(alloc, ranked)?,
         found: Slots::new(alloc, ranked.len())?,
     };
-    search(
+    let walk = Walk {
         alloc,
         ranked,
         long,
-        &mut Vec::new(alloc),
-        &tails,
-        &mut board,
-        collect,
         gate,
-    )
+    };
+    search(&walk, &mut Vec::new(alloc), &tails, &mut board, collect)
 }
 
 /// All ranks, each with itself as its slot.
@@ -114,31 +123,34 @@ fn record_tails<'a>(alloc: Global, ranked: &'a Ranked) -> Result<Vec<Tail<'a>>, 
 /// Offers the sets that grow a set by ranks that the board keeps.
 #[cycle(search)]
 fn search<C: Collect, G: Gate>(
-    alloc: Global,
-    ranked: &Ranked,
-    long: u32,
+    walk: &Walk<'_, G>,
     ranks: &mut Vec<u32>,
     tails: &[Tail<'_>],
     board: &mut Board,
     collect: &mut C,
-    gate: &G,
 ) -> Result<(), NoMemory>
-    requires rules { IsRanking ranked.now }
-    requires table { InTable ranked.now ranks.old.items }
-    requires left { IsLeft ranked.now ranks.old.items (tails_of tails.now) }
+    requires rules { IsRanking walk.now.ranked.now }
+    requires table { InTable walk.now.ranked.now ranks.old.items }
+    requires left { IsLeft walk.now.ranked.now ranks.old.items (tails_of tails.now) }
     requires enough { AreEnough
-        (C.state collect.old) ranked.now ranks.old.items board.old.kept.ranks }
+        (C.state collect.old) walk.now.ranked.now ranks.old.items board.old.kept.ranks }
     requires ordered { IsInOrder (C.state collect.old) }
-    requires floor { G.floor gate.now ≤ℤ floor_in (C.state collect.old) }
-    requires right { G.IsRightFor gate.now ranked.now.records }
-    requires rests { RestsOn (C.state collect.old).rule.table ranked.now.items }
-    requires long { WantsUpto (C.state collect.old).rule ranked.now.items long }
-    requires room { HasRoom board.old (length ranked.now.items) }
+    requires floor { G.floor walk.now.gate.now ≤ℤ floor_in (C.state collect.old) }
+    requires right { G.IsRightFor walk.now.gate.now walk.now.ranked.now.records }
+    requires rests { RestsOn (C.state collect.old).rule.table walk.now.ranked.now.items }
+    requires long { WantsUpto (C.state collect.old).rule walk.now.ranked.now.items walk.now.long }
+    requires room { HasRoom board.old (length walk.now.ranked.now.items) }
     ensures ranks { OnOk result (ranks.new.items ≡ ranks.old.items) }
-    ensures room { HasRoom board.new (length ranked.now.items) }
-    ensures searches { Searches (C.state collect.old) (Grows ranked.now ranks.old.items)
+    ensures room { HasRoom board.new (length walk.now.ranked.now.items) }
+    ensures searches { Searches (C.state collect.old) (Grows walk.now.ranked.now ranks.old.items)
         (C.state collect.new) result }
 {
+    let Walk {
+        alloc,
+        ranked,
+        long,
+        gate,
+    } = *walk;
     let children = children(alloc, ranked, ranks, tails, board, collect, gate)?;
     offer_children(alloc, ranked, ranks, &children, collect)?;
     if are_longest(ranks, long) {
@@ -151,9 +163,7 @@ fn search<C: Collect, G: Gate>(
         if child.bound < collect.floor() {
             break;
         }
-        enter(
-            alloc, ranked, long, ranks, child, &lists[at], &later, board, collect, gate,
-        )?;
+        enter(walk, ranks, child, &lists[at], &later, board, collect)?;
     }
     Ok(())
 }
@@ -168,44 +178,41 @@ fn are_longest(ranks: &[u32], long: u32) -> bool
 /// Offers the sets that grow a child by later ranks of a list, unless the collector doesn't open it or no cells are left.
 #[cycle(search)]
 fn enter<C: Collect, G: Gate>(
-    alloc: Global,
-    ranked: &Ranked,
-    long: u32,
+    walk: &Walk<'_, G>,
     ranks: &mut Vec<u32>,
     child: &Child,
     tails: &[Tail<'_>],
     later: &[u32],
     board: &mut Board,
     collect: &mut C,
-    gate: &G,
 ) -> Result<(), NoMemory>
-    requires rules { IsRanking ranked.now }
-    requires table { InTable ranked.now (ranks.old.items ++ child.now.rank ∷ []) }
+    requires rules { IsRanking walk.now.ranked.now }
+    requires table { InTable walk.now.ranked.now (ranks.old.items ++ child.now.rank ∷ []) }
     requires ascending { Ascend (ranks.old.items ++ child.now.rank ∷ []) }
-    requires left { IsLeft ranked.now (ranks.old.items ++ child.now.rank ∷ [])
+    requires left { IsLeft walk.now.ranked.now (ranks.old.items ++ child.now.rank ∷ [])
         (tails_of tails.now) }
-    requires enough { AreEnough (C.state collect.old) ranked.now
+    requires enough { AreEnough (C.state collect.old) walk.now.ranked.now
         (ranks.old.items ++ child.now.rank ∷ []) later.now }
     requires once { IsDistinct nat_eq later.now }
-    requires within { AllByRecursion (λ rank. rank < length ranked.now.items) later.now }
+    requires within { AllByRecursion (λ rank. rank < length walk.now.ranked.now.items) later.now }
     requires ordered { IsInOrder (C.state collect.old) }
-    requires floor { G.floor gate.now ≤ℤ floor_in (C.state collect.old) }
-    requires right { G.IsRightFor gate.now ranked.now.records }
-    requires rests { RestsOn (C.state collect.old).rule.table ranked.now.items }
-    requires long { WantsUpto (C.state collect.old).rule ranked.now.items long }
-    requires room { HasRoom board.old (length ranked.now.items) }
+    requires floor { G.floor walk.now.gate.now ≤ℤ floor_in (C.state collect.old) }
+    requires right { G.IsRightFor walk.now.gate.now walk.now.ranked.now.records }
+    requires rests { RestsOn (C.state collect.old).rule.table walk.now.ranked.now.items }
+    requires long { WantsUpto (C.state collect.old).rule walk.now.ranked.now.items walk.now.long }
+    requires room { HasRoom board.old (length walk.now.ranked.now.items) }
     ensures ranks { OnOk result (ranks.new.items ≡ ranks.old.items) }
-    ensures room { HasRoom board.new (length ranked.now.items) }
+    ensures room { HasRoom board.new (length walk.now.ranked.now.items) }
     ensures searches { Searches (C.state collect.old)
-        (Grows ranked.now (ranks.old.items ++ child.now.rank ∷ []))
+        (Grows walk.now.ranked.now (ranks.old.items ++ child.now.rank ∷ []))
         (C.state collect.new) result }
 {
-    if tails.is_empty() || !opens(alloc, ranked, ranks, child.rank, collect)? {
+    if tails.is_empty() || !opens(walk.alloc, walk.ranked, ranks, child.rank, collect)? {
         return Ok(());
     }
     board.kept.fill(later)?;
     ranks.push(child.rank)?;
-    search(alloc, ranked, long, ranks, tails, board, collect, gate)?;
+    search(walk, ranks, tails, board, collect)?;
     ranks.pop();
     Ok(())
 }

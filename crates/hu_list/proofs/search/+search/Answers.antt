@@ -33,7 +33,7 @@ enter-fill-requires-clause-within g t c = subst (λ n. AllByRecursion (λ rank. 
 pub enter-returns-then-is_empty-clause-searches : goal.enter-returns-then-is_empty-clause-searches
 enter-returns-then-is_empty-clause-searches g t c =
     let s = g.C.Collect.state c.args.collect.now in
-    let r = c.args.ranked.now in
+    let r = c.args.walk.now.ranked.now in
     let set = c.args.ranks.now.items ++ c.args.child.now.rank ∷ [] in
     elim c.then-is_empty.branch [
       | enter-then-is_empty-via-then-is_empty w ↦
@@ -46,7 +46,7 @@ enter-returns-then-is_empty-clause-searches g t c =
 
 pub enter-search-requires : goal.enter-search-requires
 enter-search-requires g t c κs within =
-    let r = c.args.ranked.now in
+    let r = c.args.walk.now.ranked.now in
     let s = g.C.Collect.state c.args.collect.now in
     let n = length r.items in
     let pushed : c.push.new.self.items ≡ c.args.ranks.now.items ++ c.args.child.now.rank ∷ [] = c.in_ok-push.ensures.items in
@@ -67,12 +67,12 @@ enter-search-requires g t c κs within =
 
 pub search-children-requires-clause-enough : goal.search-children-requires-clause-enough
 search-children-requires-clause-enough g t c =
-    subst (λ set. AreEnough (g.C.Collect.state c.args.collect.now) c.args.ranked.now set c.args.board.now.kept.ranks)
+    subst (λ set. AreEnough (g.C.Collect.state c.args.collect.now) c.args.walk.now.ranked.now set c.args.board.now.kept.ranks)
     (sym c.deref.ensures.value) c.requires.enough
 
 pub search-returns-in_err-offer_children-clause-searches : goal.search-returns-in_err-offer_children-clause-searches
 search-returns-in_err-offer_children-clause-searches g t c =
-    let r = c.args.ranked.now in
+    let r = c.args.walk.now.ranked.now in
     let old = g.C.Collect.state c.args.collect.now in
     let new = g.C.Collect.state c.offer_children.new.collect in
     let some : ReachedSome old (Grows r c.deref-2.result.now) new =
@@ -82,29 +82,29 @@ search-returns-in_err-offer_children-clause-searches g t c =
 
 pub search-returns-then-are_longest-clause-searches : goal.search-returns-then-are_longest-clause-searches
 search-returns-then-are_longest-clause-searches g t c =
-    let r = c.args.ranked.now in
+    let r = c.args.walk.now.ranked.now in
     let set = c.args.ranks.now.items in
     let old = g.C.Collect.state c.args.collect.now in
     let children = c.in_ok-children.children.items in
     let level : IsLevel old r set children = subst (λ xs. IsLevel old r xs children) c.deref.ensures.value c.in_ok-children.ensures.level in
-    let reached : c.args.long ≤ length set + 1 =
-    subst (λ xs. c.args.long ≤ length xs + 1) c.deref-4.ensures.value (c.are_longest.ensures c.if-are_longest.true) in
-    longest-reached r set c.args.long children c.requires.rules c.requires.ordered c.requires.long reached level
+    let reached : c.args.walk.now.long ≤ length set + 1 =
+    subst (λ xs. c.args.walk.now.long ≤ length xs + 1) c.deref-4.ensures.value (c.are_longest.ensures c.if-are_longest.true) in
+    longest-reached r set c.args.walk.now.long children c.requires.rules c.requires.ordered c.requires.long reached level
     (offers-as r c.deref-2.ensures.value c.deref-3.ensures.value c.in_ok-offer_children.ensures)
 
 pub search-returns-in_err-later-clause-searches : goal.search-returns-in_err-later-clause-searches
 search-returns-in_err-later-clause-searches g t c =
-    stopped {P = Grows c.args.ranked.now c.args.ranks.now.items} c.from_residual-in_err-later.result c.from_residual-in_err-later.ensures.0
-    (offered-stopped c.args.ranked.now c.deref-2.ensures.value c.in_ok-offer_children.ensures)
+    stopped {P = Grows c.args.walk.now.ranked.now c.args.ranks.now.items} c.from_residual-in_err-later.result c.from_residual-in_err-later.ensures.0
+    (offered-stopped c.args.walk.now.ranked.now c.deref-2.ensures.value c.in_ok-offer_children.ensures)
 
 pub search-returns-in_err-chosen-clause-searches : goal.search-returns-in_err-chosen-clause-searches
 search-returns-in_err-chosen-clause-searches g t c =
-    stopped {P = Grows c.args.ranked.now c.args.ranks.now.items} c.from_residual-in_err-chosen.result c.from_residual-in_err-chosen.ensures.0
-    (offered-stopped c.args.ranked.now c.deref-2.ensures.value c.in_ok-offer_children.ensures)
+    stopped {P = Grows c.args.walk.now.ranked.now c.args.ranks.now.items} c.from_residual-in_err-chosen.result c.from_residual-in_err-chosen.ensures.0
+    (offered-stopped c.args.walk.now.ranked.now c.deref-2.ensures.value c.in_ok-offer_children.ensures)
 
 pub search-grown_by-requires-clause-children : goal.search-grown_by-requires-clause-children
 search-grown_by-requires-clause-children g t c =
-    let r = c.args.ranked.now in
+    let r = c.args.walk.now.ranked.now in
     let right : AreChildren r c.deref.result.now c.in_ok-chosen.chosen.items =
     chosen-children r c.deref.result.now (to_z w128 (of_z w128 c.floor.result)) c.in_ok-children.children.items c.in_ok-chosen.chosen.items
     c.in_ok-children.ensures.level.right c.in_ok-chosen.ensures in
@@ -113,12 +113,12 @@ search-grown_by-requires-clause-children g t c =
 
 pub search-returns-in_err-lists-clause-searches : goal.search-returns-in_err-lists-clause-searches
 search-returns-in_err-lists-clause-searches g t c =
-    stopped {P = Grows c.args.ranked.now c.args.ranks.now.items} c.from_residual-in_err-lists.result c.from_residual-in_err-lists.ensures.0
-    (offered-stopped c.args.ranked.now c.deref-2.ensures.value c.in_ok-offer_children.ensures)
+    stopped {P = Grows c.args.walk.now.ranked.now c.args.ranks.now.items} c.from_residual-in_err-lists.result c.from_residual-in_err-lists.ensures.0
+    (offered-stopped c.args.walk.now.ranked.now c.deref-2.ensures.value c.in_ok-offer_children.ensures)
 
 pub search-chosen-init : goal.search-chosen-init
 search-chosen-init g t c =
-    let r = c.args.ranked.now in
+    let r = c.args.walk.now.ranked.now in
     let old = g.C.Collect.state c.args.collect.now in
     let mid = g.C.Collect.state c.offer_children.new.collect in
     let set = c.args.ranks.now.items in
@@ -161,7 +161,7 @@ search-chosen-init g t c =
 
 pub search-enter-requires : goal.search-enter-requires
 search-enter-requires g t c κs within =
-    let r = c.args.ranked.now in
+    let r = c.args.walk.now.ranked.now in
     let s = g.C.Collect.state c.chosen.collect in
     let n = length r.items in
     let none : Child = record { rank = 0; utility = pos 0; support = 0; bound = pos 0 } in
@@ -186,7 +186,7 @@ search-enter-requires g t c κs within =
     let ordered : IsInOrder s = so_far-ordered so_far c.requires.ordered in
     let before = c.requires.floor in
     let rises : floor_in (g.C.Collect.state c.args.collect.now) ≤ℤ floor_in s = so_far-rises so_far c.requires.ordered in
-    let floor : g.G.Gate.floor c.args.gate.now ≤ℤ floor_in s = omega (arith, ints, rises, before) in
+    let floor : g.G.Gate.floor c.args.walk.now.gate.now ≤ℤ floor_in s = omega (arith, ints, rises, before) in
     let rests : RestsOn s.rule.table r.items = subst (λ rule. RestsOn rule.table r.items) (sym (so_far-rule so_far c.requires.ordered)) c.requires.rests in
     let room : HasRoom c.chosen.board n = c.chosen.invariant.room in
     let low : next c.args.ranks.now.items ≤ rank = next-below c.args.ranks.now.items rank child.ascending in
@@ -196,7 +196,7 @@ search-enter-requires g t c κs within =
 
 pub search-returns-in_err-enter-clause-searches : goal.search-returns-in_err-enter-clause-searches
 search-returns-in_err-enter-clause-searches g t c =
-    let r = c.args.ranked.now in
+    let r = c.args.walk.now.ranked.now in
     let none : Child = record { rank = 0; utility = pos 0; support = 0; bound = pos 0 } in
     let rank = (slice_index_or c.deref-child-items.result.now c.chosen.at none).rank in
     stopped {P = Grows r c.args.ranks.now.items} c.from_residual-in_err-enter.result c.from_residual-in_err-enter.ensures.0
@@ -206,7 +206,7 @@ search-returns-in_err-enter-clause-searches g t c =
 
 pub search-chosen-preserved : goal.search-chosen-preserved
 search-chosen-preserved g t c =
-    let r = c.args.ranked.now in
+    let r = c.args.walk.now.ranked.now in
     let none : Child = record { rank = 0; utility = pos 0; support = 0; bound = pos 0 } in
     let rank = (slice_index_or c.deref-child-items.result.now c.chosen.at none).rank in
     record {
