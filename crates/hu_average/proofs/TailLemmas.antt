@@ -122,7 +122,8 @@ holds-past cell cells (y ∷ set) above =
     let ih = holds-past cell cells set above.1 in
     rw (other, ih) refl
 
-values_of-past : (cell : ℕ × ℤ) (cells : List (ℕ × ℤ)) (set : List ℕ) → AllByRecursion (λ y. cell.0 < y) set → values_of set (cell ∷ cells) ≡ values_of set cells
+values_of-past : (cell : ℕ × ℤ) (cells : List (ℕ × ℤ)) (set : List ℕ) → AllByRecursion (λ y. cell.0 < y) set
+    → values_of set (cell ∷ cells) ≡ values_of set cells
 values_of-past cell cells [] above = refl
 values_of-past cell cells (y ∷ set) above =
     let low = above.0 in

@@ -18,7 +18,8 @@ pub(crate) fn grown<'a>(
     requires rules { AreTails slots.now.room (tails_of tails.now) }
     ensures len { IfOk result (λ lists. length lists.items ≡ length slots.now.ranks) }
     ensures lists { IfOk result (λ lists. (i : ℕ) → i < length slots.now.ranks
-        → tails_at lists.items i ≡ grown (slice_index_or slots.now.ranks i 0) (tails_of tails.now)) }
+        → tails_at lists.items i
+        ≡ grown (slice_index_or slots.now.ranks i 0) (tails_of tails.now)) }
 {
     let ranks = slots.ranks();
     let mut lists = empty_lists(alloc, ranks.len())?;

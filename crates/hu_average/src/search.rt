@@ -18,6 +18,14 @@ use hu_search::Slots;
 use hu_totals::Ranked;
 use std::alloc::Global;
 
+/// What stays the same through a search.
+#[derive(Drop)]
+struct Walk<'a> {
+    alloc: Global,
+    /// The records, by the ranks of their items.
+    ranked: &'a Ranked,
+}
+
 /// The itemsets of the ranked records that earn at least `least` for each of their items, by average, and the first k of them
 /// where there is a `top`. It searches utility lists in a form that costs no join: from the records that hold a set it walks on to
 /// find all sets with one later rank more. These are offered before one of them is entered, and what holds a set is left out only
@@ -40,8 +48,7 @@ pub fn mine(
     let mut slots = Slots::new(alloc, ranked.len())?;
     let mut best = Best::new(alloc, least, top);
     search(
-        alloc,
-        ranked,
+        &Walk { alloc, ranked },
         &mut Vec::new(alloc),
         &tails,
         &later,
@@ -67,24 +74,25 @@ fn all_ranks(alloc: Global, ranked: &Ranked) -> Result<Vec<u32>, NoMemory>
 /// Offers the sets that grow a set by ranks of later ones, where these are enough.
 #[cycle(search)]
 fn search(
-    alloc: Global,
-    ranked: &Ranked,
+    walk: &Walk<'_>,
     ranks: &mut Vec<u32>,
     tails: &[Tail<'_>],
     later: &[u32],
     slots: &mut Slots,
     best: &mut Best,
 ) -> Result<(), NoMemory>
-    requires rules { IsRanking ranked.now }
-    requires left { IsLeft ranked.now ranks.old.items (tails_of tails.now) }
-    requires later { AreLater ranked.now ranks.old.items later.now }
-    requires enough { AreEnough best.old ranked.now ranks.old.items later.now }
-    requires room { slots.old.room ≡ length ranked.now.items }
+    requires rules { IsRanking walk.now.ranked.now }
+    requires left { IsLeft walk.now.ranked.now ranks.old.items (tails_of tails.now) }
+    requires later { AreLater walk.now.ranked.now ranks.old.items later.now }
+    requires enough { AreEnough best.old walk.now.ranked.now ranks.old.items later.now }
+    requires room { slots.old.room ≡ length walk.now.ranked.now.items }
     requires kept { IsKept best.old }
     ensures ranks { OnOk result (ranks.new.items ≡ ranks.old.items) }
     ensures room { slots.new.room ≡ slots.old.room }
-    ensures covers { OnOk result (Covers best.old (Grows ranked.now ranks.old.items) best.new) }
+    ensures covers { OnOk result
+        (Covers best.old (Grows walk.now.ranked.now ranks.old.items) best.new) }
 {
+    let Walk { alloc, ranked } = *walk;
     let children = children(alloc, ranked, ranks, tails, later, slots, best)?;
     offer_children(alloc, ranked, ranks, &children, best)?;
     let entered = picked(alloc, ranked, ranks, &children, best)?;
@@ -94,7 +102,7 @@ fn search(
     let lists = grown(alloc, tails, slots)?;
     'lists: for (at, list) in lists.iter().enumerate() {
         let after = after(&left, at);
-        enter(alloc, ranked, ranks, &entered[at], list, after, slots, best)?;
+        enter(walk, ranks, &entered[at], list, after, slots, best)?;
     }
     Ok(())
 }
@@ -117,8 +125,7 @@ fn after(ranks: &[u32], at: usize) -> &[u32]
 /// Offers the sets that grow a child by ranks of later ones, unless all of them are left out.
 #[cycle(search)]
 fn enter(
-    alloc: Global,
-    ranked: &Ranked,
+    walk: &Walk<'_>,
     ranks: &mut Vec<u32>,
     child: &Child,
     tails: &[Tail<'_>],
@@ -126,25 +133,26 @@ fn enter(
     slots: &mut Slots,
     best: &mut Best,
 ) -> Result<(), NoMemory>
-    requires rules { IsRanking ranked.now }
-    requires child { IsChild ranked.now ranks.old.items child.now }
-    requires left { IsLeft ranked.now (ranks.old.items ++ child.now.rank ∷ [])
+    requires rules { IsRanking walk.now.ranked.now }
+    requires child { IsChild walk.now.ranked.now ranks.old.items child.now }
+    requires left { IsLeft walk.now.ranked.now (ranks.old.items ++ child.now.rank ∷ [])
         (tails_of tails.now) }
-    requires later { AreLater ranked.now (ranks.old.items ++ child.now.rank ∷ []) later.now }
-    requires enough { AreEnough best.old ranked.now (ranks.old.items ++ child.now.rank ∷ [])
-        later.now }
-    requires room { slots.old.room ≡ length ranked.now.items }
+    requires later { AreLater walk.now.ranked.now
+        (ranks.old.items ++ child.now.rank ∷ []) later.now }
+    requires enough { AreEnough best.old walk.now.ranked.now
+        (ranks.old.items ++ child.now.rank ∷ []) later.now }
+    requires room { slots.old.room ≡ length walk.now.ranked.now.items }
     requires kept { IsKept best.old }
     ensures ranks { OnOk result (ranks.new.items ≡ ranks.old.items) }
     ensures room { slots.new.room ≡ slots.old.room }
-    ensures covers { OnOk result
-        (Covers best.old (Grows ranked.now (ranks.old.items ++ child.now.rank ∷ [])) best.new) }
+    ensures covers { OnOk result (Covers best.old
+        (Grows walk.now.ranked.now (ranks.old.items ++ child.now.rank ∷ [])) best.new) }
 {
     if is_shut(child, best) {
         return Ok(());
     }
     ranks.push(child.rank)?;
-    search(alloc, ranked, ranks, tails, later, slots, best)?;
+    search(walk, ranks, tails, later, slots, best)?;
     ranks.pop();
     Ok(())
 }

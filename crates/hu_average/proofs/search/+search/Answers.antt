@@ -20,12 +20,12 @@ use Rattle.hu_average.proofs.search.+search.Goals as goal
 
 pub enter-returns-then-is_shut-clause-covers : goal.enter-returns-then-is_shut-clause-covers
 enter-returns-then-is_shut-clause-covers t c =
-    shut-covers c.args.best.now c.args.ranked.now c.requires.rules c.args.ranks.now.items c.args.child.now c.requires.kept c.requires.child
+    shut-covers c.args.best.now c.args.walk.now.ranked.now c.requires.rules c.args.ranks.now.items c.args.child.now c.requires.kept c.requires.child
     (c.is_shut.ensures.shut c.if-is_shut.true)
 
 pub enter-search-requires : goal.enter-search-requires
 enter-search-requires t c =
-    let r = c.args.ranked.now in
+    let r = c.args.walk.now.ranked.now in
     let b = c.args.best.now in
     let set = c.args.ranks.now.items ++ c.args.child.now.rank ∷ [] in
     let later = c.args.later.now in
@@ -49,7 +49,7 @@ search-fill-requires-clause-once t c =
 
 pub search-fill-requires-clause-within : goal.search-fill-requires-clause-within
 search-fill-requires-clause-within t c =
-    let r = c.args.ranked.now in
+    let r = c.args.walk.now.ranked.now in
     let entered = c.in_ok-entered.entered.items in
     let room : length r.items ≡ c.children.new.slots.room = sym (c.children.ensures.room ∙ c.requires.room) in
     let front : all_but_last (ranks_of entered) ≡ c.all_but_last.result.now =
@@ -61,7 +61,7 @@ search-fill-requires-clause-within t c =
 
 pub search-lists-init : goal.search-lists-init
 search-lists-init t c =
-    let r = c.args.ranked.now in
+    let r = c.args.walk.now.ranked.now in
     let set = c.args.ranks.now.items in
     let later = c.args.later.now in
     let old = c.args.best.now in
@@ -79,7 +79,8 @@ search-lists-init t c =
     subst (λ (cs : List Child). ArePicked mid r set (ranks_of cs) entered) c.deref-5.ensures.value
     (subst (λ s. ArePicked mid r s (ranks_of c.deref-5.result.now) entered) c.deref-4.ensures.value c.in_ok-entered.ensures) in
     let is : front ≡ all_but_last (ranks_of entered) =
-    c.in_ok-fill.ensures.ranks ∙ c.all_but_last.ensures ∙ ap all_but_last (c.deref-7.ensures.value ∙ c.in_ok-left.ensures ∙ ap ranks_of c.deref-6.ensures.value) in
+    c.in_ok-fill.ensures.ranks ∙ c.all_but_last.ensures
+    ∙ ap all_but_last (c.deref-7.ensures.value ∙ c.in_ok-left.ensures ∙ ap ranks_of c.deref-6.ensures.value) in
     let are : (k : ℕ) → k < length front → tails_at items k ≡ grown (get_or front k 0) tails =
     subst (λ (ls : List (Vec Tail Global)). (k : ℕ) → k < length front → tails_at ls k ≡ grown (get_or front k 0) tails)
     (sym c.deref-list-items.ensures.value) c.in_ok-lists.ensures.lists in
@@ -92,7 +93,7 @@ search-lists-init t c =
 
 pub search-enter-requires : goal.search-enter-requires
 search-enter-requires t c =
-    let r = c.args.ranked.now in
+    let r = c.args.walk.now.ranked.now in
     let set = c.args.ranks.now.items in
     let ranks = c.lists.ranks.items in
     let entered = c.in_ok-entered.entered.items in
@@ -138,7 +139,7 @@ search-enter-requires t c =
 
 pub search-lists-preserved : goal.search-lists-preserved
 search-lists-preserved t c =
-    let r = c.args.ranked.now in
+    let r = c.args.walk.now.ranked.now in
     let child = c.index.result.now in
     record {
       ranks = c.in_ok-enter.ensures.ranks ∙ c.lists.invariant.ranks;

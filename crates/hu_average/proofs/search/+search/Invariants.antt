@@ -13,5 +13,5 @@ abbrev pub invariant-search-lists : goal.invariant-search-lists
 invariant-search-lists l = record {
   ranks : l.ranks.items ≡ l.fn.ranks.items;
   room : l.slots.room ≡ l.fn.slots.room;
-  so_far : IsSoFar l.fn.best l.best l.ranked l.fn.ranks.items l.entered.items l.list-items l.at;
+  so_far : IsSoFar l.fn.best l.best l.walk.ranked.now l.fn.ranks.items l.entered.items l.list-items l.at;
 }

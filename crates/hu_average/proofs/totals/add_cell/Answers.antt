@@ -26,6 +26,8 @@ with-requires c =
 
 pub returns-in-Some-clause-totals : goal.returns-in-Some-clause-totals
 returns-in-Some-clause-totals c i within =
+    let ranks = c.args.slots.now.ranks in
+    let rank = c.args.cell.now.rank in
     let totals = c.args.totals.now.items in
     let slot = c.in-Some.slot in
     let at = c.in-Some.ensures in
@@ -44,15 +46,14 @@ returns-in-Some-clause-totals c i within =
     let more = total_with (c.args.tail.now.own +ℤ c.args.cell.now.value) 1 c.args.tail.now.most in
     elim (cases_eq i slot) [
       | inl e ↦
-          let same : eqb (get_or c.args.slots.now.ranks i 0) c.args.cell.now.rank ≡ true =
-          eq-eqb (get_or c.args.slots.now.ranks i 0) c.args.cell.now.rank (ap (λ k. get_or c.args.slots.now.ranks k 0) e ∙ at.here) in
+          let same : eqb (get_or ranks i 0) rank ≡ true = eq-eqb (get_or ranks i 0) rank (ap (λ k. get_or ranks k 0) e ∙ at.here) in
           ap (λ k. get_or (set totals slot c.with.result) k no_total) e
           ∙ get_or-set_same totals slot c.with.result no_total inside ∙ worth
           ∙ ap (λ k. plus (total_at totals k) more) (sym e)
           ∙ ap (λ b. plus (total_at totals i) (cond b more no_total)) (sym same)
       | inr ne ↦
-          let apart : eqb (get_or c.args.slots.now.ranks i 0) c.args.cell.now.rank ≡ false =
-          ne_eqb (get_or c.args.slots.now.ranks i 0) c.args.cell.now.rank (λ e. ne (place-once c.args.slots.now.ranks c.args.cell.now.rank slot i c.requires.once at within e)) in
+          let apart : eqb (get_or ranks i 0) rank ≡ false =
+          ne_eqb (get_or ranks i 0) rank (λ e. ne (place-once ranks rank slot i c.requires.once at within e)) in
           let other : i ≢ slot = ne in
           get_or-set_other totals slot i c.with.result no_total other ∙ sym (plus-none (total_at totals i))
           ∙ ap (λ b. plus (total_at totals i) (cond b more no_total)) (sym apart)

@@ -15,5 +15,6 @@ abbrev pub invariant-search-chosen : goal.invariant-search-chosen
 invariant-search-chosen g l = record {
   ranks : l.ranks.items ≡ l.fn.ranks.items;
   room : HasRoom l.board (length l.walk.ranked.now.items);
-  so_far : IsSoFar (g.C.Collect.state l.fn.collect) (g.C.Collect.state l.collect) l.walk.ranked.now l.fn.ranks.items l.later.items l.child-items l.lists.items l.at;
+  so_far : IsSoFar (g.C.Collect.state l.fn.collect) (g.C.Collect.state l.collect) l.walk.ranked.now l.fn.ranks.items
+      l.later.items l.child-items l.lists.items l.at;
 }

@@ -53,5 +53,6 @@ returns-in-Some-clause-part c =
     let value = c.args.cell.now.value in
     let same : to_z w128 (of_z w128 value) ≡ value = omega (arith, ints, c.requires.fits.utility) in
     let out : to_z w128 (of_z w128 c.positive_part.result) ≡ c.positive_part.result = omega (arith, ints, c.positive_part.type_inv) in
-    let kept : among c.args.cell.now.rank c.args.slots.now.ranks ≡ true = place-among c.args.slots.now.ranks c.args.cell.now.rank c.in-Some.slot c.in-Some.ensures in
+    let kept : among c.args.cell.now.rank c.args.slots.now.ranks ≡ true =
+    place-among c.args.slots.now.ranks c.args.cell.now.rank c.in-Some.slot c.in-Some.ensures in
     out ∙ c.positive_part.ensures.value ∙ ap positive_part same ∙ sym (ap (λ b. cond b (positive_part value) (pos 0)) kept)
