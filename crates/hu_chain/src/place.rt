@@ -2,7 +2,6 @@
 
 ghost use Rattle.std.specs.Prelude.{◌≡◌, ℕ, pos, ◌<◌, ◌≤◌, ◌≤ℤ◌, ◌<ℤ◌, ◌-ℤ◌, ◌^◌, length, drop, IfSome};
 ghost use Rattle.std.specs.List.{AllByRecursion};
-ghost use Rattle.std.specs.List.Sorted.{IsPartitionPoint};
 ghost use Rattle.hu_kind.specs.Cell.{pairs_of};
 ghost use Rattle.hu_kind.specs.Order.{Ascend};
 ghost use Rattle.hu_kind.specs.Record.{items_in, total};
@@ -11,7 +10,7 @@ ghost use Rattle.hu_chain.specs.Bound.{IsFit};
 ghost use Rattle.hu_chain.specs.Place.{element_at};
 ghost use Rattle.hu_chain.specs.Search.{cell_in, found, IsPlaceOf, IsPlain, IsTail, IsTailOf};
 
-use hu_kind::{Cell, Element, Item};
+use hu_kind::{Cell, Element, Item, cells_below};
 
 /// A cell of a sequence record at which a pattern ends.
 #[derive(Clone, Copy, Debug, PartialEq, Eq)]
@@ -113,16 +112,6 @@ pub(crate) fn cell_in(cells: &[Cell], item: Item) -> Option<usize>
     } else {
         None
     }
-}
-
-/// How many cells stand before an item's place.
-fn cells_below(cells: &[Cell], item: Item) -> usize
-    requires { Ascend (items_in (pairs_of cells.now)) }
-    ensures within { result ≤ length cells.now }
-    ensures splits { IsPartitionPoint (λ cell. cell.item.0 < item.0)
-        (λ cell. item.0 ≤ cell.item.0) cells.now result }
-{
-    cells.partition_point(|cell| cell.item.0 < item.0)
 }
 
 /// The sum of the values of cells.

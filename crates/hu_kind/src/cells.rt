@@ -1,10 +1,11 @@
 //! Cells as a line tells them, put in order.
 
-ghost use Rattle.std.specs.Prelude.{◌≡◌, ◌<◌, length, None, Some, IfOk, IfErr, OnOk, MatchOption};
+ghost use Rattle.std.specs.Prelude.{◌≡◌, ◌<◌, ◌≤◌, length, None, Some, IfOk, IfErr, OnOk, MatchOption};
 ghost use Rattle.std.specs.List.{AllAdjacentBelow};
-ghost use Rattle.std.specs.List.Sorted.{IsPermutation, IsNonDecreasingBy};
+ghost use Rattle.std.specs.List.Sorted.{IsPermutation, IsNonDecreasingBy, IsPartitionPoint};
 ghost use Rattle.hu_kind.specs.Cell.{pairs_of};
 ghost use Rattle.hu_kind.specs.Cells.{by_item, twice, IsFirstTwice};
+ghost use Rattle.hu_kind.specs.Order.{Ascend};
 ghost use Rattle.hu_kind.specs.Record.{items_in};
 
 use crate::item::{Cell, Item};
@@ -55,4 +56,14 @@ fn repeated(cells: &[Cell]) -> Option<Item>
         }
     }
     None
+}
+
+/// How many cells have smaller items, where items ascend. They are looked for by halves.
+pub fn cells_below(cells: &[Cell], item: Item) -> usize
+    requires { Ascend (items_in (pairs_of cells.now)) }
+    ensures within { result ≤ length cells.now }
+    ensures splits { IsPartitionPoint (λ cell. cell.item.0 < item.0)
+        (λ cell. item.0 ≤ cell.item.0) cells.now result }
+{
+    cells.partition_point(|cell| cell.item.0 < item.0)
 }

@@ -21,7 +21,7 @@ mod tests;
 mod token;
 mod value;
 
-pub use cells::ordered_cells;
+pub use cells::{cells_below, ordered_cells};
 pub use entry::Entry;
 pub use item::{Cell, Item};
 pub use key::Key;

@@ -2,7 +2,6 @@
 
 ghost use Rattle.std.specs.Prelude.{◌≡◌, ◌<◌, ◌≤◌, ◌^◌, [], map, length, IfOk, OnOk};
 ghost use Rattle.std.specs.List.{sum_by};
-ghost use Rattle.std.specs.List.Sorted.{IsPartitionPoint};
 ghost use Rattle.hu_kind.specs.Cell.{pairs_of};
 ghost use Rattle.hu_kind.specs.Record.{items_in, absolute_of};
 ghost use Rattle.hu_kind.specs.Order.{Ascend};
@@ -10,7 +9,7 @@ ghost use Rattle.hu_collect.specs.Laws.{SameMembers};
 ghost use Rattle.hu_plain.specs.Row.{earned, grown_row, weight_of, AreRows};
 ghost use Rattle.hu_plain.specs.View.{row_of, rows_of, rows_in, first_row, Appends};
 
-use hu_kind::{Cell, Item, NoMemory, Record};
+use hu_kind::{Cell, Item, NoMemory, Record, cells_below};
 use std::alloc::Global;
 
 /// A record that holds a prefix, or an itemset in which a sequence ends: what the prefix earns there, and the cells
@@ -28,7 +27,7 @@ impl<'a> Row<'a> {
         requires sum_fits { weight_of (row_of self.now) < 2 ^ 127 }
         ensures { rows_in result ≡ grown_row item.0 self.now.earned (pairs_of self.now.tail.now) }
     {
-        let place = place_of(self.tail, item);
+        let place = cells_below(self.tail, item);
         let cell = self.tail.get(place)?;
         if cell.item != item {
             return None;
@@ -38,16 +37,6 @@ impl<'a> Row<'a> {
             tail: &self.tail[place + 1..],
         })
     }
-}
-
-/// How many cells stand before an item's place.
-fn place_of(cells: &[Cell], item: Item) -> usize
-    requires { Ascend (items_in (pairs_of cells.now)) }
-    ensures within { result ≤ length cells.now }
-    ensures splits { IsPartitionPoint (λ cell. cell.item.0 < item.0)
-        (λ cell. item.0 ≤ cell.item.0) cells.now result }
-{
-    cells.partition_point(|cell| cell.item.0 < item.0)
 }
 
 /// The rows of the empty prefix: each record with all its cells.

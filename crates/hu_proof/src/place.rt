@@ -1,7 +1,6 @@
 //! The records that hold a prefix, and the sums over them.
 
 ghost use Rattle.std.specs.Prelude.{◌≡◌, ◌+◌, ◌<◌, ◌≤◌, ◌^◌, pos, None, Some, drop, length, map, unsigned_abs, true, false, [], ◌∷◌, option_map, option_to_list, List, ℕ, IfOk, IfSome, IfNone};
-ghost use Rattle.std.specs.List.Sorted.{IsPartitionPoint};
 ghost use Rattle.hu_kind.specs.Cell.{pairs_of};
 ghost use Rattle.hu_kind.specs.Order.{Ascend};
 ghost use Rattle.hu_kind.specs.Record.{items_in, value_of};
@@ -9,7 +8,7 @@ ghost use Rattle.hu_proof.specs.Bounds.{after, is_among};
 ghost use Rattle.hu_proof.specs.Places.{earned, narrowed, place_of, places_of, value_in, AllAscend, Apart, HasRoom, IsOneOf, Rises};
 
 use crate::order::Order;
-use hu_kind::{Cell, Item, NoMemory, Record};
+use hu_kind::{Cell, Item, NoMemory, Record, cells_below};
 use std::alloc::Global;
 
 /// A record that holds a prefix, with what the prefix earns there.
@@ -80,16 +79,6 @@ fn value_at(cells: &[Cell], item: Item) -> Option<i128>
     } else {
         None
     }
-}
-
-/// How many cells stand before an item's place.
-fn cells_below(cells: &[Cell], item: Item) -> usize
-    requires { Ascend (items_in (pairs_of cells.now)) }
-    ensures within { result ≤ length cells.now }
-    ensures splits { IsPartitionPoint (λ cell. cell.item.0 < item.0)
-        (λ cell. item.0 ≤ cell.item.0) cells.now result }
-{
-    cells.partition_point(|cell| cell.item.0 < item.0)
 }
 
 /// What a prefix earns.

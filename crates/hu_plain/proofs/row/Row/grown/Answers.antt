@@ -9,7 +9,7 @@ pub returns-in_err-cell : goal.returns-in_err-cell
 returns-in_err-cell c =
     let row = c.args.self.now in
     let lookup = c.in_err-cell.ensures.lookup in
-    let none = grown_row-past c.args.item.0 row.earned row.tail.now c.place_of-place.result c.requires.ascending c.place_of-place.ensures.splits
+    let none = grown_row-past c.args.item.0 row.earned row.tail.now c.cells_below-place.result c.requires.ascending c.cells_below-place.ensures.splits
     (λ d within e. absurd (omega (arith, lookup.3))) in
     let gone = c.from_residual.ensures in
     rw gone (sym none)
@@ -20,7 +20,7 @@ returns-then-ne c =
     let cell = c.in_ok-cell.cell.now in
     let lookup = c.in_ok-cell.ensures.lookup in
     let differs = eqb-false cell.item.0 c.args.item.0 (not-true (nat_eq cell.item.0 c.args.item.0) (sym c.ne.ensures ∙ c.if-ne.true)) in
-    sym (grown_row-past c.args.item.0 row.earned row.tail.now c.place_of-place.result c.requires.ascending c.place_of-place.ensures.splits
+    sym (grown_row-past c.args.item.0 row.earned row.tail.now c.cells_below-place.result c.requires.ascending c.cells_below-place.ensures.splits
     (λ d within e. differs (ap (λ (x : Cell). x.item.0) (lookup.3.1 d) ∙ e)))
 
 pub overflow_add-result : goal.overflow_add-result
@@ -28,7 +28,7 @@ overflow_add-result c =
     let row = c.args.self.now in
     let cell = c.in_ok-cell.cell.now in
     let lookup = c.in_ok-cell.ensures.lookup in
-    let within = absolute_of-at row.tail.now c.place_of-place.result cell lookup.3.0 in
+    let within = absolute_of-at row.tail.now c.cells_below-place.result cell lookup.3.0 in
     let same = ap (λ (x : Cell). unsigned_abs x.value) (lookup.3.1 cell) in
     let fits = c.requires.sum_fits in
     omega (arith, ints, within, same, fits)
@@ -37,7 +37,7 @@ pub returns : goal.returns
 returns c =
     let row = c.args.self.now in
     let cell = c.in_ok-cell.cell.now in
-    let place = c.place_of-place.result in
+    let place = c.cells_below-place.result in
     let lookup = c.in_ok-cell.ensures.lookup in
     let here = eqb-true cell.item.0 c.args.item.0 (not-false (nat_eq cell.item.0 c.args.item.0) (sym c.ne.ensures ∙ c.if-ne.false)) in
     let at = grown_row-at c.args.item.0 row.earned row.tail.now place cell c.requires.ascending lookup.3.0

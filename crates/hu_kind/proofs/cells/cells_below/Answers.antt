@@ -1,7 +1,7 @@
 use Rattle.std.proofs.Common.{ltb, rules}
 use Rattle.std.proofs.lemmas.List.Sorted.{IsPartitionPoint-from_clause, IsPartitionedBy-ltb}
 use Rattle.std.proofs.lemmas.Bool.{ltb-true, ltb-false}
-use Rattle.hu_proof.proofs.place.cells_below.Goals as goal
+use Rattle.hu_kind.proofs.cells.cells_below.Goals as goal
 use Rattle.hu_kind.proofs.lemmas.CellPlaces.{IsNonDecreasingBy-ascend}
 
 pub returns-clause-splits : goal.returns-clause-splits
