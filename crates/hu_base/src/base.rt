@@ -1,6 +1,6 @@
 //! The records of a run.
 
-ghost use Rattle.std.specs.Prelude.{◌≡◌, ◌+◌, ◌<◌, ◌≤◌, ◌^◌, pos, ◌+ℤ◌, ◌≤ℤ◌, unsigned_abs, [], ◌∷◌, ◌++◌, take, length, OnOk, OnErr, IfOk, IsOk, IsOkUnless};
+ghost use Rattle.std.specs.Prelude.{◌≡◌, ◌+◌, ◌<◌, ◌≤◌, ◌^◌, pos, ◌+ℤ◌, ◌≤ℤ◌, unsigned_abs, [], ◌∷◌, ◌++◌, take, drop, length, OnOk, OnErr, IfOk, IsOk, IsOkUnless};
 ghost use Rattle.std.specs.List.{sum_by};
 ghost use Rattle.hu_base.specs.Base.{carried_of, records_of, sum_of};
 
@@ -90,9 +90,20 @@ impl<R: Absolute> Base<R> {
         ensures too_large { 2 ^ 127 ≤ sum_of R.absolute self.old + R.absolute one
             → result ≡ Err (AddFault.SumTooLarge (pos (sum_of R.absolute self.old)) (pos (R.absolute one))) }
     {
-        let sum = self.sum_with(one.absolute())?;
+        self.room_for(one.absolute())?;
+        self.add_fitting(one)?;
+        Ok(())
+    }
+
+    /// Appends a record whose sum has room, in constant amortised time. After want of memory the base is as it was.
+    pub fn add_fitting(&mut self, one: R) -> Result<(), NoMemory>
+        requires { sum_of R.absolute self.old + R.absolute one < 2 ^ 127 }
+        ensures ok { OnOk result (self.new ≡ (carried_of self.old, records_of self.old ++ one ∷ [])) }
+        ensures err { OnErr result (self.new ≡ self.old) }
+    {
+        let added = one.absolute();
         self.records.push(one)?;
-        self.sum = sum;
+        self.sum += added;
         Ok(())
     }
 
@@ -108,10 +119,23 @@ impl<R: Absolute> Base<R> {
         ensures too_large { 2 ^ 127 ≤ sum_of R.absolute self.old + sum_by R.absolute (records_of other)
             → result ≡ Err (AddFault.SumTooLarge (pos (sum_of R.absolute self.old)) (pos (sum_by R.absolute (records_of other)))) }
     {
-        let sum = self.sum_with(other.own_sum())?;
+        self.room_for(other.own_sum())?;
+        self.join_fitting(other)?;
+        Ok(())
+    }
+
+    /// Appends the records of another base, whose carried sum isn't counted, where their sum has room. They move, in constant
+    /// amortised time for each. After want of memory the base is as it was.
+    pub fn join_fitting(&mut self, other: Base<R>) -> Result<(), NoMemory>
+        requires { sum_of R.absolute self.old + sum_by R.absolute (records_of other) < 2 ^ 127 }
+        ensures ok { OnOk result
+            (self.new ≡ (carried_of self.old, records_of self.old ++ records_of other)) }
+        ensures err { OnErr result (self.new ≡ self.old) }
+    {
+        let added = other.own_sum();
         let mut records = other.records;
         self.records.append(&mut records)?;
-        self.sum = sum;
+        self.sum += added;
         Ok(())
     }
 
@@ -124,18 +148,37 @@ impl<R: Absolute> Base<R> {
         self.sum -= shorten(&mut self.records, count);
     }
 
-    /// The sum after records of an absolute sum, where that is at most 2^127 - 1.
-    fn sum_with(&self, added: i128) -> Result<i128, AddFault>
+    /// Keeps the first `count` records and hands out the others as a base that carries nothing. They move, in time for each of
+    /// them. After want of memory the base is as it was.
+    pub fn split_off(&mut self, count: usize) -> Result<Base<R>, NoMemory>
+        requires { count ≤ length (records_of self.old) }
+        ensures kept { OnOk result (self.new ≡ (carried_of self.old, take count (records_of self.old))) }
+        ensures rest { IfOk result (λ rest. rest ≡ (0, drop count (records_of self.old))) }
+        ensures err { OnErr result (self.new ≡ self.old) }
+    {
+        let records = self.records.split_off(count)?;
+        let sum = absolute_sum(&records);
+        self.sum -= sum;
+        Ok(Base {
+            carried: 0,
+            sum,
+            records,
+        })
+    }
+
+    /// Sees that records of an absolute sum have room: that the sum with them is at most 2^127 - 1.
+    fn room_for(&self, added: i128) -> Result<(), AddFault>
         requires { pos 0 ≤ℤ added }
-        ensures sum { IfOk result (λ sum. sum ≡ pos (sum_of R.absolute self.now + unsigned_abs added)) }
+        ensures ok { OnOk result (sum_of R.absolute self.now + unsigned_abs added < 2 ^ 127) }
         ensures fits { sum_of R.absolute self.now + unsigned_abs added < 2 ^ 127 → IsOk result }
         ensures too_large { 2 ^ 127 ≤ sum_of R.absolute self.now + unsigned_abs added → result
             ≡ Err (AddFault.SumTooLarge (pos (sum_of R.absolute self.now)) added) }
     {
         let before = self.sum;
-        before
-            .checked_add(added)
-            .ok_or(AddFault::SumTooLarge { before, added })
+        match before.checked_add(added) {
+            Some(_) => Ok(()),
+            None => Err(AddFault::SumTooLarge { before, added }),
+        }
     }
 
     /// The absolute sums of the records alone.

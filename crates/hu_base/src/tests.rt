@@ -67,10 +67,14 @@ fn the_edge_of_a_sum(rt: HostRuntime) -> Result<(), Fail> {
 }
 
 #[test]
-fn joins_and_shortens(rt: HostRuntime) -> Result<(), Fail> {
+fn joins_splits_and_shortens(rt: HostRuntime) -> Result<(), Fail> {
     let mut base = base_of(&rt, rt.alloc(), 10, &[1, -2])?;
     base.join(base_of(&rt, rt.alloc(), 100, &[3, 4])?)?;
     expect_base(&rt, &base, 10, 20, &[1, -2, 3, 4]);
+    assert!(rt; base.records().len() > 3);
+    let last = base.split_off(3)?;
+    expect_base(&rt, &last, 0, 4, &[4]);
+    expect_base(&rt, &base, 10, 16, &[1, -2, 3]);
     for (count, sum) in [(3, 16), (1, 11), (0, 10)] {
         assert!(rt; count <= base.records().len());
         base.shorten(count);

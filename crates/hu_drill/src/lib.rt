@@ -5,7 +5,6 @@
 //! stands on hu_kind, hu_io, hu_base and hu_report.
 #![tactic(auto)]
 
-mod bases;
 mod draws;
 mod records;
 mod sequences;

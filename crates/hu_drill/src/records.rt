@@ -8,7 +8,6 @@ ghost use Rattle.hu_base.specs.Base.{records_of};
 ghost use Rattle.hu_drill.specs.Draws.{after_draws};
 ghost use Rattle.hu_drill.specs.Drilled.{cells_of, drilled};
 
-use crate::bases::append;
 use crate::draws::Draws;
 use hu_base::Base;
 use hu_kind::{Cell, NoMemory, Record};
@@ -28,7 +27,7 @@ pub fn make(alloc: Global, seed: u32, records: u32, items: u32) -> Result<Base<R
     let mut draws = Draws { state: seed };
     let mut base = Base::after(alloc, 0);
     for _ in 0..records {
-        append(&mut base, next_record(alloc, &mut draws, items)?)?;
+        base.add_fitting(next_record(alloc, &mut draws, items)?)?;
     }
     Ok(base)
 }

@@ -8,7 +8,6 @@ ghost use Rattle.hu_base.specs.Base.{records_of};
 ghost use Rattle.hu_drill.specs.Draws.{after_draws};
 ghost use Rattle.hu_drill.specs.Drilled.{drilled_sequences, element_from, elements_of};
 
-use crate::bases::append;
 use crate::draws::Draws;
 use hu_base::Base;
 use hu_kind::{Element, NoMemory, SeqRecord};
@@ -34,7 +33,7 @@ pub fn make_sequences(
     let mut draws = Draws { state: seed };
     let mut base = Base::after(alloc, 0);
     for _ in 0..records {
-        append(&mut base, next_sequence(alloc, &mut draws, elements)?)?;
+        base.add_fitting(next_sequence(alloc, &mut draws, elements)?)?;
     }
     Ok(base)
 }

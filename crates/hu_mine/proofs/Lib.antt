@@ -1,3 +1,2 @@
-mod BatchLemmas
 mod SearchLemmas
 mod SizedLemmas

@@ -1,4 +1,3 @@
-mod BatchLemmas
 mod EarnedLemmas
 mod EndLemmas
 mod LineLemmas

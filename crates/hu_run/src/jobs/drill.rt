@@ -1,6 +1,6 @@
 //! A drill: seven answers to generated records.
 
-ghost use Rattle.std.specs.Prelude.{◌≡◌, ◌<◌, ◌≤◌, ◌^◌, true, length, IfOk};
+ghost use Rattle.std.specs.Prelude.{◌≡◌, ◌≤◌, true, length, IfOk};
 ghost use Rattle.std.specs.List.{sum_by, AllByRecursion};
 ghost use Rattle.hu_kind.specs.declared.task.Task.TheVariants.{Items, Closed};
 ghost use Rattle.hu_kind.specs.Record.{absolute_of};
@@ -12,9 +12,9 @@ ghost use Rattle.hu_run.specs.Answer.{text_of};
 ghost use Rattle.hu_run.specs.Drill.{drill_text, drill_records, drill_sequences, items_summary, closed_summary, sequences_summary};
 
 use crate::answer::{Answer, Line};
-use hu_base::{AddFault, Base};
+use hu_base::Base;
 use hu_drill::{Summary, make, make_sequences};
-use hu_kind::{Absolute, NoMemory, Record, SeqRecord};
+use hu_kind::{NoMemory, Record, SeqRecord};
 use hu_mine::{Engine, closed_entries, item_entries, sequence_entries};
 use std::alloc::Global;
 
@@ -111,38 +111,11 @@ fn batches(alloc: Global, seed: u32, engine: Engine) -> Result<Vec<Base<Record>>
 
 /// A base of 2,000 records as batches of 1,900, 50 and 50.
 fn in_three(alloc: Global, base: Base<Record>) -> Result<Vec<Base<Record>>, NoMemory>
-    requires count { length (records_of base) ≡ 2000 }
-    requires fit { sum_by absolute_of (records_of base) ≤ 819200000 }
+    requires { length (records_of base) ≡ 2000 }
     ensures { IfOk result (λ batches. records_in batches.items ≡ records_of base) }
 {
     let mut first = base;
-    let second = copy(alloc, &first.records()[1900..1950])?;
-    let third = copy(alloc, &first.records()[1950..])?;
-    first.shorten(1900);
+    let mut second = first.split_off(1900)?;
+    let third = second.split_off(50)?;
     Ok(vec![in alloc; first, second, third]?)
-}
-
-/// A base of copies of these records.
-fn copy(alloc: Global, records: &[Record]) -> Result<Base<Record>, NoMemory>
-    requires { sum_by absolute_of records.now < 2 ^ 127 }
-    ensures { IfOk result (λ base. base ≡ (0, records.now)) }
-{
-    let mut base = Base::after(alloc, 0);
-    for one in records {
-        match base.add(copy_record(alloc, one)?) {
-            Ok(()) => {}
-            Err(AddFault::NoMemory) => return Err(NoMemory),
-            Err(AddFault::SumTooLarge { .. }) => unreachable!(),
-        }
-    }
-    Ok(base)
-}
-
-/// A copy of a record.
-fn copy_record(alloc: Global, one: &Record) -> Result<Record, NoMemory>
-    ensures { IfOk result (λ copy. copy ≡ one.now) }
-{
-    let mut cells = Vec::new(alloc);
-    cells.extend_from_slice(one.cells())?;
-    Ok(Record::with_sum(cells, one.absolute()))
 }

@@ -7,8 +7,8 @@ use Rattle.hu_drill.proofs.DrawLemmas.{after_draws-more}
 use Rattle.hu_drill.proofs.DrilledLemmas.{absolute_of-cells_of, sum-drilled, drilled-more}
 use Rattle.hu_drill.proofs.records.make.Goals as goal
 
-pub append-requires : goal.append-requires
-append-requires c =
+pub add_fitting-requires : goal.add_fitting-requires
+add_fitting-requires c =
     let items = c.args.items in
     let before = ap (sum_of absolute_of) c.loop.invariant.value in
     let one = ap absolute_of c.in_ok-next_record.ensures.value in
@@ -29,8 +29,8 @@ loop-preserved c =
     let items = c.args.items in
     record {
       state = c.in_ok-next_record.ensures.state ∙ ap (after_draws (2 * items)) kept.state ∙ after_draws-more (2 * items) c.loop.counter c.args.seed;
-      value = drilled-more c.args.seed c.loop.counter items c.in_ok-next_record.field-0 c.loop.base c.append.new.base kept.value
-          (c.in_ok-next_record.ensures.value ∙ ap (cells_of items) kept.state) c.in_ok-append.ensures;
+      value = drilled-more c.args.seed c.loop.counter items c.in_ok-next_record.field-0 c.loop.base c.add_fitting.new.self kept.value
+          (c.in_ok-next_record.ensures.value ∙ ap (cells_of items) kept.state) c.in_ok-add_fitting.ensures.ok;
     }
 
 pub returns-clause-sum : goal.returns-clause-sum

@@ -9,8 +9,8 @@ use Rattle.hu_drill.proofs.DrawLemmas.{after_draws-more}
 use Rattle.hu_drill.proofs.DrilledLemmas.{sum-elements_of, sum-drilled_sequences, AllIsSequence-drilled, drilled_sequences-more}
 use Rattle.hu_drill.proofs.sequences.make_sequences.Goals as goal
 
-pub append-requires : goal.append-requires
-append-requires c =
+pub add_fitting-requires : goal.add_fitting-requires
+add_fitting-requires c =
     let elements = c.args.elements in
     let before = ap (sum_of (sum_by absolute_of)) c.loop.invariant.value in
     let one = ap (sum_by absolute_of) c.in_ok-next_sequence.ensures.value in
@@ -31,8 +31,8 @@ loop-preserved c =
     let elements = c.args.elements in
     record {
       state = c.in_ok-next_sequence.ensures.state ∙ ap (after_draws (4 * elements)) kept.state ∙ after_draws-more (4 * elements) c.loop.counter c.args.seed;
-      value = drilled_sequences-more c.args.seed c.loop.counter elements c.in_ok-next_sequence.field-0 c.loop.base c.append.new.base kept.value
-          (c.in_ok-next_sequence.ensures.value ∙ ap (elements_of elements) kept.state) c.in_ok-append.ensures;
+      value = drilled_sequences-more c.args.seed c.loop.counter elements c.in_ok-next_sequence.field-0 c.loop.base c.add_fitting.new.self kept.value
+          (c.in_ok-next_sequence.ensures.value ∙ ap (elements_of elements) kept.state) c.in_ok-add_fitting.ensures.ok;
     }
 
 pub returns-clause-sum : goal.returns-clause-sum
