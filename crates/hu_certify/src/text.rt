@@ -11,10 +11,8 @@ ghost use Rattle.hu_certify.specs.Written.{gap, Writes};
 use crate::fault::CertFault;
 use crate::slots::Child;
 use hu_kind::{Item, NoMemory};
+use hu_proof::MOST_BYTES;
 use itoa::Buffer;
-
-/// The most bytes that a certificate may have.
-const MOST_BYTES: usize = 268_435_456;
 
 /// Writes line 1.
 pub(crate) fn push_minimum(text: &mut Vec<u8>, least: i128) -> Result<(), NoMemory>

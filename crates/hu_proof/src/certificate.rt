@@ -19,7 +19,7 @@ use hu_kind::{Entry, Item, Record};
 use std::alloc::Global;
 
 /// The most bytes that a certificate may have.
-const MOST_BYTES: usize = 268_435_456;
+pub const MOST_BYTES: usize = 268_435_456;
 
 /// The answer of the task `items` over a base from a minimum on, where a text is an accepted certificate of it; else the
 /// first fault of the text. Whoever made the text, an accepted one leaves nothing out: see [`crate::laws`].
@@ -58,7 +58,7 @@ fn check_text(
     text: &[u8],
 ) -> Result<Vec<Entry>, CheckFault>
     requires least { pos 1 ≤ℤ least }
-    requires small { length text.now ≤ 268435456 }
+    requires small { length text.now ≤ MOST_BYTES }
     ensures fault { Judges result (from_minimum (records_of base.now) least (pieces text.now)) }
     ensures answer { IfOk result (λ entries. entries.items
         ≡ answer_of_lines (records_of base.now) least (drop 2 (pieces text.now))) }
@@ -103,7 +103,7 @@ fn check_order(
     text: &[u8],
 ) -> Result<Vec<Entry>, CheckFault>
     requires least { pos 1 ≤ℤ least }
-    requires small { length text.now ≤ 268435456 }
+    requires small { length text.now ≤ MOST_BYTES }
     ensures fault { Judges result (from_order (records_of base.now) least (pieces text.now)) }
     ensures answer { IfOk result (λ entries. entries.items
         ≡ answer_of_lines (records_of base.now) least (drop 1 (pieces text.now))) }
@@ -126,7 +126,7 @@ fn check_walk(
     text: &[u8],
 ) -> Result<Vec<Entry>, CheckFault>
     requires least { pos 1 ≤ℤ least }
-    requires small { length text.now ≤ 268435456 }
+    requires small { length text.now ≤ MOST_BYTES }
     ensures fault { Judges result (order_fault (records_of base.now) least (Some
         (numbers_of items.now)) (pieces text.now)) }
     ensures answer { IfOk result (λ entries. entries.items

@@ -17,5 +17,5 @@ mod token;
 mod walk;
 mod words;
 
-pub use certificate::check;
+pub use certificate::{MOST_BYTES, check};
 pub use fault::CheckFault;
