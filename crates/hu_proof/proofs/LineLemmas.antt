@@ -1,9 +1,10 @@
 -- The check of a line by the places of its prefix is that by all records.
-use Rattle.std.proofs.Common.{◌≡◌, ℕ, true, ℤ, Option, None, Some, option_map, List, [], ◌∷◌, refl, sym, ap, ◌∙◌, subst, inl, inr, ◌⊎◌}
+use Rattle.std.proofs.Common.{◌≡◌, ℕ, true, false, ℤ, Option, None, Some, option_map, List, [], ◌∷◌, refl, sym, ap, ◌∙◌, subst, inl, inr, ◌⊎◌}
 use Rattle.std.specs.List.{AllByRecursion}
 use Rattle.std.specs.Prelude.{Result}
 use Rattle.std.specs.Ordering.{int_eq}
 use Rattle.std.specs.Str.{bytes_eq}
+use Rattle.std.proofs.lemmas.Bool.{false_from_ne_true}
 use Rattle.std.proofs.lemmas.Bool.Decides.{Decides-int_eq}
 use Rattle.hu_kind.specs.First.{first_some}
 use Rattle.hu_kind.proofs.lemmas.FirstLemmas.{first_skip, first_alone}
@@ -50,6 +51,24 @@ fault-children least line node places text prefix tokens utility l those sums or
     ∙ (first_skip (prefix_fault line node said) (utility_fault line utility (earned places) ∷ child_fault line node said ∷ deep ∷ []) right
     ∙ (first_skip (utility_fault line utility (earned places)) (child_fault line node said ∷ deep ∷ []) sums
     ∙ (first_skip (child_fault line node said) (deep ∷ []) ordered ∙ first_alone deep)))
+
+-- where the prefix is right and the utility isn't, that is the fault
+pub fault-utility : (least : ℤ) (line : ℕ) (node : Node) (places : List PlaceOf) (text prefix tokens : List ℕ) (utility summed : ℤ)
+    → IsLine text prefix utility tokens
+    → are_those (each plain_item (words prefix)) node.prefix ≡ true → earned places ≡ summed → (utility ≡ summed → ⊥)
+    → line_fault_at least line node places (said_of text) ≡ Some (CheckFault.WrongUtility line utility summed)
+fault-utility least line node places text prefix tokens utility summed l those is other =
+    let said : Said = record { prefix = told (each plain_item (words prefix)); utility = utility; tokens = told (each token_of (words tokens)) } in
+    let right : prefix_fault line node said ≡ None = rw (are_those-told (each plain_item (words prefix)) node.prefix those) refl in
+    let deep = children_fault_at least line node.later places said.tokens in
+    let wrong : int_eq utility summed ≡ false =
+    false_from_ne_true (int_eq utility summed) (λ same. other ((Decides-int_eq utility summed).0 same)) in
+    let fault : utility_fault line utility summed ≡ Some (CheckFault.WrongUtility line utility summed) = rw wrong refl in
+    let rest = child_fault line node said ∷ deep ∷ [] in
+    ap (line_fault_at least line node places) l.is
+    ∙ first_skip (prefix_fault line node said) (utility_fault line utility (earned places) ∷ rest) right
+    ∙ ap (λ z. first_some (utility_fault line utility z ∷ rest)) is
+    ∙ ap (λ f. first_some (f ∷ rest)) fault
 
 pub judged-same : (e : CheckFault) (a b : Option CheckFault) → a ≡ b → (e ≡ CheckFault.NoMemory) ⊎ (b ≡ Some e) → (e ≡ CheckFault.NoMemory) ⊎ (a ≡ Some e)
 judged-same e a b same (inl memory) = inl memory

@@ -23,42 +23,55 @@ pub(crate) struct Opened<'a> {
     pub places: Vec<Place<'a>>,
 }
 
+/// What every line is judged by: the order of the text, and the minimum.
+#[derive(Clone, Copy)]
+pub(crate) struct Terms<'a> {
+    pub order: &'a Order,
+    pub least: i128,
+}
+
+/// A line of the text, with its number.
+#[derive(Clone, Copy)]
+pub(crate) struct Line<'a> {
+    pub number: u64,
+    pub text: &'a [u8],
+}
+
 /// The tokens of the line of a prefix, where the line has no fault.
 pub(crate) fn check_line(
     alloc: Global,
-    order: &Order,
-    least: i128,
-    line: u64,
+    terms: Terms<'_>,
+    line: Line<'_>,
     prefix: &[Item],
     node: &Opened<'_>,
-    text: &[u8],
 ) -> Result<Vec<Token>, CheckFault>
-    requires apart { Apart order.now }
-    requires room { HasRoom (drop node.now.from order.now) (places_of node.now.places.items) }
-    ensures fault { Judges result (line_fault_at least line (node_at order.now
-        (numbers_of prefix.now) node.now.from)
-        (places_of node.now.places.items) (said_of text.now)) }
-    ensures tokens { IfOk result (λ tokens. SaysTokens text.now tokens.items) }
-    ensures later { IfOk result (λ tokens. Follows (drop node.now.from order.now)
+    requires apart { Apart terms.order.now }
+    requires room { HasRoom (drop node.now.from terms.order.now) (places_of node.now.places.items) }
+    ensures fault { Judges result (line_fault_at terms.entry.least line.entry.number
+        (node_at terms.entry.order.now (numbers_of prefix.now) node.now.from)
+        (places_of node.now.places.items) (said_of line.entry.text.now)) }
+    ensures tokens { IfOk result (λ tokens. SaysTokens line.entry.text.now tokens.items) }
+    ensures later { IfOk result (λ tokens. Follows (drop node.now.from terms.entry.order.now)
         (token_items tokens.items)) }
 {
-    let Some(said) = line_of(text) else {
-        return Err(CheckFault::NotOfForm { line });
+    let number = line.number;
+    let Some(said) = line_of(line.text) else {
+        return Err(CheckFault::NotOfForm { line: number });
     };
     if !is_prefix(said.prefix, prefix) {
-        return Err(CheckFault::WrongPrefix { line });
+        return Err(CheckFault::WrongPrefix { line: number });
     }
     let stated = said.utility;
     let summed = earned(&node.places);
     if stated != summed {
         return Err(CheckFault::WrongUtility {
-            line,
+            line: number,
             stated,
             summed,
         });
     }
-    let tokens = child_tokens(alloc, order, node.from, said.tokens, line)?;
-    match check_children(alloc, order, least, line, node, &tokens) {
+    let tokens = child_tokens(alloc, terms.order, node.from, said.tokens, number)?;
+    match check_children(alloc, terms, number, node, &tokens) {
         Ok(()) => Ok(tokens),
         Err(fault) => Err(fault),
     }
@@ -67,22 +80,21 @@ pub(crate) fn check_line(
 /// Whether the tokens leave no item out, and each bound is the sum and below the minimum.
 fn check_children(
     alloc: Global,
-    order: &Order,
-    least: i128,
+    terms: Terms<'_>,
     line: u64,
     node: &Opened<'_>,
     tokens: &[Token],
 ) -> Result<(), CheckFault>
-    requires apart { Apart order.now }
-    requires room { HasRoom (drop node.now.from order.now) (places_of node.now.places.items) }
-    requires later { Follows (drop node.now.from order.now) (token_items tokens.now) }
-    ensures { Judges result (children_fault_at least line (drop node.now.from order.now)
-        (places_of node.now.places.items) tokens.now) }
+    requires apart { Apart terms.order.now }
+    requires room { HasRoom (drop node.now.from terms.order.now) (places_of node.now.places.items) }
+    requires later { Follows (drop node.now.from terms.order.now) (token_items tokens.now) }
+    ensures { Judges result (children_fault_at terms.entry.least line
+        (drop node.now.from terms.entry.order.now) (places_of node.now.places.items) tokens.now) }
 {
     let named = named_items(alloc, tokens)?;
-    check_missing(order, node, &named, line)?;
+    check_missing(terms.order, node, &named, line)?;
     check_bounds(alloc, &named, &node.places, tokens, line)?;
-    check_cuts(tokens, least, line)
+    check_cuts(tokens, terms.least, line)
 }
 
 /// The items of tokens, none of which stands twice, in their order.

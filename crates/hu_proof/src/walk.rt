@@ -16,7 +16,7 @@ ghost use Rattle.hu_proof.specs.Waiting.{entry_at, stack_of, PushesChildren, Ste
 ghost use Rattle.hu_proof.specs.Words.{numbers_of};
 
 use crate::fault::CheckFault;
-use crate::line::{Opened, check_line};
+use crate::line::{Line, Opened, Terms, check_line};
 use crate::order::{Order, push_items, rank};
 use crate::place::{earned, first_places, later_rank, narrowed};
 use crate::token::Token;
@@ -34,23 +34,29 @@ pub(crate) struct Waiting<'a> {
     pub node: Opened<'a>,
 }
 
+/// How far a walk has come: the prefix whose line comes next, those that wait, and the entries that were found.
+#[derive(Drop)]
+struct Progress<'a> {
+    path: Vec<Item>,
+    waiting: Vec<Waiting<'a>>,
+    found: All,
+}
+
 /// Takes the prefix that comes next, and makes it the path.
-pub(crate) fn next<'a>(
-    path: &mut Vec<Item>,
-    waiting: &mut Vec<Waiting<'a>>,
-) -> Result<Option<Opened<'a>>, NoMemory>
-    ensures some { IfOk result (λ next. IfSome next
-        (λ node. Steps (numbers_of path.old.items) (stack_of waiting.old.items)
-        (numbers_of path.new.items) (stack_of waiting.new.items) node.from
+fn next<'a>(progress: &mut Progress<'a>) -> Result<Option<Opened<'a>>, NoMemory>
+    ensures some { IfOk result (λ next. IfSome next (λ node.
+        Steps (numbers_of progress.old.path.items) (stack_of progress.old.waiting.items)
+        (numbers_of progress.new.path.items) (stack_of progress.new.waiting.items) node.from
         (places_of node.places.items))) }
-    ensures none { IfOk result (λ next. IfNone next ((stack_of waiting.old.items
-        ≡ []) × (stack_of waiting.new.items ≡ []))) }
+    ensures none { IfOk result (λ next. IfNone next ((stack_of progress.old.waiting.items ≡ [])
+        × (stack_of progress.new.waiting.items ≡ []))) }
+    ensures found { progress.new.found ≡ progress.old.found }
 {
-    let Some(Waiting { depth, item, node }) = waiting.pop() else {
+    let Some(Waiting { depth, item, node }) = progress.waiting.pop() else {
         return Ok(None);
     };
-    path.truncate(depth);
-    path.push(item)?;
+    progress.path.truncate(depth);
+    progress.path.push(item)?;
     Ok(Some(node))
 }
 
@@ -145,32 +151,37 @@ pub(crate) fn key_of(alloc: Global, prefix: &[Item]) -> Result<Key, NoMemory>
 /// Checks the line of the path, lets its children wait, and offers its entry.
 fn visit<'a>(
     alloc: Global,
-    order: &Order,
-    least: i128,
-    line: u64,
-    path: &[Item],
+    terms: Terms<'_>,
+    line: Line<'_>,
     node: &Opened<'a>,
-    text: &[u8],
-    waiting: &mut Vec<Waiting<'a>>,
-    found: &mut All,
+    progress: &mut Progress<'a>,
 ) -> Result<(), CheckFault>
-    requires apart { Apart order.now }
-    requires room { HasRoom (drop node.now.from order.now) (places_of node.now.places.items) }
-    ensures fault { Judges result (line_fault_at least line (node_at order.now
-        (numbers_of path.now) node.now.from)
-        (places_of node.now.places.items) (said_of text.now)) }
-    ensures pushed { OnOk result ((tokens : List Token) × SaysTokens text.now tokens
-        × Follows (drop node.now.from order.now) (token_items tokens)
-        × PushesChildren order.now (length path.now) node.now.from
+    requires apart { Apart terms.order.now }
+    requires room { HasRoom (drop node.now.from terms.order.now) (places_of node.now.places.items) }
+    ensures fault { Judges result (line_fault_at terms.entry.least line.entry.number
+        (node_at terms.entry.order.now (numbers_of progress.old.path.items) node.now.from)
+        (places_of node.now.places.items) (said_of line.entry.text.now)) }
+    ensures path { OnOk result (progress.new.path ≡ progress.old.path) }
+    ensures pushed { OnOk result ((tokens : List Token) × SaysTokens line.entry.text.now tokens
+        × Follows (drop node.now.from terms.entry.order.now) (token_items tokens)
+        × PushesChildren terms.entry.order.now (length progress.old.path.items) node.now.from
         (places_of node.now.places.items) tokens
-        (stack_of waiting.old.items) (stack_of waiting.new.items)) }
-    ensures found { OnOk result (⟦<All as Collect>⟧.state found.new
-        ≡ offered (⟦<All as Collect>⟧.state found.old)
-        (entry_at (numbers_of path.now) (places_of node.now.places.items) ∷ [])) }
+        (stack_of progress.old.waiting.items) (stack_of progress.new.waiting.items)) }
+    ensures found { OnOk result (⟦<All as Collect>⟧.state progress.new.found
+        ≡ offered (⟦<All as Collect>⟧.state progress.old.found)
+        (entry_at (numbers_of progress.old.path.items) (places_of node.now.places.items) ∷ [])) }
 {
-    let tokens = check_line(alloc, order, least, line, path, node, text)?;
-    push_children(alloc, waiting, order, path.len(), node, &tokens)?;
-    offer(alloc, path, node, found)?;
+    let depth = progress.path.len();
+    let tokens = check_line(alloc, terms, line, &progress.path, node)?;
+    push_children(
+        alloc,
+        &mut progress.waiting,
+        terms.order,
+        depth,
+        node,
+        &tokens,
+    )?;
+    offer(alloc, &progress.path, node, &mut progress.found)?;
     Ok(())
 }
 
@@ -212,35 +223,28 @@ pub(crate) fn walk(
 {
     // This tells the proof that no sum overflows.
     let _sum = base.sum();
-    let mut found = All::new(alloc, least);
-    let mut path = Vec::new(alloc);
-    let mut waiting = Vec::new(alloc);
+    let terms = Terms { order, least };
+    let mut progress = Progress {
+        path: Vec::new(alloc),
+        waiting: Vec::new(alloc),
+        found: All::new(alloc, least),
+    };
     let mut current = Some(root(alloc, base.records())?);
     let mut rest = text;
-    let mut line = 3u64;
+    let mut number = 3u64;
     'lines: while let Some(node) = current {
         let Some((text, more)) = cut(b'\n', rest) else {
-            return Err(CheckFault::NotOfForm { line });
+            return Err(CheckFault::NotOfForm { line: number });
         };
-        visit(
-            alloc,
-            order,
-            least,
-            line,
-            &path,
-            &node,
-            text,
-            &mut waiting,
-            &mut found,
-        )?;
-        current = next(&mut path, &mut waiting)?;
+        visit(alloc, terms, Line { number, text }, &node, &mut progress)?;
+        current = next(&mut progress)?;
         rest = more;
-        line += 1;
+        number += 1;
     }
     if rest.is_empty() {
-        Ok(found.into_entries()?)
+        Ok(progress.found.into_entries()?)
     } else {
-        Err(CheckFault::NotOfForm { line })
+        Err(CheckFault::NotOfForm { line: number })
     }
 }
 

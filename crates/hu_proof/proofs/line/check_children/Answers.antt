@@ -1,4 +1,4 @@
-use Rattle.std.proofs.Common.{◌≡◌, None, drop, subst, sym, ap, ◌∙◌, map}
+use Rattle.std.proofs.Common.{◌≡◌, None, drop, subst, sym, ap, ◌∙◌, map, rules, FitsSigned}
 use Rattle.std.specs.Int.{w128}
 use Rattle.std.proofs.lemmas.Int.{to_z-of_z}
 use Rattle.hu_kind.specs.First.{first_some}
@@ -19,7 +19,7 @@ check_bounds-requires-clause-apart c = subst Apart (sym c.in_ok-named.ensures) (
 
 pub check_bounds-requires-clause-room : goal.check_bounds-requires-clause-room
 check_bounds-requires-clause-room c =
-    let later = drop c.args.node.now.from c.args.order.now in
+    let later = drop c.args.node.now.from c.args.terms.order.now in
     let places = places_of c.args.node.now.places.items in
     let named : HasRoom c.in_ok-named.named places = subst (λ xs. HasRoom xs places) (sym c.in_ok-named.ensures)
     (HasRoom-named later (token_items c.args.tokens.now) places c.requires.room c.requires.later) in
@@ -28,7 +28,7 @@ check_bounds-requires-clause-room c =
 pub returns-in_err-check_bounds : goal.returns-in_err-check_bounds
 returns-in_err-check_bounds c =
     let line = c.args.line in
-    let later = drop c.args.node.now.from c.args.order.now in
+    let later = drop c.args.node.now.from c.args.terms.order.now in
     let tokens = c.args.tokens.now in
     let places = places_of c.args.node.now.places.items in
     let named = c.in_ok-named.named in
@@ -38,17 +38,17 @@ returns-in_err-check_bounds c =
     let same : bound_faults line later places tokens ≡ bound_faults line named (places_of c.deref.result.now) tokens =
     bounds-same line later named places tokens c.in_ok-named.ensures c.requires.room.apart c.requires.later c.in_ok-check_missing.ensures
     ∙ ap (λ ps. bound_faults line named (places_of ps) tokens) (sym c.deref.ensures.value) in
-    judges-err c.from_residual-in_err-check_bounds.result e (children_fault_at c.args.least line later places tokens)
+    judges-err c.from_residual-in_err-check_bounds.result e (children_fault_at c.args.terms.least line later places tokens)
     c.from_residual-in_err-check_bounds.ensures
     (judged-second e (missing_fault line later (token_items tokens) places) (bound_faults line later places tokens)
-    (first_some (map (not_cut line c.args.least) tokens)) left
+    (first_some (map (not_cut line c.args.terms.least) tokens)) left
     (judged-same e (bound_faults line later places tokens) (bound_faults line named (places_of c.deref.result.now) tokens) same
     c.in_err-check_bounds.ensures))
 
 pub returns : goal.returns
 returns c =
     let line = c.args.line in
-    let later = drop c.args.node.now.from c.args.order.now in
+    let later = drop c.args.node.now.from c.args.terms.order.now in
     let tokens = c.args.tokens.now in
     let places = places_of c.args.node.now.places.items in
     let named = c.in_ok-named.named in
@@ -57,5 +57,6 @@ returns c =
     let sums : bound_faults line later places tokens ≡ None =
     bounds-same line later named places tokens c.in_ok-named.ensures c.requires.room.apart c.requires.later c.in_ok-check_missing.ensures
     ∙ (ap (λ ps. bound_faults line named (places_of ps) tokens) (sym c.deref.ensures.value) ∙ c.in_ok-check_bounds.ensures) in
-    let last = rw (to_z-of_z w128 c.args.least c.ranges.least) at c.check_cuts.ensures in
+    let fits : FitsSigned w128 c.args.terms.least = search rules in
+    let last = rw (to_z-of_z w128 c.args.terms.least fits) at c.check_cuts.ensures in
     judges-last c.check_cuts.result (missing_fault line later (token_items tokens) places) (bound_faults line later places tokens) _ left sums last

@@ -11,11 +11,11 @@ use Rattle.hu_proof.proofs.walk.walk.Given as goal
 
 abbrev pub invariant-lines : goal.invariant-lines
 invariant-lines l = record {
-  line : l.line + length l.rest ≤ 3 + length l.text;
-  stands : Stands (records_of l.base) l.order (numbers_of l.path.items) (stack_of l.waiting.items) l.current;
-  walks : walk (records_of l.base) l.least l.line (nodes_now l.order (numbers_of l.path.items) (stack_of l.waiting.items) l.current) (pieces l.rest) ≡
+  line : l.number + length l.rest ≤ 3 + length l.text;
+  stands : Stands (records_of l.base) l.order (numbers_of l.progress.path.items) (stack_of l.progress.waiting.items) l.current;
+  walks : walk (records_of l.base) l.least l.number (nodes_now l.order (numbers_of l.progress.path.items) (stack_of l.progress.waiting.items) l.current) (pieces l.rest) ≡
       walk (records_of l.base) l.least 3 (root l.order ∷ []) (pieces l.text);
-  found : (done : List (List ℕ)) × (all_state l.found ≡ offered (fresh l.least None) (map (prefix_entry (records_of l.base)) done)) ×
+  found : (done : List (List ℕ)) × (all_state l.progress.found ≡ offered (fresh l.least None) (map (prefix_entry (records_of l.base)) done)) ×
       (done ++ prefixes_in (pieces l.rest) ≡ prefixes_in (pieces l.text));
 }
 
