@@ -2,6 +2,7 @@
 pub mod Ranked
 pub mod Answers
 pub mod Fronts
+pub mod Picks
 pub mod Sums
 pub mod Tests
 pub mod Closed

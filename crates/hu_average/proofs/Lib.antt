@@ -1,6 +1,7 @@
 pub mod lemmas
 pub mod Quotients
 pub mod AverageOrder
+pub mod AnswerLemmas
 pub mod BestLemmas
 pub mod PlainLemmas
 pub mod CoverLemmas

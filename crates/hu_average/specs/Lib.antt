@@ -1,5 +1,6 @@
 pub mod Order
 pub mod Answer
+pub mod Laws
 pub mod Best
 pub mod Tails
 pub mod Children

@@ -1,4 +1,5 @@
 pub mod Lengths
+pub mod Laws
 pub mod LengthsOnly
 pub mod Bound
 pub mod Worked

@@ -1,8 +1,9 @@
 -- What stands in an answer.
-use Rattle.std.proofs.Common.{◌≡◌, ℕ, ℤ, ◌≤ℤ◌, Bool, true, false, None, List, refl, sym, subst}
+use Rattle.std.proofs.Common.{◌≡◌, ◌↔◌, ℕ, ℤ, ◌≤ℤ◌, Bool, true, false, None, List, refl, sym, subst, arith}
 use Rattle.std.specs.Prelude.{int_le, T}
 use Rattle.std.specs.List.{Contains}
 use Rattle.std.proofs.lemmas.Float.{T_from_true}
+use Rattle.std.proofs.lemmas.Int.{ints}
 use Rattle.hu_kind.specs.declared.entry.Entry.{Entry}
 use Rattle.hu_kind.specs.Answer.{found, answer, item_answer}
 use Rattle.hu_kind.specs.Itemsets.{occurring_sets, item_entry, item_patterns}
@@ -60,3 +61,18 @@ is_item_answer records least entry = (there, back)
         let m = Member-map (item_entry records) s.0 (occurring_sets records) (Member-from_occurs records s.0 occurs) in
         let stands = Member-answer least (item_patterns records) (item_entry records s.0) m s.1.earns in
         Contains-from_member entry _ (subst (λ e. Member e (item_answer records least None)) (entry-of_set records s.0 entry s.2) stands)
+
+-- an entry is a pattern exactly where it is that of a set that some record holds
+pub is_pattern : (records : List (List (ℕ × ℤ))) (e : Entry)
+    → Contains (item_patterns records) e ↔ ((items : List ℕ) × IsFoundSet records e.utility items × IsEntryOf records items e)
+is_pattern records e = (there, back)
+  where
+    there : Contains (item_patterns records) e → (items : List ℕ) × IsFoundSet records e.utility items × IsEntryOf records items e
+    there c =
+        let stands = Member-answer e.utility (item_patterns records) e (Member-from_contains e _ c) (omega (arith, ints)) in
+        (is_item_answer records e.utility e).0 (Contains-from_member e _ stands)
+
+    back : (items : List ℕ) × IsFoundSet records e.utility items × IsEntryOf records items e → Contains (item_patterns records) e
+    back s =
+        let stands = Member-from_contains e _ ((is_item_answer records e.utility e).1 s) in
+        Contains-from_member e _ (Member-from_answer e.utility (item_patterns records) e stands).0

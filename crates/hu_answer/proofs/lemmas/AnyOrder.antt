@@ -13,7 +13,7 @@ use Rattle.hu_kind.proofs.lemmas.Members.{Member-from_map, Member-flat_map, Memb
 use Rattle.hu_answer.specs.Supersets.{IsClosedSet}
 use Rattle.hu_answer.specs.Entries.{IsEntryOf, IsFoundSet}
 use Rattle.hu_answer.specs.Laws.{ItemsInAnyOrder, ClosedInAnyOrder, SequencesInAnyOrder}
-use Rattle.hu_answer.proofs.lemmas.Answers.{Member-answer, Member-from_answer, is_item_answer}
+use Rattle.hu_answer.proofs.lemmas.Answers.{Member-answer, Member-from_answer, is_item_answer, is_pattern}
 use Rattle.hu_answer.proofs.lemmas.Closed.{is_closed_answer}
 use Rattle.hu_kind.proofs.lemmas.EntryOrder.{entry_order, entry-same}
 use Rattle.hu_answer.proofs.lemmas.Fronts.{sorted-answer}
@@ -58,6 +58,13 @@ items-again : (first second : List (List (ℕ × ℤ))) (least : ℤ) → IsPerm
 items-again first second least h e c =
     let s = (is_item_answer first least e).0 c in
     (is_item_answer second least e).1 (s.0, found-again first second least s.0 h s.1, entry-again first second s.0 e h s.2)
+
+-- the patterns are the same, each with what it earns
+pub patterns-again : (first second : List (List (ℕ × ℤ))) → IsPermutation first second → (e : Entry)
+    → Contains (item_patterns first) e → Contains (item_patterns second) e
+patterns-again first second h e c =
+    let s = (is_pattern first e).0 c in
+    (is_pattern second e).1 (s.0, found-again first second e.utility s.0 h s.1, entry-again first second s.0 e h s.2)
 
 pub items_in_any_order : ItemsInAnyOrder
 items_in_any_order first second least top h =

@@ -33,7 +33,7 @@ sorted-take cmp zero xs h = tt
 sorted-take cmp (suc k) [] h = tt
 sorted-take cmp (suc k) (x ∷ xs) h = (each-take (λ y. cmp x y ≡ Less) k xs h.0, sorted-take cmp k xs h.1)
 
-sorted-cut : {A : Type 0} (cmp : A → A → Ordering) (top : Option ℕ) (xs : List A) → IsStrictlySortedBy cmp xs → IsStrictlySortedBy cmp (cut top xs)
+pub sorted-cut : {A : Type 0} (cmp : A → A → Ordering) (top : Option ℕ) (xs : List A) → IsStrictlySortedBy cmp xs → IsStrictlySortedBy cmp (cut top xs)
 sorted-cut cmp None xs h = h
 sorted-cut cmp (Some k) xs h = sorted-take cmp k xs h
 
