@@ -1,6 +1,7 @@
 -- Tests of all elements of a list, of some, and their count.
-use Rattle.std.proofs.Common.{◌≡◌, ◌∙◌, ◌+◌, Bool, true, false, cond, not, ◌&&◌, ◌||◌, List, [], ◌∷◌, map, refl, sym, ap, arith, filter, count_by}
+use Rattle.std.proofs.Common.{◌≡◌, ◌∙◌, ℕ, ◌+◌, eqb, Bool, true, false, cond, not, ◌&&◌, ◌||◌, List, [], ◌∷◌, map, refl, sym, ap, arith, filter, count_by}
 use Rattle.std.specs.List.{list_all, list_any}
+use Rattle.std.proofs.lemmas.Bool.{ne_eqb}
 use Rattle.std.proofs.lemmas.List.Sums.{sum_by-cons}
 use Rattle.hu_kind.proofs.lemmas.Members.{Member}
 use Rattle.hu_kind.proofs.lemmas.Tests.{all-at_member, all-by_members, any-member, any-from_member, same_bool}
@@ -46,6 +47,15 @@ all-filter p q out (x ∷ xs) = all-filter-cons p q x xs (q x) refl (out x) (all
 
 pub count-cons : {X : Type 0} (p : X → Bool) (x : X) (xs : List X) → count_by p (x ∷ xs) ≡ cond (p x) 1 0 + count_by p xs
 count-cons p x xs = sum_by-cons (λ y. cond (p y) 1 0) x xs
+
+-- none passes where the count is 0
+count-none-cons : (b rest : Bool) (n : ℕ) → eqb n 0 ≡ not rest → eqb (cond b 1 0 + n) 0 ≡ not (b || rest)
+count-none-cons true rest n ih = ne_eqb (1 + n) 0 (λ e. absurd (omega (arith, e)))
+count-none-cons false rest n ih = let same : 0 + n ≡ n = omega arith in ap (λ k. eqb k 0) same ∙ ih
+
+pub count-none : {X : Type 0} (p : X → Bool) (xs : List X) → eqb (count_by p xs) 0 ≡ not (list_any p xs)
+count-none p [] = refl
+count-none p (x ∷ xs) = ap (λ n. eqb n 0) (count-cons p x xs) ∙ count-none-cons (p x) (list_any p xs) (count_by p xs) (count-none p xs)
 
 count-filter-cons : {X : Type 0} (p q : X → Bool) (x : X) (xs : List X) (b : Bool) → q x ≡ b
     → (q x ≡ false → p x ≡ false) → count_by p (filter q xs) ≡ count_by p xs

@@ -5,7 +5,7 @@ use Rattle.std.proofs.Common.{length, take, refl, sym, ap, subst, arith, count_b
 use Rattle.std.specs.List.{list_all, list_any}
 use Rattle.std.specs.declared.vec.Vec.{Vec}
 use Rattle.std.specs.declared.alloc.Global.{Global}
-use Rattle.std.proofs.lemmas.Bool.{and_from, and_parts, eq-eqb, eqb-true, lt-ltb, ne_eqb, not_from_false, or_left, true≢false}
+use Rattle.std.proofs.lemmas.Bool.{and_from, and_parts, eq-eqb, eqb-true, lt-ltb, ne_eqb, not-true, not_from_false, or_left, true≢false}
 use Rattle.std.proofs.lemmas.Bool.Decides.{nat_tests}
 use Rattle.std.proofs.lemmas.List.{length-map}
 use Rattle.std.proofs.lemmas.List.Sums.{sum_by-cons}
@@ -25,7 +25,7 @@ use Rattle.hu_closed.specs.Holders.{has_rank_below, is_below, AreSets}
 use Rattle.hu_closed.specs.Found.{closes_at, Finds, IsHeld}
 use Rattle.hu_closed.proofs.Places.{among-part}
 use Rattle.hu_closed.proofs.lemmas.Closedness.{any_closes-one, closes, closes-held, closes-unheld, has-among, is_closed_key-set, occurs}
-use Rattle.hu_closed.proofs.ListTests.{all-filter, all-same, any-same, count-filter, count-map}
+use Rattle.hu_closed.proofs.ListTests.{all-filter, all-not, all-same, any-same, count-filter, count-map, count-none}
 
 lacking : (records : List (List (ℕ × ℤ))) (key : List ℤ) (found : List (List ℕ)) (f : Finds records key found)
     → (items : List ℕ) → is_among items f.number ≡ false → are_among items key ≡ false
@@ -52,6 +52,29 @@ pub support-empty : (records : List (List (ℕ × ℤ))) (vs : List (Vec Item Gl
 support-empty records vs holders [] are none = support-all records vs holders are
 support-empty records vs holders (n ∷ ns) are none = let many : eqb (suc (length ns)) 0 ≡ false =
     ne_eqb (suc (length ns)) 0 (λ e. absurd (omega arith)) in absurd (true≢false (none ∙ many))
+
+not_not : (b : Bool) → not (not b) ≡ b
+not_not true = refl
+not_not false = refl
+
+-- a record holds the key where one of those found does
+held-found : (records : List (List (ℕ × ℤ))) (key : List ℤ) (found : List (List ℕ)) → Finds records key found
+    → not (key_support records key == 0) ≡ list_any (λ items. are_among items key) found
+held-found records key found f =
+    let test : List ℕ → Bool = λ items. are_among items key in
+    ap (λ n. not (n == 0)) (sym (support-found records key found f)) ∙ ap not (count-none test found) ∙ not_not (list_any test found)
+
+pub held-some : (records : List (List (ℕ × ℤ))) (key : List ℤ) (found rest : List (List ℕ)) (items : List ℕ)
+    → Finds records key found → IsHeld found key rest items → true ≡ not (key_support records key == 0)
+held-some records key found rest items f h =
+    let one = any-from_member (λ items. are_among items key) items found (Member-from_contains items found h.part) h.holding.whole in
+    sym (held-found records key found f ∙ one)
+
+pub held-none : (records : List (List (ℕ × ℤ))) (key : List ℤ) (found : List (List ℕ)) → Finds records key found
+    → list_all (λ items. not (are_among items key)) found ≡ true → false ≡ not (key_support records key == 0)
+held-none records key found f none =
+    let test : List ℕ → Bool = λ items. are_among items key in
+    sym (held-found records key found f ∙ not-true (list_any test found) (sym (all-not test found) ∙ none))
 
 -- what closes the key in the records found closes it
 pub closes-found : (records : List (List (ℕ × ℤ))) (key : List ℤ) (found : List (List ℕ)) → Finds records key found

@@ -1,6 +1,6 @@
 //! Which records hold which items.
 
-ghost use Rattle.std.specs.Prelude.{◌≡◌, ◌<◌, List, ℕ, ℤ, map, pos, true, false, length, Some, IfOk, OnOk};
+ghost use Rattle.std.specs.Prelude.{◌≡◌, ◌<◌, ◌==◌, List, ℕ, ℤ, map, pos, true, false, not, length, Some, IfOk, OnOk};
 ghost use Rattle.std.specs.List.{AllByRecursion, list_any};
 ghost use Rattle.hu_base.specs.Base.{records_of};
 ghost use Rattle.hu_kind.specs.Cell.{pairs_of};
@@ -70,6 +70,14 @@ impl RecordSets {
         self.count_holding(key.numbers())
     }
 
+    /// Whether some record holds every number of a key as an item: for the empty key, whether there is a record. It goes
+    /// through the records that hold the key's rarest item up to the first that holds the key, and takes no memory.
+    pub fn is_held(&self, key: &Key) -> bool
+        ensures value { result ≡ not (key_support self.now key.now == 0) }
+    {
+        self.any_holding(key.numbers())
+    }
+
     /// Whether a key is that of a closed itemset: its numbers are items ascending, at least one, and no occurring item
     /// outside it stands in every record that holds it. Only the items of the first record that holds the key are
     /// tried, each until a record has the key without it. It takes no memory. After CHARM (Zaki and Hsiao, 2002).
@@ -113,6 +121,19 @@ impl RecordSets {
             return lists.len() as u64;
         }
         self.found(numbers).count(numbers)
+    }
+
+    /// Whether some record holds these numbers.
+    fn any_holding(&self, numbers: &[i64]) -> bool
+        ensures { result ≡ not (key_support self.now numbers.now == 0) }
+    {
+        if numbers.is_empty() {
+            return !self.lists.is_empty();
+        }
+        match self.found(numbers).held(numbers) {
+            Some(_) => true,
+            None => false,
+        }
     }
 
     /// Whether these numbers are a closed itemset.

@@ -152,7 +152,7 @@ fn offer_untouched(
     ensures ok { OnOk result (content_in collect.new ≡ (if is_touched batch.now key.now then content_in collect.old
         else made (rule_in collect.old) (content_in collect.old) (entry_from (key.now, held.now) ∷ []))) }
 {
-    if batch.support(key) > 0 {
+    if batch.is_held(key) {
         return Ok(());
     }
     collect.offer(held.entry(alloc, key)?)

@@ -49,7 +49,7 @@ impl<'a, C: Collect> Touched<'a, C> {
         ensures leaves { result ≡ false → offered (⟦<Touched<'a, C> as Collect>⟧.state self.now) (entry.now ∷ [])
             ≡ ⟦<Touched<'a, C> as Collect>⟧.state self.now }
     {
-        entry.utility >= self.inner.floor() && self.batch.support(&entry.key) > 0
+        entry.utility >= self.inner.floor() && self.batch.is_held(&entry.key)
     }
 }
 
@@ -76,7 +76,7 @@ impl<'a, C: Collect> Collect for Touched<'a, C> {
             ⊎ IsShut (C.state (inner_of self.now)).rule key.now last }
         ensures grown { result ≡ false → IsShut (⟦<Touched<'a, C> as Collect>⟧.state self.now).rule key.now last }
     {
-        self.batch.support(key) > 0 && self.inner.opens(key, last)
+        self.batch.is_held(key) && self.inner.opens(key, last)
     }
 
     /// An entry below the floor is left out before its key is looked at.
