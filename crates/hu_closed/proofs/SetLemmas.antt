@@ -21,7 +21,8 @@ use Rattle.hu_totals.proofs.lemmas.SortedLists.{Member-from_ranking}
 use Rattle.hu_totals.proofs.lemmas.DenseLemmas.{position-rank_in, rank_in}
 use Rattle.hu_closed.specs.declared.holders.Holders.{Holders}
 use Rattle.hu_closed.specs.Keys.{are_among, closes_below, holds_key, is_among, is_closed_key, is_outside, is_set_key, key_support}
-use Rattle.hu_closed.specs.Holders.{has_rank_below, is_below, AreSets}
+use Rattle.hu_closed.specs.Holders.{AreSets}
+use Rattle.hu_closed.specs.Candidates.{has_rank_below, is_below}
 use Rattle.hu_closed.specs.Found.{closes_at, Finds, IsHeld}
 use Rattle.hu_closed.proofs.Places.{among-part}
 use Rattle.hu_closed.proofs.lemmas.Closedness.{any_closes-one, closes, closes-held, closes-unheld, has-among, is_closed_key-set, occurs}

@@ -6,14 +6,6 @@ use Rattle.std.specs.Prelude.{
   ◌<◌,
   ℤ,
   pos,
-  Bool,
-  false,
-  nat_eq,
-  nat_lt,
-  position,
-  Option,
-  None,
-  Some,
   List,
   [],
   ◌∷◌,
@@ -90,15 +82,6 @@ found_at lists places = map (λ place. slice_index_or lists place []) places
 pub record ArePlaced (lists : List (List ℕ)) (places : List ℕ) : Type 0 where
   pub ascend : AreLists lists
   pub within : AreWithin (length lists) places
-
--- whether there is a rank and it is below `last`
-abbrev pub is_below : Option ℕ → ℕ → Bool
-is_below None last = false
-is_below (Some rank) last = nat_lt rank last
-
--- whether an item has a rank below `last`
-abbrev pub has_rank_below : List ℕ → ℕ → ℕ → Bool
-has_rank_below table last item = is_below (position (nat_eq item) table) last
 
 -- lists of items and holders are those of records
 pub record AreSets (records : List (List (ℕ × ℤ))) (items : List (Vec Item Global))

@@ -5,7 +5,8 @@ ghost use Rattle.std.specs.List.{list_any};
 ghost use Rattle.hu_kind.specs.Order.{Ascend};
 ghost use Rattle.hu_totals.specs.Weights.{numbers_of};
 ghost use Rattle.hu_closed.specs.Keys.{is_among, is_outside, is_set_key};
-ghost use Rattle.hu_closed.specs.Holders.{has_rank_below, lists_of};
+ghost use Rattle.hu_closed.specs.Holders.{lists_of};
+ghost use Rattle.hu_closed.specs.Candidates.{has_rank_below, is_tried};
 ghost use Rattle.hu_closed.specs.Found.{closes_at, IsHolding};
 
 use crate::found::Found;
@@ -13,69 +14,23 @@ use crate::keys::{is_among, is_outside};
 use hu_kind::Item;
 use hu_totals::Ranked;
 
-/// Whether one of these items is outside a key and stands in each record found that holds it. The items are those of such
-/// a record. The last record that was found to lack an item is looked at first for the next one.
-pub(crate) fn any_closes<'a>(found: &Found<'a>, key: &[i64], items: &'a [Item]) -> bool
-    requires key { is_set_key key.now ≡ true }
-    requires holding { IsHolding found.now key.now (numbers_of items.now) }
-    ensures { result ≡ list_any (closes_at found.now key.now)
-        (numbers_of items.now) }
-{
-    let mut witness = items;
-    for item in items {
-        let Some(next) = witness_against(found, key, *item, witness) else {
-            return true;
-        };
-        witness = next;
-    }
-    false
+/// Which items are tried: all of them, or those that have a rank below `last`.
+#[derive(Drop)]
+pub(crate) enum Tried<'a> {
+    All,
+    Below { ranked: &'a Ranked, last: u32 },
 }
 
-/// Whether one of these items that has a rank below `last` is outside a key and stands in each record found that holds
-/// it. The items are those of such a record.
-pub(crate) fn any_closes_below<'a>(
-    found: &Found<'a>,
-    key: &[i64],
-    items: &'a [Item],
-    ranked: &Ranked,
-    last: u32,
-) -> bool
-    requires key { is_set_key key.now ≡ true }
-    requires holding { IsHolding found.now key.now (numbers_of items.now) }
-    ensures { result ≡ list_any (λ item. has_rank_below ranked.now.items last item
-        && closes_at found.now key.now item)
-        (numbers_of items.now) }
-{
-    let mut witness = items;
-    for item in items {
-        let Some(next) = witness_below(found, key, *item, witness, ranked, last) else {
-            return true;
-        };
-        witness = next;
+impl<'a> Tried<'a> {
+    /// Whether an item is tried.
+    fn has(&self, item: Item) -> bool
+        ensures { result ≡ is_tried self.now item.0 }
+    {
+        match self {
+            Tried::All => true,
+            Tried::Below { ranked, last } => has_rank_below(ranked, item, *last),
+        }
     }
-    false
-}
-
-/// A record found that holds a key: the witness that is given, where the item has no rank below `last` or the
-/// witness shows that it doesn't close the key, else another one that shows it; none where it closes the key.
-fn witness_below<'a>(
-    found: &Found<'a>,
-    key: &[i64],
-    item: Item,
-    witness: &'a [Item],
-    ranked: &Ranked,
-    last: u32,
-) -> Option<&'a [Item]>
-    requires key { is_set_key key.now ≡ true }
-    requires holding { IsHolding found.now key.now (numbers_of witness.now) }
-    ensures holding { IfSome result (λ items. IsHolding found.now key.now (numbers_of items.now)) }
-    ensures value { is_some result ≡ not (has_rank_below ranked.now.items last item.0
-        && closes_at found.now key.now item.0) }
-{
-    if is_settled(key, item, witness) || !has_rank_below(ranked, item, last) {
-        return Some(witness);
-    }
-    found.refuter(key, item)
 }
 
 /// Whether an item has a rank below `last`.
@@ -88,21 +43,45 @@ fn has_rank_below(ranked: &Ranked, item: Item, last: u32) -> bool
     }
 }
 
-/// A record found that holds a key: the witness that is given, where it shows that the item doesn't close the
-/// key, else another one that shows it; none where the item closes the key.
+/// Whether one of these items that is tried is outside a key and stands in each record found that holds it. The items are
+/// those of such a record. The last record that was found to lack an item is looked at first for the next one.
+pub(crate) fn any_closes<'a>(
+    found: &Found<'a>,
+    key: &[i64],
+    items: &'a [Item],
+    tried: &Tried<'_>,
+) -> bool
+    requires key { is_set_key key.now ≡ true }
+    requires holding { IsHolding found.now key.now (numbers_of items.now) }
+    ensures { result ≡ list_any (λ item. is_tried tried.now item && closes_at found.now key.now item)
+        (numbers_of items.now) }
+{
+    let mut witness = items;
+    for item in items {
+        let Some(next) = witness_against(found, key, *item, witness, tried) else {
+            return true;
+        };
+        witness = next;
+    }
+    false
+}
+
+/// A record found that holds a key: the witness that is given, where the item isn't tried or the witness shows that it
+/// doesn't close the key, else another one that shows it; none where the item closes the key.
 fn witness_against<'a>(
     found: &Found<'a>,
     key: &[i64],
     item: Item,
     witness: &'a [Item],
+    tried: &Tried<'_>,
 ) -> Option<&'a [Item]>
     requires key { is_set_key key.now ≡ true }
     requires holding { IsHolding found.now key.now (numbers_of witness.now) }
     ensures holding { IfSome result (λ items. IsHolding found.now key.now (numbers_of items.now)) }
     ensures value { is_some result
-        ≡ not (closes_at found.now key.now item.0) }
+        ≡ not (is_tried tried.now item.0 && closes_at found.now key.now item.0) }
 {
-    if is_settled(key, item, witness) {
+    if is_settled(key, item, witness) || !tried.has(item) {
         return Some(witness);
     }
     found.refuter(key, item)

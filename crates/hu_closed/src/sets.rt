@@ -14,7 +14,7 @@ ghost use Rattle.hu_closed.specs.Holders.{lists_of};
 ghost use Rattle.hu_closed.specs.Found.{Finds};
 ghost use Rattle.hu_closed.specs.ClosedOnly.{IsRankingOf};
 
-use crate::candidates::{any_closes, any_closes_below, any_outside, any_outside_below};
+use crate::candidates::{Tried, any_closes, any_outside, any_outside_below};
 use crate::found::Found;
 use crate::holders::{Holders, all_holders, rarest};
 use crate::keys::is_set_key;
@@ -100,7 +100,12 @@ impl RecordSets {
         self.tell_rules();
         let numbers = key.numbers();
         match self.found(numbers).held(numbers) {
-            Some(held) => any_closes_below(&held.rest, numbers, held.items, ranked, last),
+            Some(held) => any_closes(
+                &held.rest,
+                numbers,
+                held.items,
+                &Tried::Below { ranked, last },
+            ),
             None => any_outside_below(ranked, numbers, last),
         }
     }
@@ -144,7 +149,7 @@ impl RecordSets {
             return false;
         }
         match self.found(numbers).held(numbers) {
-            Some(held) => !any_closes(&held.rest, numbers, held.items),
+            Some(held) => !any_closes(&held.rest, numbers, held.items, &Tried::All),
             None => !any_outside(&self.lists, numbers),
         }
     }

@@ -10,8 +10,7 @@ use Rattle.hu_kind.proofs.lemmas.Members.{Member}
 use Rattle.hu_kind.proofs.lemmas.Occurring.{Member-ranking, Occurs-from_member, at_member, by_members, held-members}
 use Rattle.hu_collect.specs.Rule.{Rule, passes}
 use Rattle.hu_collect.specs.State.{State, offered, floor_in, IsInOrder}
-use Rattle.hu_collect.proofs.lemmas.Made.{made-not_passing}
-use Rattle.hu_collect.proofs.lemmas.Searching.{state-equal, kept-in_order, offered-low}
+use Rattle.hu_collect.proofs.lemmas.Searching.{state-equal, offered-low}
 use Rattle.hu_closed.specs.Keys.{is_closed_key}
 use Rattle.hu_closed.specs.ClosedOnly.{closed_rule, closed_state, MakesClosed}
 use Rattle.hu_closed.proofs.lemmas.Closedness.{is_closed_key-items}
@@ -23,15 +22,6 @@ pub leaves-below : (inner : State) (records : List (List (ℕ × ℤ))) (table :
     → offered (closed_state inner records table) (entry ∷ []) ≡ closed_state inner records table
 leaves-below inner records table entry ordered low =
     offered-low (closed_state inner records table) entry (ap (λ s. closed_state s records table) ordered) low
-
-pub leaves-open : (inner : State) (records : List (List (ℕ × ℤ))) (table : List ℕ) (entry : Entry) → IsInOrder inner → is_closed_key records entry.key ≡ false
-    → offered (closed_state inner records table) (entry ∷ []) ≡ closed_state inner records table
-leaves-open inner records table entry ordered out =
-    let rule = closed_rule inner.rule records table in
-    let fails : passes rule entry ≡ false =
-    and_left (inner.rule.wants entry.key && is_closed_key records entry.key) (int_le inner.rule.start entry.utility)
-    (and_right (inner.rule.wants entry.key) (is_closed_key records entry.key) out) in
-    state-equal refl (made-not_passing rule inner.content entry (kept-in_order inner ordered) fails)
 
 -- ---- patterns
 

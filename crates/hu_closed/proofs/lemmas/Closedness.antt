@@ -93,9 +93,6 @@ is_closed_key-set records key h =
     ∙ is_closed-items records (map unsigned_abs key)
     ∙ ap (λ k. not (list_any (closes records k) (items_of records))) (key-items key h)
 
-pub is_closed_key-other : (records : List (List (ℕ × ℤ))) (key : List ℤ) → is_set_key key ≡ false → is_closed_key records key ≡ false
-is_closed_key-other records key h = ap (λ b. b && is_closed records (map unsigned_abs key)) h
-
 ascends-items : (below : ℤ) (items : List ℕ) → AllByRecursion (λ i. below <ℤ pos i) items → Ascend items
     → AllByRecursion (λ i. i ≤ 2147483647) items → ascends_above below (map pos items) ≡ true
 ascends-items below [] low up high = refl

@@ -13,8 +13,8 @@ found-requires c =
     c.args.last c.tell_rules.ensures c.requires.base c.requires.key in
     set_key-some c.numbers-numbers.result.now set
 
-pub any_closes_below-requires-clause-key : goal.any_closes_below-requires-clause-key
-any_closes_below-requires-clause-key c =
+pub any_closes-requires-clause-key : goal.any_closes-requires-clause-key
+any_closes-requires-clause-key c =
     ap is_set_key c.numbers-numbers.ensures ∙ set_key-open c.args.self.now c.args.ranked.now c.args.key.now c.args.last
     c.tell_rules.ensures c.requires.base c.requires.key
 
@@ -31,7 +31,7 @@ any_outside_below-requires-clause-last c =
 pub returns-in-Some-clause-value : goal.returns-in-Some-clause-value
 returns-in-Some-clause-value c =
     let table = c.args.ranked.now.items in
-    c.any_closes_below.ensures
+    c.any_closes.ensures
     ∙ below-some c.args.self.now c.numbers-numbers.result.now c.found.result c.in-Some.held.rest
     (numbers_of c.in-Some.held.items.now) table c.args.last c.found.ensures c.in-Some.ensures.some
     ∙ ap (λ key. closes_below c.args.self.now table key c.args.last) c.numbers-numbers.ensures
