@@ -1,12 +1,11 @@
 pub mod lemmas
 mod Numbers
-mod Rows
 mod Adding
 pub mod KeyLemmas
 mod Pairs
 mod Tries
 mod ListTests
-mod Places
+mod HolderRecords
 mod Rest
 mod SetLemmas
 mod PartLemmas

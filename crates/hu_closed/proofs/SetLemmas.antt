@@ -19,12 +19,11 @@ use Rattle.hu_kind.proofs.lemmas.Tests.{any-member, any-from_member, same_bool}
 use Rattle.hu_totals.specs.Weights.{numbers_of}
 use Rattle.hu_totals.proofs.lemmas.SortedLists.{Member-from_ranking}
 use Rattle.hu_totals.proofs.lemmas.DenseLemmas.{position-rank_in, rank_in}
-use Rattle.hu_closed.specs.declared.holders.Holders.{Holders}
 use Rattle.hu_closed.specs.Keys.{are_among, closes_below, holds_key, is_among, is_closed_key, is_outside, is_set_key, key_support}
 use Rattle.hu_closed.specs.Holders.{AreSets}
 use Rattle.hu_closed.specs.Candidates.{has_rank_below, is_below}
 use Rattle.hu_closed.specs.Found.{closes_at, Finds, IsHeld}
-use Rattle.hu_closed.proofs.Places.{among-part}
+use Rattle.hu_closed.proofs.HolderRecords.{among-part}
 use Rattle.hu_closed.proofs.lemmas.Closedness.{any_closes-one, closes, closes-held, closes-unheld, has-among, is_closed_key-set, occurs}
 use Rattle.hu_closed.proofs.ListTests.{all-filter, all-not, all-same, any-same, count-filter, count-map, count-none}
 
@@ -43,12 +42,12 @@ count-all : {X : Type 0} (xs : List X) → count_by (λ x. true) xs ≡ length x
 count-all [] = refl
 count-all (x ∷ xs) = omega (arith, sum_by-cons (λ y. cond true 1 0) x xs, count-all xs)
 
-support-all : (records : List (List (ℕ × ℤ))) (vs : List (Vec Item Global)) (holders : Holders)
+support-all : (records : List (List (ℕ × ℤ))) (vs : List (Vec Item Global)) (holders : List (ℤ × List ℕ))
     → AreSets records vs holders → length vs ≡ key_support records []
 support-all records vs holders are =
     sym (length-map vs (λ (v : Vec Item Global). numbers_of v.items)) ∙ ap length are.lists ∙ length-map records items_in ∙ sym (count-all records)
 
-pub support-empty : (records : List (List (ℕ × ℤ))) (vs : List (Vec Item Global)) (holders : Holders) (key : List ℤ)
+pub support-empty : (records : List (List (ℕ × ℤ))) (vs : List (Vec Item Global)) (holders : List (ℤ × List ℕ)) (key : List ℤ)
     → AreSets records vs holders → true ≡ (length key == 0) → length vs ≡ key_support records key
 support-empty records vs holders [] are none = support-all records vs holders are
 support-empty records vs holders (n ∷ ns) are none = let many : eqb (suc (length ns)) 0 ≡ false =

@@ -12,7 +12,6 @@ use Rattle.std.specs.Prelude.{
   ◌++◌,
   length,
   map,
-  if◌then◌else◌,
   slice_index_or,
   refl,
 }
@@ -24,7 +23,7 @@ use Rattle.hu_kind.specs.declared.item.Item.{Item}
 use Rattle.hu_kind.specs.Record.{items_in, IsRecord}
 use Rattle.hu_kind.specs.Order.{Ascend}
 use Rattle.hu_totals.specs.Weights.{numbers_of}
-use Rattle.hu_closed.specs.declared.holders.Holders.{Holders}
+use Rattle.hu_closed.specs.Places.{places_at}
 
 -- lists of items as lists of numbers
 abbrev pub lists_of : List (Vec Item Global) → List (List ℕ)
@@ -47,28 +46,9 @@ pairs_with number pairs = filter (λ pair. int_eq number (pos pair.0)) pairs
 abbrev pub places_with : ℤ → List (ℕ × ℕ) → List ℕ
 places_with number pairs = map (λ pair. pair.1) (pairs_with number pairs)
 
--- the places in the row beside a number, none where it has none
-abbrev pub row_of : List ℤ → List (List ℕ) → ℤ → List ℕ
-row_of [] rows number = []
-row_of (n ∷ ns) [] number = []
-row_of (n ∷ ns) (row ∷ rows) number = if int_eq number n then row else row_of ns rows number
-
--- lists of places
-abbrev pub rows_of : List (Vec ℕ Global) → List (List ℕ)
-rows_of places = map (λ row. row.items) places
-
--- the places of a number's holders
-abbrev pub places_of : Holders → ℤ → List ℕ
-places_of holders number = row_of holders.numbers.keys (rows_of holders.places.items) number
-
--- each number has places
-abbrev pub HasPlaces : Holders → Type 0
-HasPlaces holders = length holders.places.items ≡ length holders.numbers.keys
-
--- holders are those of pairs (item, place)
-pub record AreHolders (holders : Holders) (pairs : List (ℕ × ℕ)) : Type 0 where
-  pub rows : HasPlaces holders
-  pub at : (number : ℤ) → places_of holders number ≡ places_with number pairs
+-- each number has the places beside it in pairs (item, place)
+abbrev pub AreHolders : List (ℤ × List ℕ) → List (ℕ × ℕ) → Type 0
+AreHolders places pairs = (number : ℤ) → places_at places number ≡ places_with number pairs
 
 -- each place is below a number
 abbrev pub AreWithin : ℕ → List ℕ → Type 0
@@ -83,11 +63,11 @@ pub record ArePlaced (lists : List (List ℕ)) (places : List ℕ) : Type 0 wher
   pub ascend : AreLists lists
   pub within : AreWithin (length lists) places
 
--- lists of items and holders are those of records
+-- lists of items and the places of each are those of records
 pub record AreSets (records : List (List (ℕ × ℤ))) (items : List (Vec Item Global))
-    (holders : Holders) : Type 0 where
+    (places : List (ℤ × List ℕ)) : Type 0 where
   pub lists : lists_of items ≡ map items_in records
-  pub held : AreHolders holders (pairs_from 0 (map items_in records))
+  pub held : AreHolders places (pairs_from 0 (map items_in records))
   pub rules : AllByRecursion IsRecord records
 
 -- two records

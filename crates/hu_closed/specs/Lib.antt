@@ -1,4 +1,5 @@
 pub mod Keys
+pub mod Places
 pub mod Holders
 pub mod Found
 pub mod Candidates

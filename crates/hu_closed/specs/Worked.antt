@@ -1,7 +1,8 @@
--- Worked rows: keys of base A, by computation.
+-- Worked rows, by computation: keys of base A, and places.
 use Rattle.std.specs.Prelude.{◌≡◌, pos, negsuc, true, false, [], ◌∷◌, refl}
 use Rattle.hu_kind.specs.Worked.{base_a}
 use Rattle.hu_closed.specs.Keys.{key_support, is_closed_key, closes_below}
+use Rattle.hu_closed.specs.Places.{places_at, with_place}
 
 pub support_of_2_3 : key_support base_a (pos 2 ∷ pos 3 ∷ []) ≡ 3
 support_of_2_3 = refl
@@ -54,3 +55,18 @@ shut_2_3 = refl
 
 pub not_shut_2 : closes_below base_a (6 ∷ 7 ∷ 4 ∷ 2 ∷ 1 ∷ 5 ∷ 3 ∷ []) (pos 2 ∷ []) 3 ≡ false
 not_shut_2 = refl
+
+-- the record at place 2 holds 5, as that at place 0 does, and 7, which is new
+pub more_of_5 : with_place ((pos 2, 0 ∷ []) ∷ (pos 5, 0 ∷ []) ∷ []) (pos 5) 2
+    ≡ (pos 2, 0 ∷ []) ∷ (pos 5, 0 ∷ 2 ∷ []) ∷ []
+more_of_5 = refl
+
+pub first_of_7 : with_place ((pos 5, 0 ∷ 2 ∷ []) ∷ []) (pos 7) 2
+    ≡ (pos 5, 0 ∷ 2 ∷ []) ∷ (pos 7, 2 ∷ []) ∷ []
+first_of_7 = refl
+
+pub places_of_5 : places_at ((pos 5, 0 ∷ 2 ∷ []) ∷ (pos 7, 2 ∷ []) ∷ []) (pos 5) ≡ 0 ∷ 2 ∷ []
+places_of_5 = refl
+
+pub places_of_6 : places_at ((pos 5, 0 ∷ 2 ∷ []) ∷ (pos 7, 2 ∷ []) ∷ []) (pos 6) ≡ []
+places_of_6 = refl

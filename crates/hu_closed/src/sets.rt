@@ -16,8 +16,9 @@ ghost use Rattle.hu_closed.specs.ClosedOnly.{IsRankingOf};
 
 use crate::candidates::{Tried, any_closes, any_outside, any_outside_below};
 use crate::found::Found;
-use crate::holders::{Holders, all_holders, rarest};
+use crate::holders::{all_holders, rarest};
 use crate::keys::is_set_key;
+use crate::places::Places;
 use hu_base::Base;
 use hu_kind::{Cell, Item, Key, NoMemory, Record};
 use hu_totals::Ranked;
@@ -30,7 +31,7 @@ use std::snapshot::Snapshot;
 #[derive(Drop)]
 pub struct RecordSets {
     lists: Vec<Vec<Item>>,
-    holders: Holders,
+    holders: Places,
     seen: Snapshot<Base<Record>>,
 }
 

@@ -1,6 +1,6 @@
 -- An untouched pattern outside the first k stays outside: each that came before it still does.
-use Rattle.std.proofs.Common.{◌≡◌, ◌∙◌, ◌≢◌, ◌⊎◌, ℕ, zero, suc, ◌≤◌, ℤ, ◌<ℤ◌, ◌≤ℤ◌, int_le, Bool, true, false, Option, None, Some, List, [], ◌∷◌, ◌++◌, map}
-use Rattle.std.proofs.Common.{take, refl, sym, ap, subst, inl, inr, arith, filter, Contains, Ordering, Less, Equal, Greater}
+use Rattle.std.proofs.Common.{◌≡◌, ◌∙◌, ◌≢◌, ◌⊎◌, ℕ, ◌≤◌, ℤ, ◌<ℤ◌, ◌≤ℤ◌, int_le, Bool, true, false, Option, None, Some, List, [], ◌∷◌, ◌++◌, map}
+use Rattle.std.proofs.Common.{refl, sym, ap, subst, inl, inr, arith, filter, Contains, Ordering, Less, Equal, Greater}
 use Rattle.std.specs.List.{AllByRecursion, IsDistinct, count_by}
 use Rattle.std.specs.List.Sorted.{IsStrictlySortedBy}
 use Rattle.std.specs.Ordering.{int_cmp, int_eq, is_lt, nat_cmp}
@@ -31,9 +31,6 @@ use Rattle.hu_kept.proofs.Firsts.{before, count-first, first-count}
 use Rattle.hu_kept.proofs.Patterns.{IsPattern, IsPattern-from_member, Member-from_pattern, answer-patterns, pattern-before, pattern-grown, same_key}
 
 -- ---- keys
-
-same_list : List ℤ → List ℤ → Bool
-same_list = pointwise int_eq
 
 apart : (a b : List ℤ) → a ≢ b → pointwise int_eq a b ≡ false
 apart a b ne = by (pointwise int_eq a b) refl

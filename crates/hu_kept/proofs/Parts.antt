@@ -1,7 +1,5 @@
 -- The old entries that a batch doesn't touch and the touched patterns make the answer with the batch.
-use Rattle.std.proofs.Common.{◌≡◌, ◌∙◌, ◌⊎◌, ℕ, ℤ, int_le, Bool, true, false, not, Option, None, List, [], ◌∷◌, ◌++◌, refl, sym, ap, inl, inr, append-nil}
-use Rattle.std.proofs.Common.{filter}
-use Rattle.std.specs.List.{AllByRecursion}
+use Rattle.std.proofs.Common.{◌≡◌, ◌∙◌, ◌⊎◌, ℕ, ℤ, int_le, Bool, true, false, not, Option, None, List, [], ◌++◌, refl, sym, ap, inl, inr, append-nil}
 use Rattle.hu_kind.specs.declared.entry.Entry.{Entry}
 use Rattle.hu_kind.specs.Order.{cut, entry_cmp, ranking}
 use Rattle.hu_kind.specs.Answer.{answer, found}

@@ -1,7 +1,7 @@
 -- Patterns of a task, before and after a batch.
 use Rattle.std.proofs.Common.{◌≡◌, ◌∙◌, ℕ, ◌<◌, ℤ, pos, ◌≤ℤ◌, unsigned_abs, nat_lt, Bool, true, false, cond, List, []}
 use Rattle.std.proofs.Common.{◌∷◌, ◌++◌, map, refl, sym, ap, subst, arith, filter}
-use Rattle.std.proofs.lemmas.Bool.{le-ltb, ltb-false}
+use Rattle.std.proofs.lemmas.Bool.{ltb-false}
 use Rattle.std.proofs.lemmas.Int.{ints}
 use Rattle.hu_kind.specs.declared.entry.Entry.{Entry}
 use Rattle.hu_kind.specs.Database.{support, utility}
@@ -77,11 +77,6 @@ key-unheld batch items key is out =
     let low : key_support batch key ≡ support batch items = ap (key_support batch) (sym is) ∙ support-key batch items in
     let none : nat_lt 0 (support batch items) ≡ false = ap (λ n. nat_lt 0 n) (sym low) ∙ out in
     omega (arith, ltb-false 0 (support batch items) none)
-
-key-held : (batch : List (List (ℕ × ℤ))) (items : List ℕ) (key : List ℤ) → map pos items ≡ key → support batch items ≡ 0 → is_touched batch key ≡ false
-key-held batch items key is none =
-    let low : key_support batch key ≡ support batch items = ap (key_support batch) (sym is) ∙ support-key batch items in
-    le-ltb 0 (key_support batch key) (omega (arith, low))
 
 -- ---- with a batch
 

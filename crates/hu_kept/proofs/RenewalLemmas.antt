@@ -67,14 +67,6 @@ pub record Offers (r : Rule) (batch : List (List (ℕ × ℤ))) (old : List Entr
   pub kept : IsKept r content
   pub whole : made r content (untouched batch rest) ≡ made r [] (untouched batch old)
 
-pub Offers-first : (r : Rule) (batch : List (List (ℕ × ℤ))) (old : List Entry) (rule : Rule) (content rest : List Entry)
-    → rule ≡ r → content ≡ [] → rest ≡ old → Offers r batch old rule content rest
-Offers-first r batch old rule content rest by empty all = record {
-  by = by;
-  kept = subst (IsKept r) (sym empty) (cut-nil r.limit);
-  whole = (λ j. made r (empty j) (untouched batch (all j)));
-}
-
 pub Offers-next : (r : Rule) (batch : List (List (ℕ × ℤ))) (old : List Entry) (rule next : Rule)
     (content after : List Entry) (entry : Entry) (rest : List Entry) → Offers r batch old rule content (entry ∷ rest)
     → next ≡ rule → after ≡ cond (is_touched batch entry.key) content (made rule content (entry ∷ [])) → Offers r batch old next after rest
@@ -97,7 +89,3 @@ Offers-next r batch old rule next content after entry rest o same is = go (is_to
               ∙ ap (λ b. made r content (cond (not b) (entry ∷ untouched batch rest) (untouched batch rest))) (sym e)
               ∙ o.whole;
         }
-
-pub Offers-last : (r : Rule) (batch : List (List (ℕ × ℤ))) (old : List Entry) (rule : Rule) (content rest : List Entry)
-    → Offers r batch old rule content rest → rest ≡ [] → content ≡ made r [] (untouched batch old)
-Offers-last r batch old rule content rest o none = sym o.kept ∙ ap (λ es. made r content (untouched batch es)) (sym none) ∙ o.whole

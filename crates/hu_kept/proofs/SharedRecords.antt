@@ -1,6 +1,6 @@
 -- What records share with a batch are records, with no greater sums, and what the totals of a batch say of its items.
 use Rattle.std.proofs.Common.{◌≡◌, ◌∙◌, ℕ, zero, suc, ◌+◌, ◌<◌, ◌≤◌, ℤ, unsigned_abs, Bool, true, false, cond, eqb, nat_eq, List, [], ◌∷◌, ◌++◌, ◌||◌, Some}
-use Rattle.std.proofs.Common.{map, take, drop, length, get_or, refl, sym, ap, subst, inl, inr, arith, add-one, append-nil, filter, flat_map, sum_by, is_some}
+use Rattle.std.proofs.Common.{map, take, drop, length, get_or, refl, sym, ap, subst, arith, add-one, append-nil, filter, flat_map, sum_by, is_some}
 use Rattle.std.specs.List.{All, AllByRecursion, list_any}
 use Rattle.std.specs.Map.{lookup}
 use Rattle.std.proofs.lemmas.Bool.{eq-eqb, eqb-true}
@@ -10,7 +10,7 @@ use Rattle.std.proofs.lemmas.List.Elements.{recursion_from_All}
 use Rattle.std.proofs.lemmas.List.Sums.{sum_by-append, sum_by-cons}
 use Rattle.hu_kind.specs.Order.{Ascend}
 use Rattle.hu_kind.specs.Record.{IsRecord, absolute_of, has, items_in}
-use Rattle.hu_kind.proofs.lemmas.Members.{Member, Member-flat_map, Member-from_filter, Member-from_flat_map, Member-from_map}
+use Rattle.hu_kind.proofs.lemmas.Members.{Member, Member-flat_map, Member-from_filter, Member-from_flat_map}
 use Rattle.hu_kind.proofs.lemmas.Occurring.{at_member, by_members, has-member, has-from_member}
 use Rattle.hu_kind.proofs.lemmas.Tests.{any-member, any-from_member}
 use Rattle.hu_totals.specs.declared.totals.ItemTotal.{ItemTotal}

@@ -1,5 +1,5 @@
 -- What a collector of touched patterns makes of entries, and which keys grow out of one that a batch doesn't touch.
-use Rattle.std.proofs.Common.{◌≡◌, ◌∙◌, ℕ, ℤ, pos, ◌<ℤ◌, int_le, Bool, true, false, cond, ◌&&◌, Option, None, Some}
+use Rattle.std.proofs.Common.{◌≡◌, ◌∙◌, ℕ, ℤ, pos, int_le, Bool, true, false, cond, ◌&&◌, Option, None, Some}
 use Rattle.std.proofs.Common.{List, [], ◌∷◌, ◌++◌, map, refl, sym, ap, subst, inl, inr, arith, filter}
 use Rattle.std.specs.Ordering.{int_eq}
 use Rattle.std.specs.List.{AllByRecursion, list_all}
@@ -11,43 +11,14 @@ use Rattle.hu_kind.specs.Order.{cut, entry_cmp, ranking}
 use Rattle.hu_kind.specs.Record.{IsRecord, items_in}
 use Rattle.hu_kind.specs.Itemsets.{closed_patterns, item_patterns}
 use Rattle.hu_kind.proofs.lemmas.Members.{Member, Member-append_cases, Member-append_left, Member-append_right, Member-from_map, Member-map}
-use Rattle.hu_collect.specs.Rule.{Rule, IsKept, floor_of, made, passes}
+use Rattle.hu_collect.specs.Rule.{Rule, made, passes}
 use Rattle.hu_collect.specs.Ranks.{IsShut, IsGrown, is_part, key_of}
-use Rattle.hu_collect.proofs.lemmas.Made.{leaves_below_floor}
 use Rattle.hu_closed.specs.Keys.{holds_key, is_among, is_closed_key, key_support}
 use Rattle.hu_closed.specs.ClosedOnly.{closed_rule}
 use Rattle.hu_collect.proofs.lemmas.Searching.{state_of}
 use Rattle.hu_closed.proofs.lemmas.ClosedLemmas.{makes-closed}
 use Rattle.hu_closed.proofs.lemmas.RankLemmas.{items_at, items_at-member, member-items_at}
 use Rattle.hu_kept.specs.Touched.{is_touched, touched, touched_rule}
-
--- ---- entries that change nothing
-
-pub touched-below : (inner : Rule) (batch : List (List (ℕ × ℤ))) (content : List Entry) (entry : Entry)
-    → IsKept inner content → entry.utility <ℤ floor_of inner content
-    → made (touched_rule inner batch) content (entry ∷ []) ≡ content
-touched-below inner batch content entry kept low = leaves_below_floor (touched_rule inner batch) content entry kept low
-
-pub touched-outside : (inner : Rule) (batch : List (List (ℕ × ℤ))) (content : List Entry) (entry : Entry)
-    → IsKept inner content → is_touched batch entry.key ≡ false
-    → made (touched_rule inner batch) content (entry ∷ []) ≡ content
-touched-outside inner batch content entry kept out =
-    let fails : passes (touched_rule inner batch) entry ≡ false =
-    and_left (inner.wants entry.key && is_touched batch entry.key) (int_le inner.start entry.utility)
-    (and_right (inner.wants entry.key) (is_touched batch entry.key) out) in
-    ap (λ b. cut inner.limit (ranking entry_cmp (content ++ cond b (entry ∷ []) []))) fails ∙ kept
-
--- an entry that a batch touches is one to the inner rule
-pub touched-inside : (inner : Rule) (batch : List (List (ℕ × ℤ))) (content : List Entry) (entry : Entry) → is_touched batch entry.key ≡ true
-    → made inner content (entry ∷ []) ≡ made (touched_rule inner batch) content (entry ∷ [])
-touched-inside inner batch content entry h =
-    let same : passes inner entry ≡ passes (touched_rule inner batch) entry =
-    by (inner.wants entry.key) (is_touched batch entry.key) (int_le inner.start entry.utility) h in
-    ap (λ b. cut inner.limit (ranking entry_cmp (content ++ cond b (entry ∷ []) []))) same
-  where
-    by : (w t l : Bool) → t ≡ true → (w && l) ≡ ((w && t) && l)
-    by true t l h = ap (λ b. b && l) (sym h)
-    by false t l h = refl
 
 -- ---- what is made
 

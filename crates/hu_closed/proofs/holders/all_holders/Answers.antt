@@ -14,6 +14,6 @@ loop-place-preserved c =
     let one = c.index-lists-place.result in
     let before = pairs_from 0 (lists_of (take i lists)) in
     let items = ap numbers_of (c.deref.ensures.value ∙ ap (λ (items : Vec Item Global). items.items) c.index-lists-place.is) in
-    subst (AreHolders c.add_record.new.holders)
+    subst (AreHolders c.add_record.new.places)
     (ap (λ items. before ++ map (λ item. (item, i)) items) items ∙ sym (pairs_from-more lists i one c.loop-place-test.true))
     (c.in_ok-add_record.ensures before c.loop-place.invariant)

@@ -8,17 +8,14 @@ pub loop-place-preserved : goal.loop-place-preserved
 loop-place-preserved c =
     let records = c.args.records.now in
     let i = c.loop-place.place in
-    let old = c.loop-place.lists in
-    let new = c.list_cells.new.lists in
+    let old = c.loop-place.places in
+    let new = c.list_cells.new.places in
     let cells = c.index-records-place.result in
     let listed = subst (λ cs. IsListed old cs i new) c.cells.ensures.value c.in_ok-list_cells.ensures in
-    record {
-      room = listed.room;
-      all = lists-next records i cells old new (omega (arith, c.loop-place-test.true)) c.index-records-place.is c.loop-place.invariant.all listed;
-    }
+    lists-next records i cells old new (omega (arith, c.loop-place-test.true)) c.index-records-place.is c.loop-place.invariant listed
 
-pub returns-clause-all : goal.returns-clause-all
-returns-clause-all c =
+pub returns : goal.returns
+returns c =
     let records = c.args.records.now in
     let all = take_all c.loop-place.place records (omega (arith, c.loop-place-test.false)) in
-    subst (λ rs. ListsAll rs c.loop-place.lists) all c.loop-place.invariant.all
+    subst (λ rs. ListsAll rs c.loop-place.places) all c.loop-place.invariant

@@ -1,7 +1,9 @@
-use Rattle.std.proofs.Common.{◌≡◌, ◌∙◌, ◌∷◌, [], ◌++◌, ◌<◌, inl, inr, get_or, length, take, subst, sym, arith, Contains}
+use Rattle.std.proofs.Common.{rules, pos, ap, ◌≡◌, ◌∙◌, ◌∷◌, [], ◌++◌, ◌<◌, inl, inr, get_or, length, take, subst, sym, arith, Contains, SFits}
+use Rattle.std.specs.Int.{w64}
+use Rattle.std.proofs.lemmas.Int.{to_z-of_z}
 use Rattle.std.proofs.lemmas.List.{take_all, take_more}
 use Rattle.hu_kind.proofs.lemmas.Members.{Member, Member-append_cases}
-use Rattle.hu_kept.specs.Holders.{listed_in}
+use Rattle.hu_closed.specs.Places.{places_at}
 use Rattle.hu_kept.specs.Shared.{batch_items}
 use Rattle.hu_kept.proofs.HolderLemmas.{more-kept, more-own}
 use Rattle.hu_kept.proofs.SharedRecords.{occurs-member}
@@ -11,17 +13,20 @@ pub loop-index-preserved : goal.loop-index-preserved
 loop-index-preserved c place item m held =
     let items = batch_items c.args.batch.now in
     let i = c.loop-index.index in
-    let lists = c.args.lists.now in
+    let list = places_at c.args.listed.now (pos c.item.result.0) in
     let old = c.loop-index.places.items in
-    let new = c.add_listed.new.places.items in
-    let is : new ≡ old ++ listed_in lists c.item.result.0 = c.in_ok-add_listed.ensures in
+    let new = c.extend_from_slice.new.self.items in
+    let fits : SFits w64 c.from.result = search rules in
+    let sent = to_z-of_z w64 c.from.result fits ∙ c.from.ensures in
+    let grown : new ≡ old ++ c.of.result.now = search rules in
+    let is : new ≡ old ++ list = grown ∙ ap (λ more. old ++ more) (c.of.ensures ∙ ap (places_at c.args.listed.now) sent) in
     let within : i < length items = omega (arith, c.loop-index-test.true, c.len-index-end.ensures) in
     let here : get_or items i 0 ≡ c.item.result.0 = sym c.item.ensures in
     elim (Member-append_cases item (take i items) (get_or items i 0 ∷ []) (subst (Member item) (take_more items i 0 within) m)) [
-      | inl before ↦ more-kept old new (listed_in lists c.item.result.0) is place (c.loop-index.invariant place item before held)
+      | inl before ↦ more-kept old new list is place (c.loop-index.invariant place item before held)
       | inr (inl e) ↦
-          more-own old new (listed_in lists c.item.result.0) is place
-          (subst (λ j. Contains (listed_in lists j) place) (sym e ∙ here) held)
+          more-own old new list is place
+          (subst (λ j. Contains (places_at c.args.listed.now (pos j)) place) (sym e ∙ here) held)
       | inr (inr none) ↦ absurd none
     ]
 

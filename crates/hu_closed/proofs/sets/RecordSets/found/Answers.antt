@@ -1,7 +1,7 @@
 use Rattle.std.proofs.Common.{subst, sym}
 use Rattle.hu_base.specs.Base.{records_of}
 use Rattle.hu_closed.specs.Found.{Finds}
-use Rattle.hu_closed.proofs.Places.{ArePlaced-sets, AreSets-seen, Finds-sets}
+use Rattle.hu_closed.proofs.HolderRecords.{ArePlaced-sets, AreSets-seen, Finds-sets}
 use Rattle.hu_closed.proofs.sets.RecordSets.found.Goals as goal
 
 pub at_places-requires : goal.at_places-requires

@@ -1,4 +1,4 @@
-use Rattle.std.proofs.Common.{◌≡◌, ◌⊎◌, None, subst, inl, inr, sym, ap, ◌∙◌}
+use Rattle.std.proofs.Common.{◌≡◌, subst, inl, inr, sym, ap, ◌∙◌}
 use Rattle.hu_kept.specs.Kept.{Keeping}
 use Rattle.hu_kept.specs.Laws.{NoneBelow}
 use Rattle.hu_kept.proofs.kept.Kept.touched.Goals as goal

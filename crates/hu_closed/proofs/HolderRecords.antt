@@ -17,9 +17,9 @@ use Rattle.hu_kind.specs.Record.{items_in, IsRecord}
 use Rattle.hu_kind.proofs.lemmas.Members.{Member, Member-append_cases, Member-from_filter, Member-from_map}
 use Rattle.hu_totals.proofs.lemmas.RecordCells.{Ascend-record}
 use Rattle.hu_totals.proofs.lemmas.RankingRules.{All-from_each}
-use Rattle.hu_closed.specs.declared.holders.Holders.{Holders}
 use Rattle.hu_closed.specs.Keys.{are_among, is_among}
-use Rattle.hu_closed.specs.Holders.{found_at, lists_of, pairs_from, pairs_with, places_of, AreLists, ArePlaced, AreSets}
+use Rattle.hu_closed.specs.Holders.{found_at, lists_of, pairs_from, pairs_with, AreLists, ArePlaced, AreSets}
+use Rattle.hu_closed.specs.Places.{places_at}
 use Rattle.hu_closed.specs.Found.{Finds}
 use Rattle.hu_closed.proofs.Numbers.{is_among-above}
 
@@ -70,15 +70,16 @@ ascend-each [] all = tt
 ascend-each (r ∷ records) all = (Ascend-record r all.0, ascend-each records all.1)
 
 -- the lists of record sets ascend
-pub AreLists-sets : (records : List (List (ℕ × ℤ))) (vs : List (Vec Item Global)) (holders : Holders) → AreSets records vs holders → AreLists (lists_of vs)
+pub AreLists-sets : (records : List (List (ℕ × ℤ))) (vs : List (Vec Item Global)) (holders : List (ℤ × List ℕ))
+    → AreSets records vs holders → AreLists (lists_of vs)
 AreLists-sets records vs holders are = subst AreLists (sym are.lists) (All-from_each Ascend (map items_in records) (ascend-each records are.rules))
 
 -- at the places of an item's holders stand the records that hold it
-pub found-sets : (records : List (List (ℕ × ℤ))) (vs : List (Vec Item Global)) (holders : Holders) (places : List ℕ)
-    (number : ℤ) → AreSets records vs holders → places ≡ places_of holders number
+pub found-sets : (records : List (List (ℕ × ℤ))) (vs : List (Vec Item Global)) (holders : List (ℤ × List ℕ)) (places : List ℕ)
+    (number : ℤ) → AreSets records vs holders → places ≡ places_at holders number
     → found_at (lists_of vs) places ≡ filter (λ items. is_among items number) (map items_in records)
 found-sets records vs holders places number are of =
-    ap (found_at (lists_of vs)) (of ∙ are.held.at number)
+    ap (found_at (lists_of vs)) (of ∙ are.held number)
     ∙ found-pairs (lists_of vs) (pairs_with number (pairs_from 0 (map items_in records)))
     ∙ ap (λ lists. map (λ pair. get_or lists pair.1 []) (pairs_with number (pairs_from 0 (map items_in records)))) are.lists
     ∙ lists-of_pairs number [] (map items_in records) 0 refl (ascend-each records are.rules)
@@ -96,14 +97,14 @@ within-members n [] each = tt
 within-members n (p ∷ places) each = (each p (inl refl), within-members n places (λ q m. each q (inr m)))
 
 -- what a call has at hand of record sets
-pub AreSets-seen : (seen records : List (List (ℕ × ℤ))) (inside vs : List (Vec Item Global)) (holders : Holders)
+pub AreSets-seen : (seen records : List (List (ℕ × ℤ))) (inside vs : List (Vec Item Global)) (holders : List (ℤ × List ℕ))
     → AreSets seen inside holders → seen ≡ records → vs ≡ inside → AreSets records vs holders
 AreSets-seen seen records inside vs holders are view v =
     subst (λ r. AreSets r vs holders) view (subst (λ v. AreSets seen v holders) (sym v) are)
 
 -- the holders of a number are placed, and at their places stand the records that hold it
-pub ArePlaced-sets : (records : List (List (ℕ × ℤ))) (vs : List (Vec Item Global)) (holders : Holders) (places : List ℕ)
-    (number : ℤ) → AreSets records vs holders → places ≡ places_of holders number
+pub ArePlaced-sets : (records : List (List (ℕ × ℤ))) (vs : List (Vec Item Global)) (holders : List (ℤ × List ℕ)) (places : List ℕ)
+    (number : ℤ) → AreSets records vs holders → places ≡ places_at holders number
     → ArePlaced (lists_of vs) places
 ArePlaced-sets records vs holders places number are of =
     let lists = lists_of vs in
@@ -111,7 +112,7 @@ ArePlaced-sets records vs holders places number are of =
       ascend = AreLists-sets records vs holders are;
       within = All-from_each (λ (p : ℕ). p < length lists) places (within-members (length lists) places (λ p m.
           let pairs = pairs_from 0 (map items_in records) in
-          let of_pair = Member-from_map (λ (pair : ℕ × ℕ). pair.1) p (pairs_with number pairs) (subst (Member p) (of ∙ are.held.at number) m) in
+          let of_pair = Member-from_map (λ (pair : ℕ × ℕ). pair.1) p (pairs_with number pairs) (subst (Member p) (of ∙ are.held number) m) in
           let from = Member-from_filter (λ (pair : ℕ × ℕ). int_eq number (pos pair.0)) of_pair.0 pairs of_pair.1 in
           let below = pairs-below 0 (map items_in records) of_pair.0 from.0 in
           let at : of_pair.0.1 ≡ p = of_pair.2 in
@@ -119,9 +120,9 @@ ArePlaced-sets records vs holders places number are of =
           omega (arith, many, below, at)));
     }
 
-pub Finds-sets : (records : List (List (ℕ × ℤ))) (vs : List (Vec Item Global)) (holders : Holders) (places : List ℕ)
+pub Finds-sets : (records : List (List (ℕ × ℤ))) (vs : List (Vec Item Global)) (holders : List (ℤ × List ℕ)) (places : List ℕ)
     (key : List ℤ) → AreSets records vs holders
-    → (number : ℤ) × Contains key number × (places ≡ places_of holders number)
+    → (number : ℤ) × Contains key number × (places ≡ places_at holders number)
     → Finds records key (found_at (lists_of vs) places)
 Finds-sets records vs holders places key are rare = record {
   number = rare.0;
