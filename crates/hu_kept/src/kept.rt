@@ -115,9 +115,7 @@ impl Kept {
         let touched = self.touched(&batch)?;
         self.holders.note(self.alloc, &self.records)?;
         let count = self.records.records().len();
-        if let Err(_fault) = self.records.join(batch) {
-            return Err(AppendFault::NoMemory);
-        }
+        self.records.join_fitting(batch)?;
         let entries = renewed(
             self.alloc,
             &self.records,

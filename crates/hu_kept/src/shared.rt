@@ -9,7 +9,7 @@ ghost use Rattle.hu_kept.specs.Holders.{AreHolders};
 ghost use Rattle.hu_kept.specs.Shared.{shared, shared_cells, some_of};
 
 use crate::batch::Batch;
-use hu_base::{AddFault, Base};
+use hu_base::Base;
 use hu_kind::{Cell, NoMemory, Record};
 use std::alloc::Global;
 
@@ -83,19 +83,7 @@ fn add_some(base: &mut Base<Record>, cells: Vec<Cell>) -> Result<(), NoMemory>
     ensures carried { OnOk result (carried_of base.new ≡ carried_of base.old) }
 {
     match Record::new(cells) {
-        Some(one) => add(base, one),
+        Some(one) => base.add_fitting(one),
         None => Ok(()),
-    }
-}
-
-/// Adds a record that fits.
-fn add(base: &mut Base<Record>, one: Record) -> Result<(), NoMemory>
-    requires { sum_of absolute_of base.old + absolute_of one < 2 ^ 127 }
-    ensures { OnOk result (base.new ≡ (carried_of base.old, records_of base.old ++ one ∷ [])) }
-{
-    match base.add(one) {
-        Ok(()) => Ok(()),
-        Err(AddFault::NoMemory) => Err(NoMemory),
-        Err(AddFault::SumTooLarge { .. }) => unreachable!(),
     }
 }

@@ -9,18 +9,18 @@ use Rattle.hu_kept.proofs.kept.Kept.append_by.Goals as goal
 pub returns-in-Ok-clause-changes : goal.returns-in-Ok-clause-changes
 returns-in-Ok-clause-changes g c =
     let old : entries_from c.self.inside.entries.entries ≡ answer_of c.args.self.now = c.self.invariant.answer ∙ ap answer_of c.self.view_is in
-    let joined : records_of c.join.new.self ≡ records_of c.self.inside.records ++ records_of c.args.batch = ap records_of c.in_default.ensures.ok in
+    let joined : records_of c.join_fitting.new.self ≡ records_of c.self.inside.records ++ records_of c.args.batch = ap records_of c.in_ok-join_fitting.ensures.ok in
     let new : entries_from c.in-Ok.entries.entries ≡ answer_of (with_batch c.args.self.now (records_of c.args.batch)) =
     c.in-Ok.ensures
     ∙ ap (λ rs. answer_of (keeping c.self.inside.aim rs)) joined
     ∙ ap (λ kept. answer_of (with_batch kept (records_of c.args.batch))) c.self.view_is in
     c.between-changes.ensures ∙ (λ j. changes (old j) (new j))
 
-pub invariant_of-self-in-Err-entries : goal.invariant_of-self-in-Err-entries
-invariant_of-self-in-Err-entries g c =
+pub invariant_of-self-in-Err : goal.invariant_of-self-in-Err
+invariant_of-self-in-Err g c =
     let old = c.self.inside.records in
     let kept = c.self.invariant in
-    let same = shortened old (records_of c.args.batch) _ c.join.new.self c.shorten.new.self c.in_default.ensures.ok
+    let same = shortened old (records_of c.args.batch) _ c.join_fitting.new.self c.shorten.new.self c.in_ok-join_fitting.ensures.ok
     (ap length c.records-count.ensures) c.shorten.ensures in
     let noted = c.note.new.self in
     let front : noted ++ [] ≡ records_of old = append-nil noted ∙ c.in_ok-note.ensures.ok in
