@@ -10,17 +10,23 @@ use Rattle.hu_base.specs.Base.{records_of}
 use Rattle.hu_kept.specs.Kept.{Keeping, with_batch}
 use Rattle.hu_shelf.specs.declared.fault.ShelfFault.{ShelfFault}
 use Rattle.hu_shelf.specs.declared.fault.ShelfFault.TheVariants.{Absent, Damaged, NoMemory, Present}
-use Rattle.hu_shelf.specs.Keeper.{KeeperState, Stays, Told}
+use Rattle.hu_shelf.specs.Keeper.{KeeperState, Told}
 use Rattle.hu_shelf.specs.Shelf.{IsCause, IsFaultOf, Refuses, create_fault, find_fault}
-use Rattle.hu_shelf.specs.Store.{after_byte, before_byte, is_lawful, records_in, settings_in, store_of, store_text, told_by}
+use Rattle.hu_shelf.specs.Store.{IsStore, after_byte, before_byte, is_lawful, records_in, settings_in, store_of, store_text, told_by}
 use Rattle.hu_shelf.proofs.ContentLemmas.{Told-map}
-use Rattle.hu_shelf.proofs.lemmas.StoreLemmas.{text_of-store, still_same}
+use Rattle.hu_shelf.proofs.lemmas.StoreLemmas.{store_of-text, text_of-store, still_same}
 
 -- a text that isn't the one of what it tells is no store's
 pub none_by_text : (text : List ℕ) (s : Keeping) → told_by text ≡ s → bytes_eq (store_text s) text ≡ false → store_of text ≡ None
 none_by_text text s told other =
     ap (λ t. then_some (is_lawful t text && bytes_eq (store_text t) text) t) told
     ∙ ap (λ b. then_some b s) (and_right (is_lawful s text) (bytes_eq (store_text s) text) other)
+
+-- a store's text is its own
+pub some_by_text : (text : List ℕ) (s : Keeping) (result : Result Keeping ShelfFault) → text ≡ store_text s → IfOk result (λ shelf. shelf ≡ s)
+    → IfOk result IsStore → IfOk result (λ shelf. store_of text ≡ Some shelf)
+some_by_text text s (Ok shelf) is same store = ap store_of (is ∙ ap store_text (sym same)) ∙ store_of-text shelf store
+some_by_text text s (Err fault) is same store = tt
 
 -- a text that is too long is no store's
 none_by_length : (text : List ℕ) → 268435456 < length text → store_of text ≡ None
@@ -82,29 +88,29 @@ read_text state name found v told some =
     subst (λ f. Told state name (λ text. MatchOption f (268435456 < length text) (λ bytes. bytes.items ≡ text))) some told
 
 -- what is so of the text that was read is so of the name's
-pub found_told : (state : KeeperState) (name items text : List ℕ) (result : Result Keeping ShelfFault) → Told state name (λ t. items ≡ t) → text ≡ items
+pub found_told : (state : KeeperState) (name text : List ℕ) (result : Result Keeping ShelfFault) → Told state name (λ t. text ≡ t)
     → IfOk result (λ s. store_of text ≡ Some s) → IfOk result (λ s. Told state name (λ t. store_of t ≡ Some s))
-found_told state name items text (Ok s) told is found =
-    Told-map state name (λ t. items ≡ t) (λ t. store_of t ≡ Some s) (λ t same. ap store_of (sym (is ∙ same)) ∙ found) told
-found_told state name items text (Err fault) told is found = tt
+found_told state name text (Ok s) told found =
+    Told-map state name (λ t. text ≡ t) (λ t. store_of t ≡ Some s) (λ t same. ap store_of (sym same) ∙ found) told
+found_told state name text (Err fault) told found = tt
 
-pub found_text : (state : KeeperState) (name items text : List ℕ) (result : Result Keeping ShelfFault) → Told state name (λ t. items ≡ t) → text ≡ items
+pub found_text : (state : KeeperState) (name text : List ℕ) (result : Result Keeping ShelfFault) → Told state name (λ t. text ≡ t)
     → IfOk result (λ s. store_of text ≡ Some s) → IfOk result (λ s. Told state name (λ t. t ≡ store_text s))
-found_text state name items text (Ok s) told is found =
-    Told-map state name (λ t. items ≡ t) (λ t. t ≡ store_text s) (λ t same. sym (is ∙ same) ∙ text_of-store text s found) told
-found_text state name items text (Err fault) told is found = tt
+found_text state name text (Ok s) told found =
+    Told-map state name (λ t. text ≡ t) (λ t. t ≡ store_text s) (λ t same. sym same ∙ text_of-store text s found) told
+found_text state name text (Err fault) told found = tt
 
-pub found_none : (state now : KeeperState) (name items text : List ℕ) (result : Result Keeping ShelfFault) → Told state name (λ t. items ≡ t) → text ≡ items
-    → 0 < length items → now ≡ state → IfErr result (λ fault. (fault ≡ NoMemory) ⊎ ((fault ≡ Damaged) × (store_of text ≡ None)))
+pub found_none : (state now : KeeperState) (name text : List ℕ) (result : Result Keeping ShelfFault) → Told state name (λ t. text ≡ t)
+    → 0 < length text → now ≡ state → IfErr result (λ fault. (fault ≡ NoMemory) ⊎ ((fault ≡ Damaged) × (store_of text ≡ None)))
     → IfErr result (Refuses state now name (IsFaultOf state name find_fault))
-found_none state now name items text (Ok s) told is some same cause = tt
-found_none state now name items text (Err fault) told is some same cause = record { cause = by cause; stays = still_same state now same }
+found_none state now name text (Ok s) told some same cause = tt
+found_none state now name text (Err fault) told some same cause = record { cause = by cause; stays = still_same state now same }
   where
     by : (fault ≡ NoMemory) ⊎ ((fault ≡ Damaged) × (store_of text ≡ None)) → IsCause state now name (IsFaultOf state name find_fault) fault
     by (inl memory) = subst (IsCause state now name (IsFaultOf state name find_fault)) (sym memory) tt
     by (inr bad) = subst (IsCause state now name (IsFaultOf state name find_fault)) (sym bad.0)
-        (found_damaged state name (Told-map state name (λ t. items ≡ t) (λ t. find_fault t ≡ Some Damaged)
-        (λ t same'. damaged t (omega (arith, some, ap length same')) (ap store_of (sym (is ∙ same')) ∙ bad.1)) told))
+        (found_damaged state name (Told-map state name (λ t. text ≡ t) (λ t. find_fault t ≡ Some Damaged)
+        (λ t same'. damaged t (omega (arith, some, ap length same')) (ap store_of (sym same') ∙ bad.1)) told))
 
 -- what a text tells, by its parts
 pub told_by-parts : (text after line rest : List ℕ) (settings : Keeping) (found : Option (ℕ × List (List (ℕ × ℤ))))
@@ -118,6 +124,3 @@ told_by-parts text after line rest settings found base records one two three tol
     ∙ ap (λ r. with_batch (settings_in line) (records_in r)) (sym three)
     ∙ ap (λ k. with_batch k (records_in rest)) told
     ∙ ap (with_batch settings) (sym (are ∙ ap (λ b. b.1) whole))
-
-pub written_other : (written text text' : List ℕ) → written ≡ text → bytes_eq written text' ≡ false → bytes_eq text text' ≡ false
-written_other written text text' is other = rw (← is) other

@@ -1,5 +1,5 @@
 -- A byte doesn't stand in what is written of a number.
-use Rattle.std.proofs.Common.{◌≡◌, ℕ, ◌<◌, ◌^◌, List, decimal, ◌==◌, false, arith}
+use Rattle.std.proofs.Common.{◌≡◌, ℕ, ◌<◌, ◌^◌, List, decimal, ◌==◌, false}
 use Rattle.std.specs.List.{All}
 use Rattle.std.proofs.lemmas.List.Elements.{All-from_recursion}
 use Rattle.hu_kind.proofs.lemmas.Written.{written-decimal}

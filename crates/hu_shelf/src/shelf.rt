@@ -2,6 +2,7 @@
 
 ghost use Rattle.std.specs.Prelude.{◌≡◌, ◌⊎◌, ◌+◌, unsigned_abs, OnErr, ◌<◌, ◌^◌, ◌≤◌, pos, ◌≤ℤ◌, Some, None, IfOk, IfErr, IfSome, OnOk, length, true};
 ghost use Rattle.std.specs.List.{All};
+ghost use Rattle.std.specs.Str.{bytes_eq};
 ghost use Rattle.hu_base.specs.Base.{carried_of, records_of};
 ghost use Rattle.hu_kept.specs.Changes.{changes};
 ghost use Rattle.hu_kept.specs.Kept.{answer_of, fresh, with_batch};
@@ -92,7 +93,7 @@ impl Shelf {
         if text.is_empty() {
             return Err(ShelfFault::Absent);
         }
-        Shelf::read(alloc, &text)
+        Shelf::read(alloc, text)
     }
 
     /// Adds the records of a batch, whose carried sum isn't counted, to the store under its name, and tells how the
@@ -143,14 +144,14 @@ impl Shelf {
         self.closed
     }
 
-    /// The store of a text.
-    fn read(alloc: Global, text: &[u8]) -> Result<Shelf, ShelfFault>
-        ensures ok { IfOk result (λ shelf. store_of text.now ≡ Some shelf) }
+    /// The store of a text, which it keeps.
+    fn read(alloc: Global, text: Vec<u8>) -> Result<Shelf, ShelfFault>
+        ensures ok { IfOk result (λ shelf. store_of text.items ≡ Some shelf) }
         ensures store { IfOk result IsStore }
         ensures err { IfErr result (λ fault. (fault ≡ ShelfFault.NoMemory)
-            ⊎ ((fault ≡ ShelfFault.Damaged) × (store_of text.now ≡ None))) }
+            ⊎ ((fault ≡ ShelfFault.Damaged) × (store_of text.items ≡ None))) }
     {
-        let (_, rest) = cut(text, b'\n');
+        let (_, rest) = cut(&text, b'\n');
         let (line, rest) = cut(rest, b'\n');
         let Some(settings) = Settings::read(line) else {
             return Err(ShelfFault::Damaged);
@@ -158,14 +159,13 @@ impl Shelf {
         let Some(base) = read_records(alloc, rest)? else {
             return Err(ShelfFault::Damaged);
         };
-        let written = write_text(alloc, settings, base.records())?;
-        if written.as_slice() != text {
+        if !is_text_of(alloc, &text, settings, base.records())? {
             return Err(ShelfFault::Damaged);
         }
         if text.len() > MOST_BYTES {
             return Err(ShelfFault::Damaged);
         }
-        Shelf::of(alloc, settings, base, written)
+        Shelf::of(alloc, settings, base, text)
     }
 
     /// The shelf of settings and records with their text.
@@ -232,6 +232,21 @@ impl Shelf {
         };
         Ok((shelf, changes))
     }
+}
+
+/// Whether a text is that of a store with these settings and records, which is written in order to be compared.
+fn is_text_of(
+    alloc: Global,
+    text: &[u8],
+    settings: Settings,
+    records: &[Record],
+) -> Result<bool, NoMemory>
+    ensures value { IfOk result
+        (λ same. same ≡ bytes_eq (store_text (store_with settings records.now)) text.now) }
+    ensures written { OnOk result (All IsWritten records.now) }
+{
+    let written = write_text(alloc, settings, records)?;
+    Ok(written.as_slice() == text)
 }
 
 /// The text of a store with these settings and records.
