@@ -6,7 +6,7 @@ ghost use Rattle.hu_closed.specs.ClosedOnly.{IsRankingOf};
 
 use crate::builders::key_of;
 use hu_base::Base;
-use hu_closed::{ClosedOnly, RecordSets};
+use hu_closed::{ClosedOnly, Places, RecordSets};
 use hu_collect::{All, Collect};
 use hu_kind::{Entry, Key, NoMemory, Record};
 use hu_sample::{BASE_A, base_of};
@@ -110,6 +110,7 @@ fn expect_told(
 ) -> Result<(), NoMemory> {
     let key = key_of(alloc, told.0)?;
     assert_eq!(rt; sets.support(&key), told.1);
+    assert_eq!(rt; sets.is_held(&key), told.1 > 0);
     assert_eq!(rt; sets.is_closed(&key), told.2);
     Ok(())
 }
@@ -199,5 +200,17 @@ fn a_key_with_none_below_opens(rt: HostRuntime) -> Result<(), Fail> {
     assert_eq!(rt; small.ranked.len(), 7);
     let key = key_of_rank(rt.alloc(), &small.ranked, 3)?;
     expect_opens(&rt, rt.alloc(), &small, &key, 3, (&[2], true));
+    Ok(())
+}
+
+#[test]
+fn the_places_of_numbers(rt: HostRuntime) -> Result<(), Fail> {
+    let mut places = Places::none(rt.alloc());
+    for (number, place) in [(5, 0), (7, 0), (5, 2)] {
+        places.add(rt.alloc(), number, place)?;
+    }
+    assert_eq!(rt; places.of(5), [0usize, 2].as_slice());
+    assert_eq!(rt; places.of(7), [0usize].as_slice());
+    assert!(rt; places.of(6).is_empty());
     Ok(())
 }
