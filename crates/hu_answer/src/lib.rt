@@ -13,8 +13,6 @@
 #![tactic(auto)]
 
 mod laws;
-#[cfg(test)]
-mod tests;
 
 pub use laws::{
     law_of_any_order, law_of_closed_itemsets, law_of_higher_minimums, law_of_itemsets,

@@ -3,7 +3,5 @@
 #![tactic(auto)]
 
 mod base;
-#[cfg(test)]
-mod tests;
 
 pub use base::{AddFault, Base};

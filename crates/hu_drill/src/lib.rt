@@ -9,8 +9,6 @@ mod draws;
 mod records;
 mod sequences;
 mod summary;
-#[cfg(test)]
-mod tests;
 
 pub use records::make;
 pub use sequences::make_sequences;

@@ -12,8 +12,6 @@ mod input;
 mod intake;
 mod part;
 mod reason;
-#[cfg(test)]
-mod tests;
 
 pub use content::read_content;
 pub use format::{Format, Sequences, Transactions};

@@ -19,8 +19,6 @@ mod sink;
 mod stream_sink;
 mod sure_files;
 mod sure_sink;
-#[cfg(test)]
-mod tests;
 
 pub use disk_files::DiskFiles;
 pub use failed::Failed;

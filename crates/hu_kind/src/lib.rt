@@ -16,8 +16,6 @@ mod reading;
 mod record;
 mod sequence;
 mod task;
-#[cfg(test)]
-mod tests;
 mod token;
 mod value;
 

@@ -11,8 +11,6 @@ mod laws;
 mod limits;
 mod lines;
 mod skipped;
-#[cfg(test)]
-mod tests;
 
 pub use laws::{
     fed_comes_first, fed_gives_lines, first_piece_comes_first, first_refusal_stands,

@@ -10,8 +10,6 @@ mod fault;
 mod itemset;
 mod order;
 mod read;
-#[cfg(test)]
-mod tests;
 mod token;
 mod write;
 

@@ -17,8 +17,6 @@ mod memory_keeper;
 mod records;
 mod settings;
 mod shelf;
-#[cfg(test)]
-mod tests;
 
 pub use disk_keeper::DiskKeeper;
 pub use fault::ShelfFault;

@@ -13,8 +13,6 @@
 #![tactic(auto)]
 
 mod laws;
-#[cfg(test)]
-mod tests;
 
 pub use laws::{
     law_of_answer_texts, law_of_readable_answers, law_of_record_texts, law_of_sequence_texts,

@@ -10,8 +10,6 @@ mod numbers;
 mod parts;
 mod read;
 mod sums;
-#[cfg(test)]
-mod tests;
 mod write;
 
 pub use fault::Fault;

@@ -3,7 +3,7 @@
 ghost use Rattle.std.specs.Prelude.{◌≡◌, false, None, IfOk, vec_len, OnOk};
 ghost use Rattle.hu_lines.specs.Lines.{HasLine};
 
-use crate::{Fed, LineFault, Lines, is_skipped};
+use hu_lines::{Fed, LineFault, Lines, is_skipped};
 use std::alloc::Global;
 use std::test::Fail;
 

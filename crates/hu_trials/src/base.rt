@@ -1,6 +1,6 @@
 //! The edge of a base's sum, and what a base holds after each call.
 
-use crate::{AddFault, Base};
+use hu_base::{AddFault, Base};
 use hu_kind::{Cell, Item, NoMemory, Record};
 use std::alloc::Global;
 use std::process::Abort;

@@ -1,6 +1,6 @@
 //! Texts that are numbers or none, keys, the order at a tie, and lists of cells that are records or none.
 
-use crate::{
+use hu_kind::{
     Absolute, Cell, Element, Entry, Item, Key, NoMemory, NumberFault, Record, SeqRecord,
     read_number, read_signed,
 };

@@ -2,7 +2,7 @@
 
 ghost use Rattle.hu_answer.specs.Laws.{HigherMinimumKeepsFront};
 
-use crate::{
+use hu_answer::{
     law_of_any_order, law_of_closed_itemsets, law_of_higher_minimums, law_of_itemsets,
     law_of_occurrences, law_of_order, law_of_sequences, law_of_sums, law_of_the_first,
 };

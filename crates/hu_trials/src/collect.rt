@@ -1,6 +1,6 @@
 //! Offers in turn.
 
-use crate::{All, Collect, Gate, Limited, NoGate, Top};
+use hu_collect::{All, Collect, Gate, Limited, NoGate, Top};
 use hu_kind::{Entry, Key, NoMemory};
 use std::alloc::Global;
 use std::process::Abort;

@@ -2,8 +2,8 @@
 
 ghost use Rattle.std.specs.Prelude.{◌≤◌, length};
 
-use crate::{Fault, read_record, write_record};
 use hu_kind::{Cell, Item};
+use hu_trans::{Fault, read_record, write_record};
 use std::alloc::{AllocError, Global};
 use std::test::Fail;
 

@@ -1,5 +1,5 @@
 use Rattle.std.proofs.Common.{◌≡◌, false, None, length}
-use Rattle.hu_lines.proofs.tests.feed_all.Given as goal
+use Rattle.hu_trials.proofs.lines.feed_all.Given as goal
 
 abbrev pub invariant-loop-rest : goal.invariant-loop-rest
 invariant-loop-rest l = (l.lines.ended ≡ false) × (l.lines.refused ≡ None)

@@ -1,7 +1,7 @@
 //! Sequence lines, what is read of them, and what is written.
 
-use crate::{read_sequence, write_sequence};
 use hu_kind::SeqRecord;
+use hu_seq::{read_sequence, write_sequence};
 use std::alloc::Global;
 use std::process::Abort;
 use std::test::Fail;

@@ -1,10 +1,12 @@
-use super::*;
+//! Answers written out, in pieces of one size.
+
 use hu_io::{Failed, MemorySink};
 use hu_kind::{Entry, Key, NoMemory, Task};
+use hu_report::write_entries;
 use std::alloc::Global;
 use std::test::Fail;
 
-// The key, the utility and the support of an entry.
+/// The key, the utility and the support of an entry.
 type Row<'a> = (&'a [i64], i128, u64);
 
 const ITEMS_AT_30: &str =
@@ -102,7 +104,7 @@ fn lines(rt: HostRuntime) -> Result<(), Fail> {
     Ok(())
 }
 
-// The second put of a text of 6,009 bytes fails.
+/// The second put of a text of 6,009 bytes fails.
 #[test]
 fn pieces(rt: HostRuntime) -> Result<(), Fail> {
     let entries = entries_of(rt.alloc(), &[(&[1; 3000], 1, 1)])?;

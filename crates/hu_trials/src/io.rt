@@ -1,21 +1,26 @@
+//! Small files and sinks in memory and on the system, and what a caller of generic code can show.
+
 ghost use Rattle.std.specs.Prelude.{◌≡◌, ◌+◌, ◌≤◌, [], length, IsSome};
 ghost use Rattle.hu_io.specs.Files.{content_in};
 ghost use Rattle.hu_io.specs.State.{Gets};
 
-use super::*;
+use hu_io::{
+    DiskFiles, Failed, Files, MemoryFiles, MemorySink, Sink, StreamSink, SureFiles, SureSink,
+    named_files_never_fail, put_all,
+};
 use std::io::{ErrorKind, Read, Write};
 use std::process::Abort;
 use std::test::Fail;
 use std::{env, fs, io, process};
 
-// Reads through the bound alone.
+/// Reads through the bound alone.
 fn read<F: Files>(files: &mut F, name: &str, at: u64, into: &mut [u8]) -> Result<usize, Failed>
     ensures { Gets (F.state files.old) (F.state files.new) name.now at into.new result }
 {
     files.get(name, at, into)
 }
 
-// What a caller of generic code can show: a read of a file that is there succeeds.
+/// What a caller of generic code can show: a read of a file that is there succeeds.
 fn read_named(files: &mut MemoryFiles, name: &str, into: &mut [u8]) -> usize
     requires unplanned { files.old.plan.failing ≡ [] }
     requires named { IsSome (content_in files.old.files name.now) }
@@ -24,12 +29,12 @@ fn read_named(files: &mut MemoryFiles, name: &str, into: &mut [u8]) -> usize
     read(files, name, 0, into).unwrap()
 }
 
-// The same for a file of any name.
+/// The same for a file of any name.
 fn read_sure(files: &mut SureFiles, name: &str, into: &mut [u8]) -> usize {
     read(files, name, 0, into).unwrap()
 }
 
-// What a caller of generic code can show: a text that fits goes out.
+/// What a caller of generic code can show: a text that fits goes out.
 fn put_fitting(sink: &mut MemorySink, text: &[u8])
     requires unplanned { sink.old.plan.failing ≡ [] }
     requires fits { length sink.old.bytes + length text.now ≤ sink.old.room }
@@ -37,12 +42,12 @@ fn put_fitting(sink: &mut MemorySink, text: &[u8])
     put_all(sink, text).unwrap()
 }
 
-// The same for any text.
+/// The same for any text.
 fn put_sure(sink: &mut SureSink, text: &[u8]) {
     put_all(sink, text).unwrap()
 }
 
-// A read into room for four bytes gives these bytes, or fails.
+/// A read into room for four bytes gives these bytes, or fails.
 fn expect_read<F: Files>(
     rt: &impl Abort,
     files: &mut F,
@@ -58,14 +63,14 @@ fn expect_read<F: Files>(
     assert_eq!(rt; given, wanted, "{name} at {at}");
 }
 
-// Of `abcd`, these bytes go out.
+/// Of `abcd`, these bytes go out.
 fn expect_put(rt: &impl Abort, mut sink: MemorySink, answer: Result<(), Failed>, bytes: &[u8]) {
     assert_eq!(rt; put_all(&mut sink, b"abcd"), answer);
     assert_eq!(rt; sink.bytes(), bytes);
     assert_eq!(rt; sink.faults(), u64::from(answer.is_err()));
 }
 
-// The writer takes so many bytes of a piece, or the call fails and is counted.
+/// The writer takes so many bytes of a piece, or the call fails and is counted.
 fn expect_write(rt: &impl Abort, to: Pipe, piece: &[u8], answer: Result<usize, Failed>) {
     let mut sink = StreamSink::new(to);
     assert_eq!(rt; sink.put(piece), answer);
@@ -151,7 +156,7 @@ fn disk_files(rt: HostRuntime) -> Result<(), Fail> {
     Ok(())
 }
 
-// A directory opens, and can't be read.
+/// A directory opens, and can't be read.
 #[test]
 fn directories(rt: HostRuntime) {
     let mut files = DiskFiles::new(rt.alloc(), rt, b"".as_slice());
@@ -160,7 +165,7 @@ fn directories(rt: HostRuntime) {
     assert_eq!(rt; files.faults(), 2);
 }
 
-// Gives a byte a call, and fails at the second call.
+/// Gives a byte a call, and fails at the second call.
 #[derive(Drop)]
 struct Flawed {
     calls: u64,
@@ -197,7 +202,7 @@ fn standard_input(rt: HostRuntime) {
     assert_eq!(rt; files.faults(), 1);
 }
 
-// Takes so many bytes of each piece, or fails, and may fail to flush.
+/// Takes so many bytes of each piece, or fails, and may fail to flush.
 #[derive(Drop)]
 struct Pipe {
     takes: Option<usize>,

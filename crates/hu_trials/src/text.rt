@@ -2,7 +2,7 @@
 
 ghost use Rattle.hu_text.specs.Laws.{OneTextOneKeys};
 
-use crate::{
+use hu_text::{
     law_of_answer_texts, law_of_readable_answers, law_of_record_texts, law_of_sequence_texts,
 };
 use std::rt::HostRuntime;

@@ -1,5 +1,5 @@
 use Rattle.std.proofs.Common.{◌≡◌, false}
-use Rattle.hu_lines.proofs.tests.limits_of_a_run.Given as goal
+use Rattle.hu_trials.proofs.lines.limits_of_a_run.Given as goal
 
 abbrev pub invariant-loop-number : goal.invariant-loop-number
 invariant-loop-number g l = l.lines.ended ≡ false

@@ -1,9 +1,9 @@
 //! A store that grows, stores that are refused, and a text on disk.
 
-use super::*;
 use hu_base::Base;
 use hu_kept::Changes;
 use hu_kind::Record;
+use hu_shelf::{DiskKeeper, KeepFault, Keeper, MemoryKeeper, Shelf, ShelfFault};
 use hu_trans::read_record;
 use std::alloc::Global;
 use std::test::Fail;

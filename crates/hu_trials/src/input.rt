@@ -1,13 +1,15 @@
+//! Files read into bases, what stops a reading, and how a refusal is told.
+
 ghost use Rattle.hu_io.specs.MemoryFiles.{files_state};
 
-use super::*;
+use hu_input::{InputStop, Part, Reason, Transactions, read_files, tell};
 use hu_io::{Failed, Files, MemoryFiles, MemorySink};
 use hu_trans::Fault;
 use std::alloc::{AllocError, Global};
 use std::test::Fail;
 
-// Files in memory that note how they are read: how many calls weren't asked for 65,536 bytes, how many calls there were, and
-// how many gave nothing.
+/// Files in memory that note how they are read: how many calls weren't asked for 65,536 bytes, how many calls there were, and
+/// how many gave nothing.
 #[derive(Drop)]
 struct Noting {
     files: MemoryFiles,
@@ -43,7 +45,7 @@ impl Files for Noting {
     }
 }
 
-// Two files, read three bytes at a time.
+/// Two files, read three bytes at a time.
 fn small_files(alloc: Global) -> Result<MemoryFiles, Fail> {
     let mut files = MemoryFiles::new(alloc);
     files.add("a", b"1 2:5:2 3\n%\n1:7:7")?;

@@ -2,7 +2,7 @@
 
 ghost use Rattle.std.specs.Prelude.{◌≡◌, IfOk};
 
-use crate::{Summary, make, make_sequences, write_summary};
+use hu_drill::{Summary, make, make_sequences, write_summary};
 use hu_io::MemorySink;
 use hu_kind::{Cell, Entry, Item, Key, NoMemory};
 use std::alloc::Global;
