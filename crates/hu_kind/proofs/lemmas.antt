@@ -5,6 +5,7 @@ pub mod CellsLemmas
 pub mod Each
 pub mod Earned
 pub mod EntryOrder
+pub mod Falling
 pub mod FirstLemmas
 pub mod Members
 pub mod Numerals

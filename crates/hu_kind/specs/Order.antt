@@ -1,6 +1,6 @@
 -- The one order of entries: greater utility first, then the smaller key, then the smaller support.
 -- Keys are compared place by place, a proper prefix first.
-use Rattle.std.specs.Prelude.{◌≡◌, ℕ, ◌<◌, Option, None, Some, List, [], ◌∷◌, take, ⊤}
+use Rattle.std.specs.Prelude.{◌≡◌, ℕ, ◌<◌, ℤ, ◌≤ℤ◌, Option, None, Some, List, [], ◌∷◌, take, ⊤}
 use Rattle.std.specs.List.{AllByRecursion}
 use Rattle.std.specs.declared.cmp.Ordering.{Ordering}
 use Rattle.std.specs.declared.cmp.Ordering.TheVariants.{Less}
@@ -38,6 +38,11 @@ ranking cmp (x ∷ xs) = insert_key cmp (ranking cmp xs) x
 abbrev pub cut : {A : Type 0} → Option ℕ → List A → List A
 cut None xs = xs
 cut (Some k) xs = take k xs
+
+-- a number of each element falls: a later one is no greater
+abbrev pub FallBy : {A : Type 0} → (A → ℤ) → List A → Type 0
+FallBy value [] = ⊤
+FallBy value (x ∷ xs) = AllByRecursion (λ later. value later ≤ℤ value x) xs × FallBy value xs
 
 -- numbers ascend strictly
 abbrev pub Ascend : List ℕ → Type 0

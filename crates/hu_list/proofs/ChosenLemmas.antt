@@ -6,24 +6,12 @@ use Rattle.std.specs.List.Sorted.{IsPermutation}
 use Rattle.std.proofs.lemmas.Int.{ints}
 use Rattle.std.proofs.lemmas.List.Sorted.{IsPermutation-map, IsPermutation-sym, Contains-permutation}
 use Rattle.std.proofs.lemmas.Map.Keys.{IsDistinct-IsPermutation}
-use Rattle.hu_kind.proofs.lemmas.Each.{each-take}
+use Rattle.hu_kind.proofs.lemmas.Falling.{fall-take}
 use Rattle.hu_kind.proofs.lemmas.Occurring.{at_member, by_members, eqb-flips}
-use Rattle.hu_kind.proofs.lemmas.Members.{Member, Member-from_contains, Contains-from_member}
+use Rattle.hu_kind.proofs.lemmas.Members.{Member, Member-from_contains, Contains-from_member, Member-take}
 use Rattle.hu_search.specs.declared.child.Child.{Child}
 use Rattle.hu_search.specs.Children.{Fall, ranks_of}
 use Rattle.hu_list.specs.Level.{AreChosen}
-
-fall-take : (children : List Child) (n : ℕ) → Fall children → Fall (take n children)
-fall-take children zero fall = tt
-fall-take [] (suc n) fall = tt
-fall-take (child ∷ children) (suc n) fall =
-    (each-take (λ later. later.bound ≤ℤ child.bound) n children fall.0, fall-take children n fall.1)
-
-member-take : (child : Child) (n : ℕ) (children : List Child) → Member child (take n children) → Member child children
-member-take child zero children m = absurd m
-member-take child (suc n) [] m = absurd m
-member-take child (suc n) (c ∷ cs) (inl e) = inl e
-member-take child (suc n) (c ∷ cs) (inr m) = inr (member-take child n cs m)
 
 -- a child is among the first, or its bound is no greater than that of the next
 parts : (floor : ℤ) (children : List Child) (n : ℕ) (child : Child) → Fall children
@@ -54,9 +42,9 @@ distinct-take (suc n) (x ∷ xs) once = (front n xs once.0, distinct-take n xs o
 pub chosen-is : (floor : ℤ) (children sorted : List Child) (n : ℕ) → IsPermutation children sorted → Fall sorted → IsDistinct nat_eq (ranks_of children)
     → ((d : Child) → n < length sorted → (get_or sorted n d).bound <ℤ floor) → AreChosen floor children (take n sorted)
 chosen-is floor children sorted n same fall once cut = record {
-  fall = fall-take sorted n fall;
+  fall = fall-take (λ (child : Child). child.bound) sorted n fall;
   from = by_members (Contains children) (take n sorted) (λ child m.
-      Contains-permutation sorted children child (IsPermutation-sym children sorted same) (Contains-from_member child sorted (member-take child n sorted m)));
+      Contains-permutation sorted children child (IsPermutation-sym children sorted same) (Contains-from_member child sorted (Member-take child n sorted m)));
   whole = λ child c. elim (parts floor sorted n child fall cut (Member-from_contains child sorted (Contains-permutation children sorted child same c))) [
     | inl here ↦ inl (Contains-from_member child (take n sorted) here)
     | inr low ↦ inr low

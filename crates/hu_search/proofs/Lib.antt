@@ -2,4 +2,3 @@ pub mod lemmas
 pub mod KeyLemmas
 pub mod OpenLemmas
 mod SlotLemmas
-mod ChildLemmas

@@ -3,7 +3,7 @@ use Rattle.std.specs.Prelude.{◌≡◌, ℕ, ◌<◌, true, ℤ, ◌≤ℤ◌, 
 use Rattle.std.specs.List.{Contains, AllByRecursion}
 use Rattle.hu_kind.specs.declared.entry.Entry.{Entry}
 use Rattle.hu_kind.specs.Database.{utility, support}
-use Rattle.hu_kind.specs.Order.{Ascend}
+use Rattle.hu_kind.specs.Order.{Ascend, FallBy}
 use Rattle.hu_totals.specs.Ranked.{Ranking}
 use Rattle.hu_collect.specs.Rule.{passes}
 use Rattle.hu_collect.specs.State.{State, floor_in}
@@ -67,8 +67,7 @@ pub record AreOpen (s : State) (r : Ranking) (set ranks : List ℕ) (chosen : Li
 
 -- bounds that fall
 abbrev pub Fall : List Child → Type 0
-Fall [] = Unit {0}
-Fall (child ∷ children) = AllByRecursion (λ later. later.bound ≤ℤ child.bound) children × Fall children
+Fall children = FallBy (λ child. child.bound) children
 
 -- all children were offered, and the first of those to be entered were entered
 abbrev pub IsUpto : Ranking → List ℕ → List ℕ → List Child → ℕ → Entry → Type 0

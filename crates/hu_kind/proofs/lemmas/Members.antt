@@ -1,6 +1,6 @@
 -- Members of lists, by recursion.
 use Rattle.std.proofs.Common.{◌≡◌, ℕ, zero, suc, ◌<◌, Bool, true, false, cond, List, [], ◌∷◌, ◌++◌, map, length, get_or, refl, sym, ap, ◌∙◌, subst, ◌⊎◌, inl}
-use Rattle.std.proofs.Common.{inr, arith, filter, flat_map, Contains, take}
+use Rattle.std.proofs.Common.{inr, arith, filter, flat_map, Contains, take, drop, ◌≤◌}
 use Rattle.std.specs.List.{AllByRecursion}
 use Rattle.hu_kind.specs.declared.entry.Entry.{Entry}
 
@@ -13,6 +13,24 @@ pub Contains-from_member : {A : Type 0} (x : A) (xs : List A) → Member x xs �
 Contains-from_member x [] m = absurd m
 Contains-from_member x (y ∷ ys) (inl e) = (0, omega arith, e)
 Contains-from_member x (y ∷ ys) (inr m) = let c = Contains-from_member x ys m in (suc c.0, omega (arith, c.1), c.2)
+
+pub Member-take : {A : Type 0} (x : A) (n : ℕ) (xs : List A) → Member x (take n xs) → Member x xs
+Member-take x zero xs m = absurd m
+Member-take x (suc n) [] m = absurd m
+Member-take x (suc n) (y ∷ ys) (inl e) = inl e
+Member-take x (suc n) (y ∷ ys) (inr m) = inr (Member-take x n ys m)
+
+pub Member-drop : {A : Type 0} (x : A) (n : ℕ) (xs : List A) → Member x (drop n xs) → Member x xs
+Member-drop x zero xs m = m
+Member-drop x (suc n) [] m = absurd m
+Member-drop x (suc n) (y ∷ ys) m = inr (Member-drop x n ys m)
+
+-- past the end there is none
+pub Member-past : {A : Type 0} (x : A) (n : ℕ) (xs : List A) → length xs ≤ n → Member x (drop n xs) → ⊥
+Member-past x zero [] past m = m
+Member-past x (suc n) [] past m = m
+Member-past x zero (y ∷ ys) past m = absurd (omega arith)
+Member-past x (suc n) (y ∷ ys) past m = Member-past x n ys (omega arith) m
 
 Member-at : {A : Type 0} (x : A) (xs : List A) (k : ℕ) → k < length xs → get_or xs k x ≡ x → Member x xs
 Member-at x [] k below e = absurd (omega arith)

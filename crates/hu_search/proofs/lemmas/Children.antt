@@ -8,7 +8,8 @@ use Rattle.hu_kind.specs.declared.entry.Entry.{Entry}
 use Rattle.hu_kind.specs.Database.{support}
 use Rattle.hu_kind.specs.Itemsets.{item_patterns}
 use Rattle.hu_kind.specs.Order.{Ascend}
-use Rattle.hu_kind.proofs.lemmas.Members.{Member, Member-from_contains, Contains-from_member}
+use Rattle.hu_kind.proofs.lemmas.Falling.{fall-later}
+use Rattle.hu_kind.proofs.lemmas.Members.{Member, Member-from_contains, Contains-from_member, Member-drop, Member-past}
 use Rattle.hu_kind.proofs.lemmas.Occurring.{at_member}
 use Rattle.hu_totals.specs.Ranked.{Ranking, IsRanking, unranked}
 use Rattle.hu_collect.specs.Rule.{passes}
@@ -63,25 +64,6 @@ Member-parts (c ∷ cs) zero rank (inr m) = elim (Member-parts cs zero rank m) [
 ]
 Member-parts (c ∷ cs) (suc i) rank (inl e) = inl (inl e)
 Member-parts (c ∷ cs) (suc i) rank (inr m) = elim (Member-parts cs i rank m) [ inl here ↦ inl (inr here) | inr later ↦ inr later ]
-
-Member-drop : {A : Type 0} (x : A) (i : ℕ) (xs : List A) → Member x (drop i xs) → Member x xs
-Member-drop x zero xs m = m
-Member-drop x (suc i) [] m = absurd m
-Member-drop x (suc i) (y ∷ ys) m = inr (Member-drop x i ys m)
-
--- bounds that fall: a later one is no greater
-fall-later : (children : List Child) (i : ℕ) (d child : Child) → Fall children → Member child (drop i children) → child.bound ≤ℤ (get_or children i d).bound
-fall-later [] zero d child fall m = absurd m
-fall-later [] (suc i) d child fall m = absurd m
-fall-later (c ∷ cs) zero d child fall (inl e) = subst (λ other. other.bound ≤ℤ c.bound) e (omega (arith, ints))
-fall-later (c ∷ cs) zero d child fall (inr m) = at_member (λ later. later.bound ≤ℤ c.bound) child cs fall.0 m
-fall-later (c ∷ cs) (suc i) d child fall m = fall-later cs i d child fall.1 m
-
-fall-past : (children : List Child) (i : ℕ) (child : Child) → length children ≤ i → Member child (drop i children) → ⊥
-fall-past [] zero child past m = m
-fall-past [] (suc i) child past m = m
-fall-past (c ∷ cs) zero child past m = absurd (omega arith)
-fall-past (c ∷ cs) (suc i) child past m = fall-past cs i child (omega arith) m
 
 -- what counts at a later state counted before
 pub counts-before : {s t : State} {e : Entry} → t.rule ≡ s.rule → floor_in s ≤ℤ floor_in t → Counts t e → Counts s e
@@ -224,11 +206,11 @@ module _ (r : Ranking) (set : List ℕ) where
 
         late : (e : Entry) (child : Child) → Counts new e → Member child (drop i chosen) → Grows r (set ++ child.rank ∷ []) e → ⊥
         late e child counts m grows = elim ends [
-          | inl past ↦ fall-past chosen i child past m
+          | inl past ↦ Member-past child i chosen past m
           | inr low ↦
               let bounded = at_member (λ c. IsBound mid r (set ++ c.rank ∷ []) c.bound) child chosen opened.bounds (Member-drop child i chosen m) in
               let under = bounded e grows (counts-mid e counts) in
-              let falls = fall-later chosen i d child fall m in
+              let falls = fall-later (λ (c : Child). c.bound) chosen i d child fall m in
               let high = counts.high in
               absurd (omega (arith, ints, under, falls, low, high))
         ]
