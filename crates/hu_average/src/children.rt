@@ -16,6 +16,14 @@ use hu_search::{Slots, key_of};
 use hu_totals::Ranked;
 use std::alloc::Global;
 
+/// What stays the same through a search.
+#[derive(Drop)]
+pub(crate) struct Walk<'a> {
+    pub alloc: Global,
+    /// The records, by the ranks of their items.
+    pub ranked: &'a Ranked,
+}
+
 /// A set with a later rank more: the rank and what the records say of the set.
 #[derive(Clone, Copy)]
 pub(crate) struct Child {
@@ -26,22 +34,22 @@ pub(crate) struct Child {
 /// The children of a set over its tails, out of those with these later ranks. Those are passed over that no record holds, or that
 /// nothing holds which gets in. It takes one pass over the cells.
 pub(crate) fn children(
-    alloc: Global,
-    ranked: &Ranked,
+    walk: &Walk<'_>,
     ranks: &[u32],
     tails: &[Tail<'_>],
     later: &[u32],
     slots: &mut Slots,
     best: &Best,
 ) -> Result<Vec<Child>, NoMemory>
-    requires rules { IsRanking ranked.now }
-    requires left { IsLeft ranked.now ranks.now (tails_of tails.now) }
-    requires later { AreLater ranked.now ranks.now later.now }
-    requires room { slots.old.room ≡ length ranked.now.items }
+    requires rules { IsRanking walk.now.ranked.now }
+    requires left { IsLeft walk.now.ranked.now ranks.now (tails_of tails.now) }
+    requires later { AreLater walk.now.ranked.now ranks.now later.now }
+    requires room { slots.old.room ≡ length walk.now.ranked.now.items }
     ensures room { slots.new.room ≡ slots.old.room }
     ensures picked { IfOk result
-        (λ children. ArePicked best.now ranked.now ranks.now later.now children.items) }
+        (λ children. ArePicked best.now walk.now.ranked.now ranks.now later.now children.items) }
 {
+    let Walk { alloc, ranked } = *walk;
     slots.fill(later)?;
     let totals = totals(alloc, tails, slots)?;
     let all = children_of(alloc, ranked, ranks, later, &totals)?;

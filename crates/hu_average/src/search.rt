@@ -10,21 +10,13 @@ ghost use Rattle.hu_average.specs.Tails.{IsLeft, tails_of};
 ghost use Rattle.hu_average.specs.Children.{IsChild, AreLater, AreEnough};
 
 use crate::best::Best;
-use crate::children::{Child, children, is_shut, offer_children, picked, ranks_of};
+use crate::children::{Child, Walk, children, is_shut, offer_children, picked, ranks_of};
 use crate::grow::grown;
 use crate::tail::{Tail, record_tails};
 use hu_kind::{Entry, NoMemory};
 use hu_search::Slots;
 use hu_totals::Ranked;
 use std::alloc::Global;
-
-/// What stays the same through a search.
-#[derive(Drop)]
-struct Walk<'a> {
-    alloc: Global,
-    /// The records, by the ranks of their items.
-    ranked: &'a Ranked,
-}
 
 /// The itemsets of the ranked records that earn at least `least` for each of their items, by average, and the first k of them
 /// where there is a `top`. It searches utility lists in a form that costs no join: from the records that hold a set it walks on to
@@ -92,8 +84,8 @@ fn search(
     ensures covers { OnOk result
         (Covers best.old (Grows walk.now.ranked.now ranks.old.items) best.new) }
 {
+    let children = children(walk, ranks, tails, later, slots, best)?;
     let Walk { alloc, ranked } = *walk;
-    let children = children(alloc, ranked, ranks, tails, later, slots, best)?;
     offer_children(alloc, ranked, ranks, &children, best)?;
     let entered = picked(alloc, ranked, ranks, &children, best)?;
     let left = ranks_of(alloc, &entered)?;

@@ -23,6 +23,18 @@ use hu_search::{Child, Slots, best_first, ranks_of};
 use hu_totals::Ranked;
 use std::alloc::Global;
 
+/// What stays the same through a search.
+#[derive(Drop)]
+pub(crate) struct Walk<'a, G> {
+    pub alloc: Global,
+    /// The records, by the ranks of their items.
+    pub ranked: &'a Ranked,
+    /// Sets of so many ranks aren't entered.
+    pub long: u32,
+    /// What says which ranks may stand beside one another.
+    pub gate: &'a G,
+}
+
 /// What a search keeps for ranks, at whatever depth.
 #[derive(Drop)]
 pub(crate) struct Board {
@@ -36,27 +48,26 @@ pub(crate) struct Board {
 /// gate refuses it beside the set's last rank, or where the tails that hold it can't give the floor. It passes over the cells
 /// twice, and once more backward for the ranks that stay.
 pub(crate) fn children<C: Collect, G: Gate>(
-    alloc: Global,
-    ranked: &Ranked,
+    walk: &Walk<'_, G>,
     ranks: &[u32],
     tails: &[Tail<'_>],
     board: &mut Board,
     collect: &C,
-    gate: &G,
 ) -> Result<Vec<Child>, NoMemory>
-    requires rules { IsRanking ranked.now }
-    requires table { InTable ranked.now ranks.now }
-    requires left { IsLeft ranked.now ranks.now (tails_of tails.now) }
-    requires enough { AreEnough (C.state collect.now) ranked.now ranks.now board.old.kept.ranks }
-    requires floor { G.floor gate.now ≤ℤ floor_in (C.state collect.now) }
-    requires right { G.IsRightFor gate.now ranked.now.records }
-    requires kept_room { board.old.kept.room ≡ length ranked.now.items }
-    requires found_room { board.old.found.room ≡ length ranked.now.items }
+    requires rules { IsRanking walk.now.ranked.now }
+    requires table { InTable walk.now.ranked.now ranks.now }
+    requires left { IsLeft walk.now.ranked.now ranks.now (tails_of tails.now) }
+    requires enough { AreEnough (C.state collect.now) walk.now.ranked.now ranks.now board.old.kept.ranks }
+    requires floor { G.floor walk.now.gate.now ≤ℤ floor_in (C.state collect.now) }
+    requires right { G.IsRightFor walk.now.gate.now walk.now.ranked.now.records }
+    requires kept_room { board.old.kept.room ≡ length walk.now.ranked.now.items }
+    requires found_room { board.old.found.room ≡ length walk.now.ranked.now.items }
     ensures kept_room { board.new.kept.room ≡ board.old.kept.room }
     ensures found_room { board.new.found.room ≡ board.old.found.room }
     ensures level { IfOk result
-        (λ children. IsLevel (C.state collect.now) ranked.now ranks.now children.items) }
+        (λ children. IsLevel (C.state collect.now) walk.now.ranked.now ranks.now children.items) }
 {
+    let Walk { alloc, gate, .. } = *walk;
     let floor = collect.floor();
     let gains = gains(alloc, tails, &board.kept, &mut board.found)?;
     keep_reaching(

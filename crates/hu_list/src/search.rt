@@ -15,25 +15,13 @@ ghost use Rattle.hu_list.specs.Level.{IsLeft};
 ghost use Rattle.hu_list.specs.Board.{HasRoom};
 ghost use Rattle.hu_list.specs.Lengths.{WantsUpto};
 
-use crate::level::{Board, children, chosen, grown_by};
+use crate::level::{Board, Walk, children, chosen, grown_by};
 use crate::tail::Tail;
 use hu_collect::{Collect, Gate};
 use hu_kind::NoMemory;
 use hu_search::{Child, Slots, offer_children, opens, ranks_of};
 use hu_totals::Ranked;
 use std::alloc::Global;
-
-/// What stays the same through a search.
-#[derive(Drop)]
-struct Walk<'a, G> {
-    alloc: Global,
-    /// The records, by the ranks of their items.
-    ranked: &'a Ranked,
-    /// Sets of so many ranks aren't entered.
-    long: u32,
-    /// What says which ranks may stand beside one another.
-    gate: &'a G,
-}
 
 /// Offers the itemsets of the ranked records that can change what the collector holds, with their utility and support, so
 /// that it holds what all itemsets would make. From the records that hold a set it walks on to find all sets with one later rank
@@ -145,15 +133,10 @@ fn search<C: Collect, G: Gate>(
     ensures searches { Searches (C.state collect.old) (Grows walk.now.ranked.now ranks.old.items)
         (C.state collect.new) result }
 {
-    let Walk {
-        alloc,
-        ranked,
-        long,
-        gate,
-    } = *walk;
-    let children = children(alloc, ranked, ranks, tails, board, collect, gate)?;
+    let children = children(walk, ranks, tails, board, collect)?;
+    let Walk { alloc, ranked, .. } = *walk;
     offer_children(alloc, ranked, ranks, &children, collect)?;
-    if are_longest(ranks, long) {
+    if are_longest(ranks, walk.long) {
         return Ok(());
     }
     let later = ranks_of(alloc, &children)?;

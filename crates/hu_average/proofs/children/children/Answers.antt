@@ -10,7 +10,7 @@ fill-requires-clause-once c = Ascend-distinct c.args.later.now c.requires.later.
 
 pub children_of-requires-clause-totals : goal.children_of-requires-clause-totals
 children_of-requires-clause-totals c =
-    let r = c.args.ranked.now in
+    let r = c.args.walk.now.ranked.now in
     let set = c.args.ranks.now in
     let later = c.args.later.now in
     let tails = tails_of c.args.tails.now in

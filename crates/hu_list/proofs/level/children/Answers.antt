@@ -21,12 +21,12 @@ keep_reaching-requires-clause-later g c z high =
     let found = c.gains.new.found.ranks in
     let gained : at (pos 0) found c.deref.result.now z ≡ met_in (gaining keep) z (tails_of c.args.tails.now) (pos 0) =
     ap (λ gs. at (pos 0) found gs z) c.deref.ensures.value ∙ c.in_ok-gains.ensures.gains z in
-    below-last set c.last_of.result z c.last_of.ensures (rank-later c.args.ranked.now set
+    below-last set c.last_of.result z c.last_of.ensures (rank-later c.args.walk.now.ranked.now set
     (tails_of c.args.tails.now) c.requires.left keep z (subst (λ v. pos 1 ≤ℤ v) gained high))
 
 pub returns-clause-level : goal.returns-clause-level
 returns-clause-level g c =
-    let r = c.args.ranked.now in
+    let r = c.args.walk.now.ranked.now in
     let set = c.args.ranks.now in
     let tails = tails_of c.args.tails.now in
     let s = g.C.Collect.state c.args.collect.now in
@@ -35,8 +35,8 @@ returns-clause-level g c =
     let kept = c.keep_reaching.new.kept.ranks in
     let gains = c.in_ok-gains.gains.items in
     let sums = c.in_ok-sums.sums.items in
-    let Right = g.G.Gate.IsRightFor c.args.gate.now in
-    let gate = g.G.Gate.floor c.args.gate.now in
+    let Right = g.G.Gate.IsRightFor c.args.walk.now.gate.now in
+    let gate = g.G.Gate.floor c.args.walk.now.gate.now in
     let floor : to_z w128 (of_z w128 c.floor-floor.result) ≡ floor_in s = to_z-of_z w128 c.floor-floor.result (search rules) ∙ c.floor-floor.ensures.value in
     let are : AreKept Right gate (floor_in s) c.last_of.result (at (pos 0) found gains) found kept =
     subst (λ f. AreKept Right gate f c.last_of.result (at (pos 0) found gains) found kept) floor
