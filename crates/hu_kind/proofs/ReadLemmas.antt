@@ -72,18 +72,6 @@ BeginsWith-minus (b ∷ bs) n count minus begins =
       said = rw add-one (rw here (ap (result_map_both (λ m. neg_ℤ (pos m)) (λ fault. fault)) (elsewhere 1 n (take count bs) begins'.said)));
     }
 
--- another byte in front
-pub BeginsWith-plain : (text : List ℕ) (n count : ℕ) → (slice_index text 0 == 45) ≡ false
-    → BeginsWith number text (pos n) count → BeginsWith signed_number text (pos n) count
-BeginsWith-plain [] n count other begins = absurd (omega (arith, begins.some, begins.within))
-BeginsWith-plain (b ∷ bs) n zero other begins = absurd (omega (arith, begins.some))
-BeginsWith-plain (b ∷ bs) n (suc count) other begins = record {
-  some = begins.some;
-  within = begins.within;
-  end = begins.end;
-  said = rw other begins.said;
-}
-
 -- the first token is read
 pub read-from : (read : List ℕ → Result ℤ NumberFault) (text begun rest : List ℕ) (start len : ℕ) (said : Result ℤ NumberFault)
     → position is_no_space text ≡ Some start → begun ≡ drop start text → len ≡ position_or_len is_space begun → rest

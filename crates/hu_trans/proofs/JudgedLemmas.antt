@@ -41,10 +41,6 @@ split_faults items sum values first h =
     first-append (item_faults items values) (duplicate_item items ∷ sum_faults sum (zip items values))
     ∙ ap (λ fault. option_or fault (first_some (duplicate_item items ∷ sum_faults sum (zip items values)))) h
 
-pub judged-items : (items : List ℕ) (sum : ℤ) (values : List ℤ) (fault : Fault) → first_some (item_faults items values)
-    ≡ Some fault → judged items sum values ≡ Err fault
-judged-items items sum values fault h = judged-first items sum values (Some fault) (split_faults items sum values (Some fault) h)
-
 after_items : (items : List ℕ) (sum : ℤ) (values : List ℤ) (double : Option ℕ) → first_some (item_faults items values) ≡ None → twice items ≡ double
     → first_some (number_faults items sum values) ≡ first_some
     (option_map (λ item. DuplicateItem (record { 0 = item })) double ∷ sum_faults sum (zip items values))

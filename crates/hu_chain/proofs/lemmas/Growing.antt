@@ -282,10 +282,3 @@ joins-after pattern item elements (place ∷ places) below plain is =
     let same = has-after elements (last_item pattern) item place first below.below here in
     ap (λ b. b || joins item elements places) (sym same)
     ∙ ap (λ b. has item (drop (suc place.cell) (element_at elements place.element)) || b) (joins-after pattern item elements places below plain is.1)
-
-pub occurs-into_after : (pattern : List (List ℕ)) (item : ℕ) (elements : List (List (ℕ × ℤ))) → EndsBelow pattern item → AllByRecursion IsPlain elements
-    → is_some (best_utility (into pattern item) elements)
-    ≡ list_any (λ place. has item (drop (suc place.cell) (element_at elements place.element)))
-    (chain_of pattern elements)
-occurs-into_after pattern item elements below plain =
-    occurs-into pattern item elements ∙ joins-after pattern item elements (chain_of pattern elements) below plain (chain_of-rules pattern elements below.ends)

@@ -131,14 +131,6 @@ made-below_floor rule content entries kept h =
     made-idle rule content entries kept
     (AllByRecursion-weaker _ _ (λ entry. leaves_below_floor rule content entry kept) entries (recursion_from_All _ entries h))
 
--- and so do entries whose keys are all not wanted
-pub made-unwanted : (rule : Rule) (content entries : List Entry) → IsKept rule content
-    → All (λ entry. rule.wants entry.key ≡ false) entries → made rule content entries ≡ content
-made-unwanted rule content entries kept h =
-    made-idle rule content entries kept
-    (AllByRecursion-weaker _ _ (λ entry. λ (e : rule.wants entry.key ≡ false). made-not_passing rule content entry kept
-    (rw e refl)) entries (recursion_from_All _ entries h))
-
 -- what reaches a floor, and what doesn't
 abbrev reaches : ℤ → Entry → Bool
 reaches floor entry = int_le floor entry.utility

@@ -20,9 +20,6 @@ state-equal rules contents = λ j. record { rule = rules j; content = contents j
 pub kept-in_order : (s : State) → IsInOrder s → IsKept s.rule s.content
 kept-in_order s h = ap (λ t. t.content) h
 
-pub in_order-kept : (s : State) → IsKept s.rule s.content → IsInOrder s
-in_order-kept s h = ap (state_of s.rule) h
-
 -- ---- offers
 
 -- offers of one list and then of another are offers of both
@@ -95,10 +92,6 @@ reached-none s ordered none = record {
   enough = λ e p pass high. absurd (none e p pass high);
   is = sym ordered;
 }
-
--- nothing was offered: what has the property earns less than the floor
-pub reached-low : {P : Entry → Type 0} (s : State) → IsInOrder s → ((e : Entry) → P e → e.utility <ℤ floor_in s) → Reached s P s
-reached-low s ordered low = reached-none s ordered (λ e p pass high. let below = low e p in absurd (omega (arith, ints, below, high)))
 
 -- an entry was offered
 pub reached-one : (old : State) (entry : Entry) (new : State) → new ≡ offered old (entry ∷ []) → Reached old (λ e. entry ≡ e) new

@@ -22,14 +22,6 @@ module _ (short long : ℕ) where
   pub leaves-below : (inner : State) (entry : Entry) → IsInOrder inner → entry.utility <ℤ floor_in inner → Leaves (sized_state short long inner) entry
   leaves-below inner entry ordered low = offered-low (sized_state short long inner) entry (ap (sized_state short long) ordered) low
 
-  pub leaves-other : (inner : State) (entry : Entry) → IsInOrder inner → has_length short long entry.key ≡ false
-      → Leaves (sized_state short long inner) entry
-  leaves-other inner entry ordered out =
-      let fails : passes (sized_rule short long inner.rule) entry ≡ false =
-      and_left (inner.rule.wants entry.key && has_length short long entry.key) (int_le inner.rule.start entry.utility)
-      (and_right (inner.rule.wants entry.key) (has_length short long entry.key) out) in
-      state-equal refl (made-not_passing (sized_rule short long inner.rule) inner.content entry (kept-in_order inner ordered) fails)
-
   -- ---- patterns
 
   passes-in : (w h l : Bool) → h ≡ true → ((w && h) && l) ≡ (w && l)

@@ -155,12 +155,6 @@ last_of_piece (b ∷ c ∷ cs) one =
     [ true ↦ (λ no. cc) | false ↦ (λ tail. let rest : first_piece (c ∷ cs) ≡ c ∷ cs = cc in last_of_piece (c ∷ cs) rest) ]
     one)
 
--- the body of bytes is at most one byte shorter
-pub length-body-le : (bytes : List ℕ) → length bytes ≤ length (body_of bytes) + 1
-length-body-le bytes =
-    elim (eqb (get_or bytes (length bytes - 1) 0) 10) as (λ t. length bytes ≤ length (cond t (take (length bytes - 1) bytes) bytes) + 1)
-    [ true ↦ omega (arith, length-take (length bytes - 1) bytes) | false ↦ omega arith ]
-
 -- bytes without one at their end are no more than they were
 pub length-without_last-le : (b : ℕ) (bytes : List ℕ) → length (without_last b bytes) ≤ length bytes
 length-without_last-le b bytes =
@@ -180,13 +174,6 @@ length-body (b ∷ bs) one =
 -- a line feed counts for one byte at most
 pub line_feed-most : (bytes : List ℕ) → cond (has_line_feed bytes) 1 0 ≤ 1
 line_feed-most bytes = elim (has_line_feed bytes) as (λ t. cond t 1 0 ≤ 1) [ true ↦ omega arith | false ↦ omega arith ]
-
--- bytes without a line feed are their own body
-length-body_open : (bytes : List ℕ) → has_line_feed bytes ≡ false → length (body_of bytes) ≡ length bytes
-length-body_open bytes open_ =
-    let P = λ (t : Bool). length (body_of bytes) + cond t 1 0 ≡ length bytes in
-    let split : P false = subst P open_ (length-body bytes (first_piece_open bytes open_)) in
-    omega arith
 
 -- what is refused stays refused, however the line goes on
 pub refusal_more : RefusalStands

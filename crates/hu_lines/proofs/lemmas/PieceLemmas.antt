@@ -89,16 +89,9 @@ rest_one_piece rest open_ some =
     let split : P rest = subst P (first_piece_open rest open_) (first_piece_first rest some) in
     split ∙ ap (λ r. rest ∷ pieces r) (drop-length rest)
 
--- one byte is a first piece
-first_piece_single : (b : ℕ) → first_piece (b ∷ []) ≡ b ∷ []
-first_piece_single b = let none : List ℕ = [] in elim (eqb b 10) as (λ t. (b ∷ cond t none none) ≡ b ∷ none) [ true ↦ refl | false ↦ refl ]
-
 -- after bytes without a line feed only what follows tells
 pub has_line_feed-append : (held bytes : List ℕ) → has_line_feed held ≡ false → has_line_feed (held ++ bytes) ≡ has_line_feed bytes
 has_line_feed-append held bytes open_ = list_any-append (λ b. eqb b 10) held bytes ∙ ap (λ t. t || has_line_feed bytes) open_
-
-has_line_feed-after : (held : List ℕ) (b : ℕ) → has_line_feed held ≡ false → has_line_feed (held ++ b ∷ []) ≡ eqb b 10
-has_line_feed-after held b open_ = has_line_feed-append held (b ∷ []) open_ ∙ elim (eqb b 10) as (λ t. (t || false) ≡ t) [ true ↦ refl | false ↦ refl ]
 
 -- a first piece that has a byte is one piece
 pub one_piece_of : (bytes : List ℕ) → first_piece bytes ≡ bytes → 0 < length bytes → pieces bytes ≡ bytes ∷ []

@@ -1,16 +1,13 @@
-use Rattle.std.proofs.Common.{rules, ◌≡◌, ◌∙◌, ℤ, Result, Ok, Err, OnErr, None, Some, ap, subst, sym}
+use Rattle.std.proofs.Common.{rules, ◌≡◌, ◌∙◌, ℤ, None, Some, ap, subst, sym}
 use Rattle.std.specs.Int.{w64}
 use Rattle.std.specs.Map.{lookup, set_value}
 use Rattle.std.specs.Ordering.{int_eq}
 use Rattle.std.proofs.lemmas.Int.{to_z-of_z}
 use Rattle.indexmap.specs.IndexMap.{insert_entry}
+use Rattle.hu_collect.proofs.lemmas.Searching.{on_err}
 use Rattle.hu_closed.specs.Places.{lists_in, with_place}
 use Rattle.hu_closed.proofs.lemmas.PlaceLists.{lists_in-kept, with_place-insert, with_place-set}
 use Rattle.hu_closed.proofs.places.Places.add.Goals as goal
-
-always : {T E : Type 0} (r : Result T E) (P : Type 0) → P → OnErr r P
-always (Ok x) P p = tt
-always (Err e) P p = p
 
 pub returns-in_err-push-clause-err : goal.returns-in_err-push-clause-err
 returns-in_err-push-clause-err c =
@@ -20,7 +17,7 @@ returns-in_err-push-clause-err c =
     let at = subst (λ (z : ℤ). Some c.in-Some.list.now ≡ lookup (int_eq z) entries) sent c.in-Some.ensures.value in
     let wrote = subst (λ (z : ℤ). (c.get_mut.follows.lender list).entries ≡ set_value (int_eq z) entries list) sent (c.get_mut.follows.holds list).0 in
     let kept = ap lists_in wrote ∙ lists_in-kept entries c.args.number c.in-Some.list.now list (sym at) c.in_err-push.ensures.items ∙ c.self.view_is in
-    always c.from_residual.result _ kept
+    on_err c.from_residual.result _ kept
 
 pub returns-in-Some-clause-ok : goal.returns-in-Some-clause-ok
 returns-in-Some-clause-ok c =
