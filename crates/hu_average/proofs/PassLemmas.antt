@@ -1,20 +1,25 @@
 -- Passes over the cells of tails, from the last one backward, and over tails.
 use Rattle.std.proofs.Common.{◌≡◌, ℕ, zero, suc, ◌+◌, ◌^◌, ◌<◌, ◌≤◌, Bool, true, false, cond, eqb, max, ℤ, unsigned_abs, ◌+ℤ◌, List, [], ◌∷◌, ◌++◌, length}
-use Rattle.std.proofs.Common.{get_or, take, drop, inl, inr, refl, sym, ap, ◌∙◌, subst, arith, sum_by, append_assoc, append-nil}
-use Rattle.std.specs.List.{AllByRecursion}
+use Rattle.std.proofs.Common.{get_or, map, nat_eq, ◌&&◌, take, drop, inl, inr, refl, sym, ap, ◌∙◌, subst, arith, sum_by, append_assoc, append-nil}
+use Rattle.std.specs.List.{AllByRecursion, IsDistinct}
+use Rattle.std.specs.declared.vec.Vec.{Vec}
+use Rattle.std.specs.declared.alloc.Global.{Global}
 use Rattle.std.proofs.lemmas.Bool.{ne_eqb, eq-eqb, cases_eq}
 use Rattle.std.proofs.lemmas.Int.{ints}
-use Rattle.std.proofs.lemmas.List.{drop_more, take_more, map-append, length-append}
+use Rattle.std.proofs.lemmas.List.{drop_more, take_more, map-append, length-append, length-map}
 use Rattle.std.proofs.lemmas.List.Sums.{sum_by-cons}
 use Rattle.hu_kind.specs.Order.{Ascend}
 use Rattle.hu_kind.specs.Record.{items_in, absolute_of}
 use Rattle.hu_totals.specs.declared.ranked.Dense.{Dense}
-use Rattle.hu_totals.specs.View.{cells_of}
+use Rattle.hu_totals.specs.Cells.{among}
+use Rattle.hu_totals.specs.View.{cells_of, lists_in}
 use Rattle.hu_totals.proofs.lemmas.DenseLemmas.{value-within, Ascend-rest}
+use Rattle.hu_search.specs.Slots.{at, IsPlace}
+use Rattle.hu_search.proofs.lemmas.Slots.{added-seen, among-at, at-place, distinct-before}
 use Rattle.hu_average.specs.declared.tail.Tail.{Tail}
 use Rattle.hu_average.specs.declared.totals.RankTotal.{RankTotal}
 use Rattle.hu_average.specs.Totals.{total_with, no_total, plus, Fits}
-use Rattle.hu_average.specs.Tails.{TailOf, total_in, left_from, left_in, grown, size_of, tail_of, tails_of}
+use Rattle.hu_average.specs.Tails.{TailOf, total_in, left_from, left_in, grown, size_of, tail_of, tails_of, tails_at}
 use Rattle.hu_average.proofs.TailLemmas.{plus-none, plus-assoc, total_in-append, sizes-grown}
 
 -- ---- the cells of a tail
@@ -178,3 +183,33 @@ total-fits z tails i d within fits few =
       support = omega (arith, held, count, few);
       bound = omega (arith, all, size, fits, total.1);
     }
+
+-- ---- lists that go along with ranks
+
+-- the list of a rank that may have a tail more
+pub tail-more : (ranks : List ℕ) (olds news : List (Vec Tail Global)) (rank : ℕ) (tail : Tail) → IsDistinct nat_eq ranks
+    → length olds ≡ length ranks → length news ≡ length ranks
+    → ((z : ℕ) → at [] ranks (lists_in news) z
+    ≡ cond (eqb z rank && among rank ranks) (at [] ranks (lists_in olds) z ++ tail ∷ []) (at [] ranks (lists_in olds) z))
+    → (i : ℕ) → i < length ranks
+    → tails_at news i ≡ tails_at olds i ++ cond (eqb (get_or ranks i 0) rank) (tail_of tail ∷ []) []
+tail-more ranks olds news rank tail apart old_len new_len added i within =
+    let z = get_or ranks i 0 in
+    let place : IsPlace ranks z i = record { within = within; here = refl; first = distinct-before ranks i 0 apart within } in
+    let seen : List (Vec Tail Global) → List (List TailOf) = map (λ (list : Vec Tail Global). tails_of list.items) in
+    let there : (lists : List (Vec Tail Global)) → length lists ≡ length ranks → at [] ranks (seen lists) z ≡ tails_at lists i =
+    λ lists len. at-place [] ranks (seen lists) z i place (omega (arith, within, len, length-map lists (λ (list : Vec Tail Global). tails_of list.items))) in
+    sym (there news new_len)
+    ∙ added-seen tail_of ranks olds news (eqb z rank && among rank ranks) tail z (added z)
+    ∙ ap (λ ts. cond (eqb z rank && among rank ranks) (ts ++ tail_of tail ∷ []) ts) (there olds old_len)
+    ∙ by (tails_at olds i)
+  where
+    by : (ts : List TailOf) → cond (eqb (get_or ranks i 0) rank && among rank ranks) (ts ++ tail_of tail ∷ []) ts
+        ≡ ts ++ cond (eqb (get_or ranks i 0) rank) (tail_of tail ∷ []) []
+    by ts = elim (cases_eq (get_or ranks i 0) rank) [
+      | inl e ↦
+          let here : eqb (get_or ranks i 0) rank ≡ true = eq-eqb (get_or ranks i 0) rank e in
+          let met : among rank ranks ≡ true = among-at ranks i rank within e in
+          rw (here, met) refl
+      | inr ne ↦ let other : eqb (get_or ranks i 0) rank ≡ false = ne_eqb (get_or ranks i 0) rank ne in rw other (sym (append-nil ts))
+    ]

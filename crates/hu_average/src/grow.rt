@@ -7,6 +7,7 @@ ghost use Rattle.hu_average.specs.Tails.{left_in, grown, tail_of, tails_of, size
 use crate::tail::Tail;
 use hu_kind::NoMemory;
 use hu_search::Slots;
+use hu_totals::empty_lists;
 use std::alloc::Global;
 
 /// The tails of the set with each of these ranks more, in one pass over the cells, if there are ranks.
@@ -28,18 +29,6 @@ pub(crate) fn grown<'a>(
     }
     for tail in tails {
         add_tails(slots, &mut lists, tail)?;
-    }
-    Ok(lists)
-}
-
-/// So many lists without tails.
-fn empty_lists<'a>(alloc: Global, count: usize) -> Result<Vec<Vec<Tail<'a>>>, NoMemory>
-    ensures len { IfOk result (λ lists. length lists.items ≡ count) }
-    ensures none { IfOk result (λ lists. (i : ℕ) → tails_at lists.items i ≡ []) }
-{
-    let mut lists = Vec::with_capacity(alloc, count)?;
-    for _list in 0..count {
-        lists.push(Vec::new(alloc))?;
     }
     Ok(lists)
 }
@@ -68,27 +57,7 @@ fn add_tails<'a>(
             most: tail.most,
             cells: &tail.cells[place + 1..],
         };
-        add_tail(slots, lists, cell.rank, left)?;
-    }
-    Ok(())
-}
-
-/// Adds a tail to the list of a rank, if it has one.
-fn add_tail<'a>(
-    slots: &Slots,
-    lists: &mut Vec<Vec<Tail<'a>>>,
-    rank: u32,
-    tail: Tail<'a>,
-) -> Result<(), NoMemory>
-    requires len { length lists.old.items ≡ length slots.now.ranks }
-    requires once { IsDistinct nat_eq slots.now.ranks }
-    ensures len { OnOk result (length lists.new.items ≡ length slots.now.ranks) }
-    ensures lists { OnOk result ((i : ℕ) → i < length slots.now.ranks → tails_at lists.new.items i
-        ≡ tails_at lists.old.items i
-        ++ (if slice_index_or slots.now.ranks i 0 == rank then tail_of tail.entry ∷ [] else [])) }
-{
-    if let Some(slot) = slots.find(rank) {
-        lists[slot].push(tail)?;
+        slots.add(lists, cell.rank, left)?;
     }
     Ok(())
 }

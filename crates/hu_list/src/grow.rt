@@ -10,6 +10,7 @@ ghost use Rattle.hu_totals.specs.Cells.{among};
 use crate::tail::Tail;
 use hu_kind::NoMemory;
 use hu_search::Slots;
+use hu_totals::empty_lists;
 use std::alloc::Global;
 
 /// The tails of the set with each of these ranks more, where cells are left, in one pass over the cells.
@@ -26,20 +27,6 @@ pub(crate) fn grown<'a>(
     let mut lists = empty_lists(alloc, slots.ranks().len())?;
     for tail in tails {
         add_tails(slots, &mut lists, tail)?;
-    }
-    Ok(lists)
-}
-
-/// So many lists without tails.
-fn empty_lists<'a>(alloc: Global, count: usize) -> Result<Vec<Vec<Tail<'a>>>, NoMemory>
-    ensures len { IfOk result (λ lists. length lists.items ≡ count) }
-    ensures none { IfOk result
-        (λ lists. (ranks : List ℕ) → (z : ℕ) → at [] ranks (lists_of lists.items) z
-        ≡ []) }
-{
-    let mut lists = Vec::with_capacity(alloc, count)?;
-    for _list in 0..count {
-        lists.push(Vec::new(alloc))?;
     }
     Ok(lists)
 }
@@ -63,31 +50,9 @@ fn add_tails<'a>(
             own: tail.own + cell.value,
             cells: &tail.cells[at + 1..],
         };
-        add_tail(slots, lists, cell.rank, left)?;
-    }
-    Ok(())
-}
-
-/// Adds a tail to the list of a rank, where it has a slot and cells are left.
-fn add_tail<'a>(
-    slots: &Slots,
-    lists: &mut Vec<Vec<Tail<'a>>>,
-    rank: u32,
-    tail: Tail<'a>,
-) -> Result<(), NoMemory>
-    requires len { length lists.old.items ≡ length slots.now.ranks }
-    ensures len { OnOk result (length lists.new.items ≡ length slots.now.ranks) }
-    ensures lists { OnOk result ((z : ℕ) → at [] slots.now.ranks (lists_of lists.new.items) z
-        ≡ (if z == rank then (if among rank slots.now.ranks
-        && nat_lt 0 (length tail.entry.cells.now) then at [] slots.now.ranks
-        (lists_of lists.old.items) z ++ tail_of tail.entry ∷ [] else at [] slots.now.ranks
-        (lists_of lists.old.items) z) else at [] slots.now.ranks (lists_of lists.old.items) z)) }
-{
-    if tail.cells.is_empty() {
-        return Ok(());
-    }
-    if let Some(slot) = slots.find(rank) {
-        lists[slot].push(tail)?;
+        if !left.cells.is_empty() {
+            slots.add(lists, cell.rank, left)?;
+        }
     }
     Ok(())
 }

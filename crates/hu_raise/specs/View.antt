@@ -4,13 +4,10 @@ use Rattle.std.specs.List.{All}
 use Rattle.std.specs.List.Sorted.{IsStrictlyIncreasing}
 use Rattle.std.specs.declared.vec.Vec.{Vec}
 use Rattle.std.specs.declared.alloc.Global.{Global}
+use Rattle.hu_totals.specs.View.{lists_in}
 use Rattle.hu_raise.specs.declared.rests.Rest.{Rest}
 use Rattle.hu_raise.specs.Partners.{PairTable}
 use Rattle.hu_raise.specs.Rests.{RestOf}
-
--- the numbers in each of some vectors
-abbrev pub lists_in : List (Vec ℕ Global) → List (List ℕ)
-lists_in vectors = map (λ numbers. numbers.items) vectors
 
 -- the parts of a table together
 abbrev pub table_of : ℤ → List (Vec ℕ Global) → PairTable

@@ -3,10 +3,9 @@
 ghost use Rattle.std.specs.Prelude.{◌≡◌, pos, ◌≤ℤ◌, map, IfOk};
 ghost use Rattle.std.specs.List.{flat_map};
 ghost use Rattle.hu_kind.specs.Record.{items_in};
-ghost use Rattle.hu_totals.specs.View.{pairs_in};
+ghost use Rattle.hu_totals.specs.View.{pairs_in, lists_in};
 ghost use Rattle.hu_raise.specs.Partners.{pair_table};
 ghost use Rattle.hu_raise.specs.OverRanks.{AreOverRanks};
-ghost use Rattle.hu_raise.specs.View.{lists_in};
 
 use crate::rests::{hand_on, ranks_of, take, waiting_of};
 use crate::sums::Sums;

@@ -12,7 +12,7 @@ ghost use Rattle.hu_raise.specs.View.{rest_of, rests_of, waiting_in};
 
 use crate::sums::Sums;
 use hu_kind::{NoMemory, gain_of};
-use hu_totals::Dense;
+use hu_totals::{Dense, empty_lists};
 use std::alloc::Global;
 
 /// The ranks of a record from one on, and what the whole record gains.
@@ -57,7 +57,7 @@ pub(crate) fn waiting_of<'a>(
     ensures { IfOk result (λ waiting. waiting_in waiting.items
         ≡ fold handed (replicate ranks []) (map rest_from (map pairs_in records.now))) }
 {
-    let mut waiting = empty_lists(alloc, ranks)?;
+    let mut waiting = empty_lists(alloc, ranks as usize)?;
     let mut left = all;
     for record in records {
         let (own, after) = left.split_at(record.len());
@@ -69,17 +69,6 @@ pub(crate) fn waiting_of<'a>(
         left = after;
     }
     Ok(waiting)
-}
-
-/// So many empty lists.
-fn empty_lists<'a>(alloc: Global, count: u32) -> Result<Vec<Vec<Rest<'a>>>, NoMemory>
-    ensures { IfOk result (λ lists. waiting_in lists.items ≡ replicate count []) }
-{
-    let mut lists = Vec::with_capacity(alloc, count as usize)?;
-    for _ in 0..count {
-        lists.push(Vec::new(alloc))?;
-    }
-    Ok(lists)
 }
 
 /// Puts a rest in the list of its first rank, where it has one.

@@ -10,7 +10,7 @@ use Rattle.std.proofs.lemmas.Grind.{flat_map-append}
 use Rattle.hu_kind.specs.Order.{Ascend}
 use Rattle.hu_kind.specs.Record.{has, value_of, items_in}
 use Rattle.hu_totals.specs.declared.ranked.Dense.{Dense}
-use Rattle.hu_totals.specs.View.{dense_pair, cells_of}
+use Rattle.hu_totals.specs.View.{dense_pair, cells_of, lists_in}
 use Rattle.hu_totals.specs.Cells.{after}
 use Rattle.hu_totals.proofs.lemmas.AfterLemmas.{IsPlace, IsPlace-at}
 use Rattle.hu_totals.proofs.lemmas.RecordCells.{has-below}
@@ -18,7 +18,7 @@ use Rattle.hu_rows.specs.declared.rows.Row.{Row}
 use Rattle.hu_rows.specs.declared.places.Place.{Place}
 use Rattle.hu_rows.specs.Rows.{RowOf, ranks_of}
 use Rattle.hu_rows.specs.Handed.{handed, handed_if, handed_row, row_if_some, row_after, row_at, no_row, no_cell, places_at, IsWithin, ArePlaces}
-use Rattle.hu_rows.specs.Places.{lists_in, places_from, places_in}
+use Rattle.hu_rows.specs.Places.{places_from, places_in}
 use Rattle.hu_rows.specs.View.{row_of, rows_of, row_with}
 use Rattle.hu_rows.proofs.AddedCells.{drop-cells_of}
 

@@ -1,12 +1,6 @@
 -- Lists of places, as they are filled.
-use Rattle.std.specs.Prelude.{ℕ, ◌+◌, ◌==◌, ◌&&◌, Bool, ℤ, List, [], ◌∷◌, ◌++◌, map, if◌then◌else◌}
-use Rattle.std.specs.declared.vec.Vec.{Vec}
-use Rattle.std.specs.declared.alloc.Global.{Global}
+use Rattle.std.specs.Prelude.{ℕ, ◌+◌, ◌==◌, ◌&&◌, Bool, ℤ, List, [], ◌∷◌, ◌++◌, if◌then◌else◌}
 use Rattle.hu_rows.specs.declared.places.Place.{Place}
-
--- lists by rank
-abbrev pub lists_in : List (Vec Place Global) → List (List Place)
-lists_in lists = map (λ list. list.items) lists
 
 -- the places of a rank among a row's cells from a place on, but for the last one, where the rank is open
 abbrev pub places_from : (ℕ → Bool) → ℕ → ℕ → List (ℕ × ℤ) → ℕ → List Place

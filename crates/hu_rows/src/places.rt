@@ -3,18 +3,18 @@
 ghost use Rattle.std.specs.Prelude.{◌≡◌, ◌==◌, ◌<◌, ◌++◌, ◌^◌, ◌&&◌, ℕ, [], ◌∷◌, map, length, if◌then◌else◌, IfOk, OnOk};
 ghost use Rattle.std.specs.List.{AllByRecursion};
 ghost use Rattle.hu_kind.specs.Record.{items_in};
-ghost use Rattle.hu_totals.specs.View.{cells_of};
+ghost use Rattle.hu_totals.specs.View.{cells_of, lists_in};
 ghost use Rattle.hu_rows.specs.Rows.{AreRows, size_of};
 ghost use Rattle.hu_rows.specs.Tally.{AreBelow};
 ghost use Rattle.hu_rows.specs.Handed.{reaches, handed_if, row_after, row_at, places_at, IsWithin, ArePlaces, AreEmpty};
-ghost use Rattle.hu_rows.specs.Places.{lists_in, places_in};
+ghost use Rattle.hu_rows.specs.Places.{places_in};
 ghost use Rattle.hu_rows.specs.View.{row_of, rows_of};
 
 use crate::rows::{Row, Rows};
 use crate::tally::Tallies;
 use bumpalo::Bump;
 use hu_kind::NoMemory;
-use hu_totals::Dense;
+use hu_totals::{Dense, empty_lists};
 use std::alloc::Global;
 use std::marker::Model;
 
@@ -36,7 +36,7 @@ pub struct Places {
 impl Model for Places {
     ghost use Rattle.std.specs.Prelude.{List};
     ghost use Rattle.hu_rows.specs.declared.places.Place.{Place};
-    ghost use Rattle.hu_rows.specs.Places.{lists_in};
+    ghost use Rattle.hu_totals.specs.View.{lists_in};
 
     ghost Value = { List (List Place) };
 
@@ -50,7 +50,7 @@ impl Places {
         ensures empty { IfOk result AreEmpty }
     {
         Ok(Places {
-            of_ranks: empty_lists(alloc, ranks)?,
+            of_ranks: empty_lists(alloc, ranks as usize)?,
         })
     }
 
@@ -124,18 +124,6 @@ fn row_after<'a, 'b: 'a>(row: &Row<'b>, cell: usize) -> Row<'a>
         count: row.count,
         cells: &row.cells[cell + 1..],
     }
-}
-
-/// A list without places for each rank.
-fn empty_lists(alloc: Global, ranks: u32) -> Result<Vec<Vec<Place>>, NoMemory>
-    ensures ranks { IfOk result (λ lists. length (lists_in lists.items) ≡ ranks) }
-    ensures empty { IfOk result (λ lists. AreEmpty (lists_in lists.items)) }
-{
-    let mut lists = Vec::with_capacity(alloc, ranks as usize)?;
-    for _rank in 0..ranks {
-        lists.push(Vec::new(alloc))?;
-    }
-    Ok(lists)
 }
 
 /// Hands each row to the ranks in it that a cell follows and whose bound reaches a floor.

@@ -1,9 +1,10 @@
 //! Ranks with a slot each.
 
-ghost use Rattle.std.specs.Prelude.{◌≡◌, ◌<◌, [], ◌∷◌, ◌++◌, false, nat_eq, length, IfOk, OnOk, MatchOption};
+ghost use Rattle.std.specs.Prelude.{◌≡◌, ◌<◌, ◌==◌, ◌&&◌, ℕ, [], ◌∷◌, ◌++◌, false, nat_eq, length, take, if◌then◌else◌, IfOk, OnOk, OnErr, MatchOption};
 ghost use Rattle.std.specs.List.{AllByRecursion, IsDistinct};
 ghost use Rattle.hu_totals.specs.Cells.{among};
-ghost use Rattle.hu_search.specs.Slots.{IsPlace};
+ghost use Rattle.hu_totals.specs.View.{lists_in};
+ghost use Rattle.hu_search.specs.Slots.{at, IsPlace};
 
 use hu_kind::NoMemory;
 use std::alloc::Global;
@@ -74,9 +75,27 @@ impl Slots {
         requires fresh { among rank self.old.ranks ≡ false }
         ensures room { self.new.room ≡ self.old.room }
         ensures ranks { OnOk result (self.new.ranks ≡ self.old.ranks ++ rank ∷ []) }
+        ensures kept { OnErr result (self.new.ranks ≡ self.old.ranks) }
     {
         self.ranks.push(rank)?;
         self.places[rank as usize] = self.ranks.len() - 1;
+        Ok(())
+    }
+
+    /// Adds a value at the end of the list that goes along with a rank, where it has a slot, in constant time but for the growth
+    /// of that list.
+    pub fn add<T: Drop>(&self, lists: &mut Vec<Vec<T>>, rank: u32, value: T) -> Result<(), NoMemory>
+        requires len { length lists.old.items ≡ length self.now.ranks }
+        ensures len { length lists.new.items ≡ length self.now.ranks }
+        ensures added { OnOk result ((z : ℕ) → at [] self.now.ranks (lists_in lists.new.items) z
+            ≡ (if z == rank && among rank self.now.ranks
+            then at [] self.now.ranks (lists_in lists.old.items) z ++ value ∷ []
+            else at [] self.now.ranks (lists_in lists.old.items) z)) }
+        ensures kept { OnErr result (lists_in lists.new.items ≡ lists_in lists.old.items) }
+    {
+        if let Some(slot) = self.find(rank) {
+            lists[slot].push(value)?;
+        }
         Ok(())
     }
 
@@ -88,12 +107,13 @@ impl Slots {
         self.ranks.clear();
     }
 
-    /// Has these ranks in place of all others, in a step for each of them. After want of memory it has some of them.
+    /// Has these ranks in place of all others, in a step for each of them. After want of memory it has the first of them.
     pub fn fill(&mut self, ranks: &[u32]) -> Result<(), NoMemory>
         requires within { AllByRecursion (λ rank. rank < self.old.room) ranks.now }
         requires once { IsDistinct nat_eq ranks.now }
         ensures room { self.new.room ≡ self.old.room }
         ensures ranks { OnOk result (self.new.ranks ≡ ranks.now) }
+        ensures first { self.new.ranks ≡ take (length self.new.ranks) ranks.now }
     {
         self.clear();
         for rank in ranks {

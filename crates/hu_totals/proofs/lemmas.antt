@@ -3,6 +3,7 @@ pub mod AddingLemmas
 pub mod AfterLemmas
 pub mod DenseLemmas
 pub mod KeptLemmas
+pub mod Lists
 pub mod RankingRules
 pub mod RecordCells
 pub mod RoomLemmas

@@ -18,6 +18,10 @@ cells_of cells = map dense_pair cells
 abbrev pub pairs_in : Vec Dense Global → List (ℕ × ℤ)
 pairs_in cells = map dense_pair cells.items
 
+-- what each of some vectors holds
+abbrev pub lists_in : {A : Type 0} → List (Vec A Global) → List (List A)
+lists_in vectors = map (λ vector. vector.items) vectors
+
 -- the parts of ranked records together
 abbrev pub ranking_of : ℤ → List Item → List (Vec Dense Global) → Ranking
 ranking_of floor items records =

@@ -1,12 +1,17 @@
 -- Ranks with a slot each, and lists that go along with them.
-use Rattle.std.proofs.Common.{◌≡◌, ℕ, zero, suc, ◌<◌, Bool, true, false, cond, eqb, ◌||◌, List, [], ◌∷◌, ◌++◌, length, get_or, set, take, replicate}
+use Rattle.std.proofs.Common.{◌≡◌, ℕ, zero, suc, ◌<◌, Bool, true, false, cond, eqb, ◌||◌, List, [], ◌∷◌, ◌++◌, map, length, get_or, set, take, replicate}
 use Rattle.std.proofs.Common.{inl, inr, refl, sym, ap, ◌∙◌, subst, arith, nat_eq}
 use Rattle.std.specs.List.{AllByRecursion, IsDistinct}
+use Rattle.std.specs.declared.vec.Vec.{Vec}
+use Rattle.std.specs.declared.alloc.Global.{Global}
 use Rattle.std.proofs.Math.Bool.{or-true}
 use Rattle.std.proofs.lemmas.Bool.{ne_eqb, eq-eqb, cases_eq}
+use Rattle.std.proofs.lemmas.List.{map-append}
 use Rattle.hu_kind.specs.Order.{Ascend}
 use Rattle.hu_kind.proofs.lemmas.Each.{each-get, each-weaker}
 use Rattle.hu_totals.specs.Cells.{among}
+use Rattle.hu_totals.specs.View.{lists_in}
+use Rattle.hu_totals.proofs.lemmas.Lists.{lists-seen}
 use Rattle.hu_search.specs.Slots.{IsPlace, at}
 
 -- ---- ranks among others
@@ -138,11 +143,30 @@ at-replicate none (r ∷ ranks) (suc n) z = ap (cond (eqb z r) none) (at-replica
     by true = refl
     by false = refl
 
-pub at-same : {A : Type 0} (none : A) (ranks : List ℕ) (values : List A) (z : ℕ) → AllByRecursion (λ v. v ≡ none) values → at none ranks values z ≡ none
-at-same none [] values z all = refl
-at-same none (r ∷ ranks) [] z all = refl
-at-same none (r ∷ ranks) (v ∷ values) z all = (λ j. cond (eqb z r) (all.0 j) (at-same none ranks values z all.1 j)) ∙ by (eqb z r)
+-- ---- lists that go along with ranks, seen through a map
+
+at-map : {A B : Type 0} (f : A → B) (none : A) (ranks : List ℕ) (values : List A) (z : ℕ) → at (f none) ranks (map f values) z ≡ f (at none ranks values z)
+at-map f none [] values z = refl
+at-map f none (r ∷ ranks) [] z = refl
+at-map f none (r ∷ ranks) (v ∷ values) z = ap (cond (eqb z r) (f v)) (at-map f none ranks values z) ∙ by (eqb z r)
   where
-    by : (b : Bool) → cond b none none ≡ none
+    by : (b : Bool) → cond b (f v) (f (at none ranks values z)) ≡ f (cond b v (at none ranks values z))
     by true = refl
     by false = refl
+
+pub lists-at : {A B : Type 0} (f : A → B) (ranks : List ℕ) (lists : List (Vec A Global)) (z : ℕ)
+    → at [] ranks (map (λ list. map f list.items) lists) z ≡ map f (at [] ranks (lists_in lists) z)
+lists-at f ranks lists z = ap (λ ls. at [] ranks ls z) (lists-seen f lists) ∙ at-map (map f) [] ranks (lists_in lists) z
+
+-- a list that may have a value more
+pub added-seen : {A B : Type 0} (f : A → B) (ranks : List ℕ) (olds news : List (Vec A Global)) (more : Bool) (value : A) (z : ℕ)
+    → at [] ranks (lists_in news) z ≡ cond more (at [] ranks (lists_in olds) z ++ value ∷ []) (at [] ranks (lists_in olds) z)
+    → at [] ranks (map (λ list. map f list.items) news) z
+    ≡ cond more (at [] ranks (map (λ list. map f list.items) olds) z ++ f value ∷ []) (at [] ranks (map (λ list. map f list.items) olds) z)
+added-seen f ranks olds news more value z is =
+    lists-at f ranks news z ∙ ap (map f) is ∙ by more (at [] ranks (lists_in olds) z)
+    ∙ ap (λ seen. cond more (seen ++ f value ∷ []) seen) (sym (lists-at f ranks olds z))
+  where
+    by : (b : Bool) (xs : List _) → map f (cond b (xs ++ value ∷ []) xs) ≡ cond b (map f xs ++ f value ∷ []) (map f xs)
+    by true xs = map-append f xs (value ∷ [])
+    by false xs = refl

@@ -6,7 +6,7 @@ use Rattle.hu_totals.specs.declared.ranked.Dense.{Dense}
 use Rattle.hu_totals.specs.View.{cells_of}
 use Rattle.hu_totals.proofs.lemmas.DenseLemmas.{value-within}
 use Rattle.hu_average.specs.Tails.{left_from, tails_at}
-use Rattle.hu_average.proofs.PassLemmas.{lists-back}
+use Rattle.hu_average.proofs.PassLemmas.{lists-back, tail-more}
 use Rattle.hu_average.proofs.grow.add_tails.Goals as goal
 
 no_cell : Dense
@@ -40,16 +40,17 @@ loop-place-preserved c =
     let most : to_z w128 (of_z w128 tail.most) ≡ tail.most = omega (arith, ints, fits) in
     record {
       within = omega (arith, upto);
-      len = c.in_ok-add_tail.ensures.len;
+      len = c.add.ensures.len;
       lists = λ i within.
           let z = get_or c.args.slots.now.ranks i 0 in
           let old = tails_at c.args.lists.now.items i in
           let now = tails_at c.loop-place.lists.items i in
-          let new = tails_at c.add_tail.new.lists.items i in
+          let new = tails_at c.add.new.lists.items i in
           let was : now ≡ old ++ left_from z tail.own tail.most (cells_of (drop (place - 1 + 1) cells)) =
           subst (λ k. now ≡ old ++ left_from z tail.own tail.most (cells_of (drop k cells))) one (c.loop-place.invariant.lists i within) in
           let added : new ≡ now ++ cond (eqb z cell.rank) ((record { own = tail.own +ℤ cell.value; most = tail.most; cells = cells_of rest }) ∷ []) [] =
-          c.in_ok-add_tail.ensures.lists i within
+          tail-more c.args.slots.now.ranks c.loop-place.lists.items c.add.new.lists.items cell.rank _ c.requires.once
+          c.loop-place.invariant.len c.add.ensures.len c.in_ok-add.ensures.added i within
           ∙ (λ j. now ++ cond (eqb z cell.rank) ((record { own = own j; most = most j; cells = cells_of (same j) }) ∷ []) []) in
           lists-back tail.own tail.most cells (place - 1) no_cell c.requires.rules.ascending inside z old now new was added;
     }

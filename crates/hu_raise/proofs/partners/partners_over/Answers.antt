@@ -6,11 +6,11 @@ use Rattle.std.proofs.lemmas.Int.{to_z-of_z}
 use Rattle.std.proofs.lemmas.List.{length-map, length-set, length-replicate, map-append}
 use Rattle.std.proofs.lemmas.List.FromFn.{map-range_with_len_more}
 use Rattle.hu_collect.specs.Pairs.{pair_twu}
-use Rattle.hu_totals.specs.View.{pairs_in}
+use Rattle.hu_totals.specs.View.{pairs_in, lists_in}
 use Rattle.hu_raise.specs.Partners.{partners}
 use Rattle.hu_raise.specs.Rests.{after_first, handed, later_gain, list_at, IsRest}
 use Rattle.hu_raise.specs.Sums.{sum_at}
-use Rattle.hu_raise.specs.View.{lists_in, rests_of, waiting_in}
+use Rattle.hu_raise.specs.View.{rests_of, waiting_in}
 use Rattle.hu_raise.proofs.PairLemmas.{reaching-partners}
 use Rattle.hu_raise.proofs.TurnLemmas.{AreWaiting, AreWaiting-first, AreWaiting-next, IsRest-turn, later_gain-turn, later_gain-fits}
 use Rattle.hu_raise.proofs.partners.partners_over.Goals as goal

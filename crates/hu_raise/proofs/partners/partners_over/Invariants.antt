@@ -1,8 +1,8 @@
 use Rattle.std.proofs.Common.{◌≡◌, map, length}
 use Rattle.std.specs.List.{range_with_len}
-use Rattle.hu_totals.specs.View.{pairs_in}
+use Rattle.hu_totals.specs.View.{pairs_in, lists_in}
 use Rattle.hu_raise.specs.Partners.{partners}
-use Rattle.hu_raise.specs.View.{lists_in, waiting_in}
+use Rattle.hu_raise.specs.View.{waiting_in}
 use Rattle.hu_raise.proofs.TurnLemmas.{AreWaiting}
 use Rattle.hu_raise.proofs.partners.partners_over.Given as goal
 

@@ -9,6 +9,7 @@ use Rattle.std.proofs.Math.Seq.{take-append_seam, drop-append_seam}
 use Rattle.hu_kind.specs.Record.{absolute_of, gain, items_in}
 use Rattle.hu_totals.specs.declared.ranked.Dense.{Dense}
 use Rattle.hu_totals.specs.View.{dense_pair, pairs_in}
+use Rattle.hu_totals.proofs.lemmas.Lists.{empty-seen}
 use Rattle.hu_raise.specs.OverRanks.{IsOverRanks}
 use Rattle.hu_raise.specs.Rests.{RestOf, handed, rest_from}
 use Rattle.hu_raise.specs.View.{rest_of, rests_of}
@@ -30,7 +31,10 @@ after-of : (n : ℕ) (left ranks others : List ℕ) → left ≡ ranks ++ others
 after-of n left ranks others is long = (λ j. drop (long j) (is j)) ∙ drop-append_seam ranks others
 
 pub loop-record-init : goal.loop-record-init
-loop-record-init c = record { left = c.requires.all; waits = c.in_ok-waiting.ensures }
+loop-record-init c = record {
+  left = c.requires.all;
+  waits = empty-seen rest_of c.in_ok-waiting.waiting.items c.args.ranks c.in_ok-waiting.ensures;
+}
 
 pub split_at-requires : goal.split_at-requires
 split_at-requires c =

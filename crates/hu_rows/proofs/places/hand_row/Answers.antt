@@ -1,10 +1,10 @@
 use Rattle.std.proofs.Common.{◌<◌, ◌∙◌, ◌++◌, ℕ, ◌-◌, length, to_z, of_z, ap, arith}
 use Rattle.std.specs.Int.{w128}
 use Rattle.std.proofs.lemmas.Int.{to_z-of_z}
-use Rattle.hu_totals.specs.View.{cells_of}
+use Rattle.hu_totals.specs.View.{cells_of, lists_in}
 use Rattle.hu_totals.proofs.lemmas.DenseLemmas.{rank-at}
 use Rattle.hu_rows.specs.Handed.{reaches, places_at}
-use Rattle.hu_rows.specs.Places.{lists_in, places_in}
+use Rattle.hu_rows.specs.Places.{places_in}
 use Rattle.hu_rows.proofs.PlaceLemmas.{hand-more, hand-end}
 use Rattle.hu_rows.proofs.PastEnd.{past_cell}
 use Rattle.hu_rows.proofs.places.hand_row.Goals as goal

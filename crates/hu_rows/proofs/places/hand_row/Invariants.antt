@@ -1,7 +1,7 @@
 use Rattle.std.proofs.Common.{◌≡◌, ◌++◌, ◌-◌, ℕ, length, drop}
-use Rattle.hu_totals.specs.View.{cells_of}
+use Rattle.hu_totals.specs.View.{cells_of, lists_in}
 use Rattle.hu_rows.specs.Handed.{reaches, places_at}
-use Rattle.hu_rows.specs.Places.{lists_in, places_from, places_in}
+use Rattle.hu_rows.specs.Places.{places_from, places_in}
 use Rattle.hu_rows.proofs.places.hand_row.Given as goal
 
 abbrev pub invariant-loop-next : goal.invariant-loop-next

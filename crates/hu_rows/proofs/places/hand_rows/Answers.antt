@@ -3,7 +3,7 @@ use Rattle.std.specs.Int.{w128}
 use Rattle.std.proofs.lemmas.Int.{to_z-of_z}
 use Rattle.std.proofs.lemmas.List.{take_all}
 use Rattle.hu_rows.specs.Handed.{reaches, handed_if, places_at, ArePlaces}
-use Rattle.hu_rows.specs.Places.{lists_in}
+use Rattle.hu_totals.specs.View.{lists_in}
 use Rattle.hu_rows.specs.View.{rows_of}
 use Rattle.hu_rows.proofs.CellChecks.{ascends-at, below-at}
 use Rattle.hu_rows.proofs.PlaceLemmas.{ArePlaces-none, ArePlaces-more}

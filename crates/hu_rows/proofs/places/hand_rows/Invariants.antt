@@ -1,6 +1,6 @@
 use Rattle.std.proofs.Common.{◌≡◌, ℕ, length, take}
 use Rattle.hu_rows.specs.Handed.{reaches, handed_if, places_at, ArePlaces}
-use Rattle.hu_rows.specs.Places.{lists_in}
+use Rattle.hu_totals.specs.View.{lists_in}
 use Rattle.hu_rows.specs.View.{rows_of}
 use Rattle.hu_rows.proofs.places.hand_rows.Given as goal
 

@@ -1,6 +1,6 @@
 use Rattle.std.proofs.Common.{◌∙◌, ◌++◌, ◌∷◌, [], ◌&&◌, cond, eqb, ap, sym, append-nil}
 use Rattle.hu_rows.specs.Handed.{places_at}
-use Rattle.hu_rows.specs.Places.{lists_in}
+use Rattle.hu_totals.specs.View.{lists_in}
 use Rattle.hu_rows.proofs.PlaceLemmas.{places_at-push}
 use Rattle.hu_rows.proofs.places.push_place.Goals as goal
 

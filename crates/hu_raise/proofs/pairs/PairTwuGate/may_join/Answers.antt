@@ -3,7 +3,7 @@ use Rattle.std.specs.List.{list_any}
 use Rattle.std.specs.List.Sorted.{IsStrictlyIncreasing}
 use Rattle.std.proofs.lemmas.List.{get_or-map, length-map}
 use Rattle.hu_raise.specs.Partners.{PairTable}
-use Rattle.hu_raise.specs.View.{lists_in}
+use Rattle.hu_totals.specs.View.{lists_in}
 use Rattle.hu_raise.proofs.SearchLemmas.{found-list_any}
 use Rattle.hu_raise.proofs.pairs.PairTwuGate.may_join.Goals as goal
 

@@ -1,6 +1,6 @@
 use Rattle.std.proofs.Common.{◌∙◌, ◌<◌, [], length, cond, eqb, ap, arith}
 use Rattle.hu_rows.specs.Handed.{places_at}
-use Rattle.hu_rows.specs.Places.{lists_in}
+use Rattle.hu_totals.specs.View.{lists_in}
 use Rattle.hu_rows.proofs.PlaceLemmas.{places_at-taken}
 use Rattle.hu_rows.proofs.places.Places.take.Goals as goal
 
