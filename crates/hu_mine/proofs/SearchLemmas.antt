@@ -1,5 +1,5 @@
 -- What a search over ranks makes of a collector.
-use Rattle.std.proofs.Common.{◌≡◌, ◌∙◌, ℕ, ℤ, ◌≤ℤ◌, List, Result, Ok, Err, OnOk, ap}
+use Rattle.std.proofs.Common.{◌≡◌, ◌∙◌, ℕ, ℤ, ◌≤ℤ◌, List, Result, Ok, Err, OnOk}
 use Rattle.hu_kind.specs.Itemsets.{item_patterns}
 use Rattle.hu_collect.specs.State.{State, offered, floor_in, IsInOrder, Mines}
 use Rattle.hu_totals.specs.Ranked.{Ranking, unranked}

@@ -1,5 +1,5 @@
 -- What a fresh collector makes of the patterns of some lengths.
-use Rattle.std.proofs.Common.{◌≡◌, ℕ, ℤ, Bool, true, false, cond, Option, List, [], ◌∷◌, filter, refl, ap}
+use Rattle.std.proofs.Common.{◌≡◌, ℕ, ℤ, Option, List, ap}
 use Rattle.std.specs.Prelude.{int_le}
 use Rattle.hu_kind.specs.declared.entry.Entry.{Entry}
 use Rattle.hu_kind.specs.Answer.{found}

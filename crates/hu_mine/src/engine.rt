@@ -1,4 +1,4 @@
-//! The engines.
+//! The engines, and what is asked of them.
 
 ghost use Rattle.std.specs.Prelude.{◌≡◌};
 ghost use Rattle.hu_mine.specs.Engine.{offers, offers_further};
@@ -45,4 +45,15 @@ impl Engine {
             Engine::Project | Engine::Kept | Engine::Chain => false,
         }
     }
+}
+
+/// What is asked of an engine: the first `top` patterns, or all of them, that earn at least `least`.
+#[derive(Clone, Copy, Debug, PartialEq, Eq)]
+pub struct Wanted {
+    /// The engine.
+    pub engine: Engine,
+    /// The least utility of a pattern.
+    pub least: i128,
+    /// How many are wanted at the most.
+    pub top: Option<u32>,
 }

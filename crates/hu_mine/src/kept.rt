@@ -6,6 +6,7 @@ ghost use Rattle.hu_kind.specs.Record.{absolute_of};
 ghost use Rattle.hu_base.specs.Base.{records_of, records_in};
 ghost use Rattle.hu_kept.specs.Kept.{Keeping, answer_of, with_batch};
 
+use crate::engine::Wanted;
 use hu_base::Base;
 use hu_kept::{AppendFault, Kept};
 use hu_kind::{Entry, NoMemory, Record};
@@ -15,23 +16,22 @@ use std::alloc::Global;
 pub(crate) fn kept_entries(
     alloc: Global,
     batches: Vec<Base<Record>>,
-    least: i128,
-    top: Option<u32>,
+    wanted: Wanted,
     closed: bool,
 ) -> Result<Vec<Entry>, NoMemory>
     requires fit { sum_by absolute_of (records_in batches.items) < 2 ^ 127 }
-    requires least { pos 1 ≤ℤ least }
-    requires some { IfSome top (λ k. 1 ≤ k) }
+    requires least { pos 1 ≤ℤ wanted.least }
+    requires some { IfSome wanted.top (λ k. 1 ≤ k) }
     ensures { IfOk result (λ entries. entries.items ≡ answer_of
         (record {
           records = records_in batches.items;
-          least = least;
-          top = top;
+          least = wanted.least;
+          top = wanted.top;
           closed =
               closed;
         })) }
 {
-    let mut kept = Kept::new(alloc, least, top, closed);
+    let mut kept = Kept::new(alloc, wanted.least, wanted.top, closed);
     append_all(&mut kept, batches)?;
     kept.entries(alloc)
 }

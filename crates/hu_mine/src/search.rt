@@ -1,9 +1,10 @@
-//! The search of itemsets by an engine over ranks, and the utility with which it begins.
+//! The search of itemsets by an engine over ranks, that of sequences, and the utility with which it begins.
 
 ghost use Rattle.std.specs.Prelude.{◌≡◌, ◌≤◌, pos, ◌≤ℤ◌, IfOk, IfSome, OnOk};
 ghost use Rattle.hu_kind.specs.Itemsets.{item_patterns};
+ghost use Rattle.hu_kind.specs.Sequence.{sequence_patterns};
 ghost use Rattle.hu_base.specs.Base.{records_of};
-ghost use Rattle.hu_collect.specs.State.{floor_in, offered};
+ghost use Rattle.hu_collect.specs.State.{floor_in, offered, Mines};
 ghost use Rattle.hu_collect.specs.Ranks.{RestsOn};
 ghost use Rattle.hu_totals.specs.Laws.{KeepsPatterns};
 ghost use Rattle.hu_mine.specs.Start.{StartsAlike};
@@ -11,8 +12,8 @@ ghost use Rattle.hu_mine.specs.Start.{StartsAlike};
 use crate::engine::Engine;
 use hu_base::Base;
 use hu_collect::Collect;
-use hu_kind::{NoMemory, Record};
-use hu_plain::mine_items;
+use hu_kind::{NoMemory, Record, SeqRecord};
+use hu_plain::{mine_items, mine_sequences};
 use hu_raise::{PairTwu, start_floor};
 use hu_totals::{Ranked, Totals};
 use std::alloc::Global;
@@ -45,6 +46,24 @@ pub(crate) fn search<C: Collect>(
             hu_project::mine(alloc, ranked, collect)
         }
         Engine::Plain | Engine::Kept | Engine::Chain => mine_items(alloc, &base, collect),
+    }
+}
+
+/// Offers the sequences of a base that may change what is collected: by utility chains, or else each of them.
+pub(crate) fn search_sequences<C: Collect>(
+    alloc: Global,
+    base: &Base<SeqRecord>,
+    engine: Engine,
+    collect: &mut C,
+) -> Result<(), NoMemory>
+    ensures { Mines (C.state collect.old) (sequence_patterns (records_of base.now))
+        (C.state collect.new) result }
+{
+    match engine {
+        Engine::Plain => mine_sequences(alloc, base, collect),
+        Engine::Lists | Engine::Project | Engine::Kept | Engine::Chain => {
+            hu_span::mine(alloc, base, collect)
+        }
     }
 }
 

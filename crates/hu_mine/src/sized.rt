@@ -10,7 +10,7 @@ ghost use Rattle.hu_lengths.specs.Lengths.{sized_answer};
 ghost use Rattle.hu_mine.specs.Engine.{offers_further};
 
 use crate::batches::joined;
-use crate::engine::Engine;
+use crate::engine::{Engine, Wanted};
 use hu_base::Base;
 use hu_collect::{Collect, Limited};
 use hu_kind::{Entry, NoMemory, Record};
@@ -19,26 +19,25 @@ use hu_plain::mine_items;
 use hu_totals::{RankOrder, Ranked, Totals};
 use std::alloc::Global;
 
-/// The first `top` itemsets of `short` to `long` items, or all of them, that earn at least `least` in all records of the
-/// batches, in the one order. A search begins with `least`, since a single item may be too short.
+/// The first itemsets of `short` to `long` items of those that earn the least utility in all records of the batches, as many as are
+/// wanted, in the one order. A search begins with the least utility, since a single item may be too short.
 pub fn sized_entries(
     alloc: Global,
     batches: Vec<Base<Record>>,
-    engine: Engine,
-    least: i128,
-    top: Option<u32>,
+    wanted: Wanted,
     short: u32,
     long: u32,
 ) -> Result<Vec<Entry>, NoMemory>
-    requires offered { offers_further engine ≡ true }
+    requires offered { offers_further wanted.engine ≡ true }
     requires fit { sum_by absolute_of (records_in batches.items) < 2 ^ 127 }
-    requires least { pos 1 ≤ℤ least }
-    requires some { IfSome top (λ k. 1 ≤ k) }
+    requires least { pos 1 ≤ℤ wanted.least }
+    requires some { IfSome wanted.top (λ k. 1 ≤ k) }
     requires lengths { (1 ≤ short) × (short ≤ long) × (long ≤ 4096) }
     ensures { IfOk result (λ entries. entries.items ≡ sized_answer
-        (records_in batches.items) least top short long) }
+        (records_in batches.items) wanted.least wanted.top short long) }
 {
     let base = joined(alloc, batches)?;
+    let Wanted { engine, least, top } = wanted;
     let mut collect = LengthsOnly::new(Limited::new(alloc, top, least), short, long);
     search_sized(alloc, base, engine, least, &mut collect)?;
     collect.into_inner().into_entries()

@@ -1,22 +1,20 @@
 -- A store after runs that add files to it.
-use Rattle.std.proofs.Common.{◌≡◌, ◌∙◌, ℕ, ℤ, Bool, true, false, nat_lt, List, [], ◌∷◌, ◌++◌, length, Option, Some, None, Ok, MatchOption, ap, sym, subst, refl}
+use Rattle.std.proofs.Common.{◌≡◌, ◌∙◌, ℕ, ℤ, Bool, true, false, nat_lt, List, [], ◌∷◌, ◌++◌, length, Option, Some, Ok, MatchOption, ap, sym, subst, refl}
 use Rattle.std.proofs.Common.{append_assoc, flat_map, cond}
 use Rattle.std.specs.Prelude.{IfSome, IsOkAnd, ⊤}
-use Rattle.std.specs.Str.{bytes_eq}
 use Rattle.std.specs.Option.{option_map}
 use Rattle.std.proofs.lemmas.List.{append-nil}
 use Rattle.std.proofs.lemmas.Slice.Eq.{bytes_eq-Decides}
 use Rattle.hu_io.specs.State.{Appended}
-use Rattle.hu_kept.specs.Changes.{changes}
-use Rattle.hu_kept.specs.Kept.{Keeping, answer_of, with_batch}
+use Rattle.hu_kept.specs.Kept.{Keeping, with_batch}
 use Rattle.hu_shelf.specs.Keeper.{KeeperState, with_text}
 use Rattle.hu_shelf.specs.Shelf.{absolute_sum}
 use Rattle.hu_shelf.specs.Store.{IsStore, store_of, store_text}
 use Rattle.hu_shelf.proofs.lemmas.StoreLemmas.{store_of-text}
-use Rattle.hu_run.specs.ShelfJob.{add, shelf_job}
-use Rattle.hu_run.specs.ShelfEnding.{ShelfEnding, adding, shelf_ending, given_by}
+use Rattle.hu_run.specs.ShelfJob.{add}
+use Rattle.hu_run.specs.ShelfEnding.{adding, shelf_ending, given_by}
 use Rattle.hu_run.specs.ShelfRun.{Finds, HasLeft}
-use Rattle.hu_run.specs.ShelfLaws.{AddsFile, AddsFiles, HasStore, StoresGrow}
+use Rattle.hu_run.specs.ShelfLaws.{AddsFile, HasStore, StoresGrow}
 use Rattle.hu_run.proofs.ShelfLemmas.{on_store-found, adding-by}
 
 -- what a keeper tells

@@ -1,18 +1,14 @@
 -- What the calls on a store and the reading of the file come to.
-use Rattle.std.proofs.Common.{◌≡◌, ◌∙◌, ℕ, ◌+◌, ◌<◌, ◌≤◌, ◌^◌, nat_lt, nat_le, ℤ, pos, unsigned_abs, Bool, true, false, List, [], ◌∷◌}
+use Rattle.std.proofs.Common.{◌≡◌, ◌∙◌, ℕ, ◌+◌, ◌<◌, ◌^◌, nat_lt, ℤ, pos, unsigned_abs, Bool, true, false, List, [], ◌∷◌}
 use Rattle.std.proofs.Common.{Result, Ok, Err, Option, Some, None, MatchOption, length, ap, sym, subst, refl, if◌then◌else◌}
-use Rattle.std.specs.Prelude.{◌≢◌, IfSome, IsOkAnd, ⊤}
-use Rattle.std.specs.List.{Contains}
-use Rattle.std.proofs.lemmas.Bool.{lt-ltb, le-ltb, lt-leb, le-leb}
-use Rattle.std.proofs.lemmas.List.{append-nil}
+use Rattle.std.specs.Prelude.{IfSome, IsOkAnd, ⊤}
+use Rattle.std.proofs.lemmas.Bool.{lt-leb}
 use Rattle.hu_io.specs.Count.{Rose}
-use Rattle.hu_io.specs.State.{FilesState, SinkState, Appended, Broke, PutsAll}
+use Rattle.hu_io.specs.State.{FilesState, SinkState}
 use Rattle.hu_io.proofs.lemmas.PutLemmas.{Appended-nil}
 use Rattle.hu_input.specs.Formats.{transaction_reading}
-use Rattle.hu_input.specs.Input.{Refusal, Unread, refused_line, input_from}
-use Rattle.hu_input.specs.Reading.{ReadsAll, Refuses as RefusesLine, FailsAt, ReadsFiles}
+use Rattle.hu_input.specs.Input.{Unread, refused_line, input_from}
 use Rattle.hu_kind.specs.Record.{absolute_of}
-use Rattle.hu_base.specs.Base.{records_in, records_of}
 use Rattle.hu_kept.specs.Changes.{changes}
 use Rattle.hu_kept.specs.Kept.{Keeping, answer_of, with_batch}
 use Rattle.hu_report.specs.Text.{answer_text}
@@ -30,10 +26,10 @@ use Rattle.hu_run.specs.declared.shelf.fault.StoreFault.TheVariants.{Absent, Pre
 use Rattle.hu_run.specs.declared.shelf.stop.ShelfStop.{ShelfStop}
 use Rattle.hu_run.specs.declared.shelf.stop.ShelfStop.TheVariants.{Job, Declined, StoreFailed}
 use Rattle.hu_run.specs.ShelfJob.{Shelving, make, add, show, shelf_job, store_name, file_names}
-use Rattle.hu_run.specs.ShelfEnding.{ShelfEnding, leaves, declines, refuses, Given, given_by, adding, making, on_store, shelf_ending, changes_line, task_of}
+use Rattle.hu_run.specs.ShelfEnding.{ShelfEnding, leaves, declines, refuses, Given, given_by, adding, making, on_store, changes_line, task_of}
 use Rattle.hu_run.specs.ShelfRun.{Finds, HasLeft}
-use Rattle.hu_run.specs.ShelfAttempt.{Scene, scene, shelf_fault, IsStopOf, StopsCall, IfRead, HasRead, StopsRead, Untouched, Leaves, HasFault, HasRefusal}
-use Rattle.hu_run.specs.ShelfAttempt.{HasMissed, StopsShelf, ShelfEnds, Attempts}
+use Rattle.hu_run.specs.ShelfAttempt.{Scene, scene, shelf_fault, IsStopOf, StopsCall, IfRead, HasRead, StopsRead, Leaves}
+use Rattle.hu_run.specs.ShelfAttempt.{StopsShelf, ShelfEnds, Attempts}
 use Rattle.hu_run.proofs.ShelfEndLemmas.{stays-same}
 
 -- ---- stops of calls

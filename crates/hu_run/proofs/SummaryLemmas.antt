@@ -6,7 +6,7 @@ use Rattle.std.specs.List.Sorted.{IsPermutation}
 use Rattle.std.specs.declared.cmp.Ordering.TheVariants.{Less}
 use Rattle.hu_kind.specs.declared.task.Task.TheVariants.{Items, Closed, Sequences}
 use Rattle.hu_kind.specs.declared.entry.Entry.{Entry}
-use Rattle.hu_kind.specs.Answer.{answer, item_answer, closed_answer, sequence_answer}
+use Rattle.hu_kind.specs.Answer.{item_answer, closed_answer, sequence_answer}
 use Rattle.hu_kind.specs.Itemsets.{item_patterns, closed_patterns}
 use Rattle.hu_kind.specs.Order.{cut}
 use Rattle.hu_kind.specs.Sequence.{sequence_patterns}

@@ -1,12 +1,11 @@
 -- How the attempt at what is asked of a store ends: done, or with what stopped it.
-use Rattle.std.specs.Prelude.{◌≡◌, ◌≢◌, ℕ, ◌+◌, ◌<◌, ◌^◌, ⊤, ℤ, unsigned_abs, None, Some, Result, Ok, Err, List, [], ◌∷◌, IsOkAnd, IfSome}
+use Rattle.std.specs.Prelude.{◌≡◌, ℕ, ◌+◌, ◌<◌, ◌^◌, ⊤, ℤ, None, Result, Ok, Err, List, [], ◌∷◌, IsOkAnd, IfSome}
 use Rattle.std.specs.List.{Contains}
 use Rattle.hu_io.specs.Count.{Rose}
 use Rattle.hu_io.specs.State.{SinkState, FilesState, Appended, Broke, Missed}
 use Rattle.hu_input.specs.Formats.{transaction_reading}
 use Rattle.hu_input.specs.Input.{Refusal, Unread, refused_line, input_from}
 use Rattle.hu_kind.specs.Record.{absolute_of}
-use Rattle.hu_base.specs.Base.{records_of}
 use Rattle.hu_shelf.specs.Keeper.{KeeperState, Stays, Told}
 use Rattle.hu_shelf.specs.Shelf.{absolute_sum, find_fault}
 use Rattle.hu_shelf.specs.declared.fault.ShelfFault.{ShelfFault}

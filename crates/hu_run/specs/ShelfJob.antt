@@ -1,5 +1,5 @@
 -- The words of the command line that begin with `shelf`: shelf new NAME TASK MIN TOP, shelf add NAME FILE, or shelf list NAME.
-use Rattle.std.specs.Prelude.{◌≡◌, ◌≤◌, ℕ, nat_lt, Bool, true, false, ℤ, pos, ◌≤ℤ◌, IfSome, Option, None, Some, ⊤}
+use Rattle.std.specs.Prelude.{◌≤◌, ℕ, nat_lt, Bool, true, false, pos, ◌≤ℤ◌, IfSome, Option, None, Some, ⊤}
 use Rattle.std.specs.Prelude.{Result, Ok, Err, List, [], ◌∷◌, length, codes, if◌then◌else◌}
 use Rattle.std.specs.Str.{bytes_eq}
 use Rattle.hu_kept.specs.Kept.{Keeping, fresh}

@@ -16,6 +16,7 @@ use crate::answer::Answer;
 use crate::stop::Stop;
 use crate::words::Job;
 use hu_io::Files;
+use hu_mine::Wanted;
 use std::alloc::Global;
 
 /// The answer of a job over its files, or what stops it.
@@ -36,7 +37,7 @@ pub(crate) fn answer<'a, F: Files>(
             least,
             top,
             names,
-        } => mine::answer(alloc, files, task, engine, least, top, names),
+        } => mine::answer(alloc, files, task, Wanted { engine, least, top }, names),
         Job::Sized {
             engine,
             least,
@@ -44,13 +45,16 @@ pub(crate) fn answer<'a, F: Files>(
             short,
             long,
             names,
-        } => sized::answer(alloc, files, engine, least, top, short, long, names),
+        } => {
+            let wanted = Wanted { engine, least, top };
+            sized::answer(alloc, files, wanted, short, long, names)
+        }
         Job::Average {
             engine,
             least,
             top,
             names,
-        } => average::answer(alloc, files, engine, least, top, names),
+        } => average::answer(alloc, files, Wanted { engine, least, top }, names),
         Job::Certify { least, names } => certify::answer(alloc, files, least, names),
         Job::Check { least, cert, names } => check::answer(alloc, files, least, cert, names),
         Job::Drill { seed } => Ok(drill::answer(alloc, seed)?),

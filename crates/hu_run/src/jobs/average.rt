@@ -10,26 +10,23 @@ use crate::answer::Answer;
 use crate::stop::Stop;
 use hu_input::{Transactions, read_files};
 use hu_io::Files;
-use hu_mine::{Engine, average_entries};
+use hu_mine::{Wanted, average_entries};
 use std::alloc::Global;
 
-/// The first `top` itemsets, or all of them, that earn at least `least` for each of their items in all records of the named
-/// files.
+/// The itemsets that are wanted for what they earn for each of their items, in all records of the named files.
 pub(crate) fn answer<'a, F: Files>(
     alloc: Global,
     files: &mut F,
-    engine: Engine,
-    least: i128,
-    top: Option<u32>,
+    wanted: Wanted,
     names: &'a [String],
 ) -> Result<Answer, Stop<'a>>
-    requires offered { offers_further engine ≡ true }
-    requires least { pos 1 ≤ℤ least }
-    requires some { IfSome top (λ k. 1 ≤ k) }
-    ensures { Answers (averaging engine least top)
+    requires offered { offers_further wanted.engine ≡ true }
+    requires least { pos 1 ≤ℤ wanted.least }
+    requires some { IfSome wanted.top (λ k. 1 ≤ k) }
+    ensures { Answers (averaging wanted.engine wanted.least wanted.top)
         (F.state files.old) (F.state files.new) (texts_of names.now) result }
 {
     let batches = read_files::<Transactions, F>(alloc, files, names, 0)?;
-    let entries = average_entries(alloc, batches, engine, least, top)?;
+    let entries = average_entries(alloc, batches, wanted)?;
     Ok(Answer::Averages(entries))
 }

@@ -15,7 +15,7 @@ use crate::answer::{Answer, Line};
 use hu_base::Base;
 use hu_drill::{Summary, make, make_sequences};
 use hu_kind::{NoMemory, Record, SeqRecord};
-use hu_mine::{Engine, closed_entries, item_entries, sequence_entries};
+use hu_mine::{Engine, Wanted, closed_entries, item_entries, sequence_entries};
 use std::alloc::Global;
 
 /// The summaries of what each engine but the plain one answers.
@@ -49,7 +49,12 @@ fn items(alloc: Global, seed: u32, engine: Engine) -> Result<Summary, NoMemory>
     ensures { IfOk result (λ summary. summary ≡ items_summary seed) }
 {
     let batches = batches(alloc, seed, engine)?;
-    let entries = item_entries(alloc, batches, engine, 1, Some(100))?;
+    let wanted = Wanted {
+        engine,
+        least: 1,
+        top: Some(100),
+    };
+    let entries = item_entries(alloc, batches, wanted)?;
     Ok(Summary::of(&entries))
 }
 
@@ -60,7 +65,12 @@ fn closed(alloc: Global, seed: u32, engine: Engine) -> Result<Summary, NoMemory>
     ensures { IfOk result (λ summary. summary ≡ closed_summary seed) }
 {
     let batches = batches(alloc, seed, engine)?;
-    let entries = closed_entries(alloc, batches, engine, 10_000, Some(100))?;
+    let wanted = Wanted {
+        engine,
+        least: 10_000,
+        top: Some(100),
+    };
+    let entries = closed_entries(alloc, batches, wanted)?;
     Ok(Summary::of(&entries))
 }
 
@@ -71,7 +81,12 @@ fn sequences(alloc: Global, seed: u32) -> Result<Summary, NoMemory>
 {
     let base = sequence_base(alloc, seed)?;
     let batches = vec![in alloc; base]?;
-    let entries = sequence_entries(alloc, batches, Engine::Chain, 1, Some(20))?;
+    let wanted = Wanted {
+        engine: Engine::Chain,
+        least: 1,
+        top: Some(20),
+    };
+    let entries = sequence_entries(alloc, batches, wanted)?;
     Ok(Summary::of(&entries))
 }
 

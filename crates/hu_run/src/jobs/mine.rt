@@ -11,37 +11,35 @@ use crate::stop::Stop;
 use hu_input::{Sequences, Transactions, read_files};
 use hu_io::Files;
 use hu_kind::Task;
-use hu_mine::{Engine, closed_entries, item_entries, sequence_entries};
+use hu_mine::{Wanted, closed_entries, item_entries, sequence_entries};
 use std::alloc::Global;
 
-/// The first `top` patterns of a task, or all of them, that earn at least `least` in all records of the named files.
+/// The patterns of a task that are wanted, in all records of the named files.
 pub(crate) fn answer<'a, F: Files>(
     alloc: Global,
     files: &mut F,
     task: Task,
-    engine: Engine,
-    least: i128,
-    top: Option<u32>,
+    wanted: Wanted,
     names: &'a [String],
 ) -> Result<Answer, Stop<'a>>
-    requires offered { offers task engine ≡ true }
-    requires least { pos 1 ≤ℤ least }
-    requires some { IfSome top (λ k. 1 ≤ k) }
-    ensures { Answers (mining task engine least top)
+    requires offered { offers task wanted.engine ≡ true }
+    requires least { pos 1 ≤ℤ wanted.least }
+    requires some { IfSome wanted.top (λ k. 1 ≤ k) }
+    ensures { Answers (mining task wanted.engine wanted.least wanted.top)
         (F.state files.old) (F.state files.new) (texts_of names.now) result }
 {
     let entries = match task {
         Task::Items => {
             let batches = read_files::<Transactions, F>(alloc, files, names, 0)?;
-            item_entries(alloc, batches, engine, least, top)?
+            item_entries(alloc, batches, wanted)?
         }
         Task::Closed => {
             let batches = read_files::<Transactions, F>(alloc, files, names, 0)?;
-            closed_entries(alloc, batches, engine, least, top)?
+            closed_entries(alloc, batches, wanted)?
         }
         Task::Sequences => {
             let batches = read_files::<Sequences, F>(alloc, files, names, 0)?;
-            sequence_entries(alloc, batches, engine, least, top)?
+            sequence_entries(alloc, batches, wanted)?
         }
     };
     Ok(Answer::Entries { task, entries })

@@ -11,30 +11,27 @@ use crate::stop::Stop;
 use hu_input::{Transactions, read_files};
 use hu_io::Files;
 use hu_kind::Task;
-use hu_mine::{Engine, sized_entries};
+use hu_mine::{Wanted, sized_entries};
 use std::alloc::Global;
 
-/// The first `top` itemsets of `short` to `long` items, or all of them, that earn at least `least` in all records of the named
-/// files.
+/// The itemsets of `short` to `long` items that are wanted, in all records of the named files.
 pub(crate) fn answer<'a, F: Files>(
     alloc: Global,
     files: &mut F,
-    engine: Engine,
-    least: i128,
-    top: Option<u32>,
+    wanted: Wanted,
     short: u32,
     long: u32,
     names: &'a [String],
 ) -> Result<Answer, Stop<'a>>
-    requires offered { offers_further engine ≡ true }
-    requires least { pos 1 ≤ℤ least }
-    requires some { IfSome top (λ k. 1 ≤ k) }
+    requires offered { offers_further wanted.engine ≡ true }
+    requires least { pos 1 ≤ℤ wanted.least }
+    requires some { IfSome wanted.top (λ k. 1 ≤ k) }
     requires lengths { AreLengths short long }
-    ensures { Answers (sizing engine least top short long)
+    ensures { Answers (sizing wanted.engine wanted.least wanted.top short long)
         (F.state files.old) (F.state files.new) (texts_of names.now) result }
 {
     let batches = read_files::<Transactions, F>(alloc, files, names, 0)?;
-    let entries = sized_entries(alloc, batches, engine, least, top, short, long)?;
+    let entries = sized_entries(alloc, batches, wanted, short, long)?;
     let task = Task::Items;
     Ok(Answer::Entries { task, entries })
 }

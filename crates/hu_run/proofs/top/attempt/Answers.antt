@@ -1,8 +1,7 @@
 use Rattle.std.proofs.Common.{refl, sym, ap, ◌∙◌}
 use Rattle.std.proofs.lemmas.Result.{err_from_is_err_and}
 use Rattle.hu_input.specs.Names.{texts_of}
-use Rattle.hu_run.specs.Job.{job, asked_of, names_of, files_of}
-use Rattle.hu_run.specs.Answer.{text_of}
+use Rattle.hu_run.specs.Job.{job, asked_of}
 use Rattle.hu_io.specs.State.{Appended}
 use Rattle.hu_run.proofs.EndLemmas.{has-text, names-of-texts}
 use Rattle.hu_run.proofs.ResultLemmas.{err_of}

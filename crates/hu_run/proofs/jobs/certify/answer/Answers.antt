@@ -1,16 +1,12 @@
-use Rattle.std.proofs.Common.{◌≡◌, ◌∙◌, ap, sym, subst, to_z, of_z, ℕ, ◌<◌, length, Result, Ok, Err, refl}
+use Rattle.std.proofs.Common.{◌≡◌, ◌∙◌, ap, sym, subst, to_z, of_z, ◌<◌, length, Err}
 use Rattle.std.specs.Int.{w128}
 use Rattle.std.proofs.lemmas.Int.{to_z-of_z}
 use Rattle.std.proofs.lemmas.Result.{err_from_is_err_and}
 use Rattle.hu_input.specs.Names.{texts_of}
-use Rattle.hu_base.specs.Base.{records_in, records_of}
+use Rattle.hu_base.specs.Base.{records_in}
 use Rattle.hu_certify.specs.Text.{certificate_text}
-use Rattle.hu_certify.specs.declared.fault.CertFault.{CertFault}
 use Rattle.hu_certify.specs.declared.fault.CertFault.TheVariants as cert
-use Rattle.hu_run.specs.Ending.{given, writes}
-use Rattle.hu_run.specs.Job.{certify}
-use Rattle.hu_run.specs.Attempt.{StopsAt}
-use Rattle.hu_run.specs.Stop.{stop_of_certificate}
+use Rattle.hu_run.specs.Ending.{given}
 use Rattle.hu_run.proofs.CertifyLemmas.{given-short, certified, uncertified}
 use Rattle.hu_run.proofs.jobs.certify.answer.Goals as goal
 

@@ -1,11 +1,10 @@
-use Rattle.std.proofs.Common.{◌≡◌, sym, subst, to_z, of_z}
+use Rattle.std.proofs.Common.{◌≡◌, subst, to_z, of_z}
 use Rattle.std.specs.Int.{w128}
 use Rattle.std.proofs.lemmas.Int.{to_z-of_z}
 use Rattle.std.proofs.lemmas.Result.{err_from_is_err_and}
 use Rattle.hu_input.specs.Names.{texts_of}
-use Rattle.hu_base.specs.Base.{records_in, records_of}
-use Rattle.hu_run.specs.Job.{check}
-use Rattle.hu_run.specs.Attempt.{Answers, Judges}
+use Rattle.hu_base.specs.Base.{records_in}
+use Rattle.hu_run.specs.Attempt.{Judges}
 use Rattle.hu_run.proofs.CheckLemmas.{cert-unread, cert-judged}
 use Rattle.hu_run.proofs.jobs.check.answer.Goals as goal
 

@@ -1,4 +1,4 @@
-use Rattle.std.proofs.Common.{◌++◌, refl, subst}
+use Rattle.std.proofs.Common.{◌++◌, subst}
 use Rattle.hu_io.specs.State.{Broke}
 use Rattle.hu_io.proofs.lemmas.PutLemmas.{PutsAll-from_err}
 use Rattle.hu_report.proofs.lemmas.PageLemmas.{PutsAll-flush}
