@@ -104,10 +104,10 @@ fn each_untold(rt: &impl Abort, alloc: Global, job: &str) -> Result<(), Fail> {
         let mut out = MemorySink::new(alloc, *room)?;
         let mut err = MemorySink::new(alloc, 100)?;
         err.fail_at(1)?;
-        assert_eq!(rt; run(alloc, &words, &mut files, &mut out, &mut err), *status);
-        assert_eq!(rt; out.bytes(), written.as_bytes());
+        let answer = run(alloc, &words, &mut files, &mut out, &mut err);
+        let wanted = (*status, written.as_bytes(), 1);
+        assert_eq!(rt; (answer, out.bytes(), err.faults()), wanted);
         assert_eq!(rt; err.bytes(), b"".as_slice());
-        assert_eq!(rt; err.faults(), 1);
     }
     Ok(())
 }

@@ -16,6 +16,10 @@ items 30 all
 1 3 4:8:5 1 2
 ";
 
+/// Their answer at 30.
+const THREE_AT_30: &str =
+    "2 3 4 5 #UTIL: 40\n2 4 5 #UTIL: 36\n2 3 4 #UTIL: 34\n1 2 3 4 5 6 #UTIL: 30\n2 4 #UTIL: 30\n";
+
 /// The words after `shelf`, and how their run ends, one after the other over one keeper.
 const GROWING: [(&str, u8, &str, &str); 12] = [
     ("list s", 7, "", "hupm: s: no store\n"),
@@ -52,16 +56,27 @@ fn ends<K: Keeper>(
     alloc: Global,
     rest: &str,
     keeper: &mut K,
+    ending: (u8, &str, &str),
+) -> Result<(), Fail> {
+    ends_in(rt, alloc, ("shelf", rest), 1000, keeper, ending)
+}
+
+/// Asserts that a run of these words whose answer has so much room ends with this status and with these texts.
+fn ends_in<K: Keeper>(
+    rt: &impl Abort,
+    alloc: Global,
+    (job, rest): (&str, &str),
+    room: usize,
+    keeper: &mut K,
     (status, written, told): (u8, &str, &str),
 ) -> Result<(), Fail> {
-    let words = words_of(alloc, "shelf", rest)?;
+    let words = words_of(alloc, job, rest)?;
     let mut files = files(alloc)?;
-    let mut out = MemorySink::new(alloc, 1000)?;
+    let mut out = MemorySink::new(alloc, room)?;
     let mut err = MemorySink::new(alloc, 1000)?;
     let answer = run_all(alloc, &words, &mut files, &mut out, &mut err, keeper);
-    assert_eq!(rt; answer, status, "shelf {rest}");
-    assert_eq!(rt; out.bytes(), written.as_bytes(), "shelf {rest}");
-    assert_eq!(rt; err.bytes(), told.as_bytes(), "shelf {rest}");
+    let wanted = (status, written.as_bytes(), told.as_bytes());
+    assert_eq!(rt; (answer, out.bytes(), err.bytes()), wanted, "{job} {rest}");
     Ok(())
 }
 
@@ -150,32 +165,11 @@ fn a_write_fails(rt: HostRuntime) -> Result<(), Fail> {
     let alloc = rt.alloc();
     let mut keeper = MemoryKeeper::new(alloc);
     ends(&rt, alloc, "new s items 30 all", &mut keeper, (0, "", ""))?;
-    let words = words_of(alloc, "shelf", "add s front")?;
-    let mut out = MemorySink::new(alloc, 10)?;
-    let mut err = MemorySink::new(alloc, 100)?;
-    let status = run_all(
-        alloc,
-        &words,
-        &mut files(alloc)?,
-        &mut out,
-        &mut err,
-        &mut keeper,
-    );
-    assert_eq!(rt; status, 4);
-    assert_eq!(rt; out.bytes(), b"added 5 ch".as_slice());
-    assert_eq!(rt; err.bytes(), b"hupm: write failed\n".as_slice());
+    let cut = (4, "added 5 ch", "hupm: write failed\n");
+    ends_in(&rt, alloc, ("shelf", "add s front"), 10, &mut keeper, cut)?;
     assert_eq!(rt; keeper.content("s"), THREE.as_bytes());
-    let jobs = words_of(alloc, "items lists 30 all", "front")?;
-    let mut one = MemorySink::new(alloc, 1000)?;
-    let status = run_all(
-        alloc,
-        &jobs,
-        &mut files(alloc)?,
-        &mut one,
-        &mut err,
-        &mut keeper,
-    );
-    assert_eq!(rt; status, 0);
+    let other = ("items lists 30 all", "front");
+    ends_in(&rt, alloc, other, 1000, &mut keeper, (0, THREE_AT_30, ""))?;
     assert_eq!(rt; keeper.faults(), 0);
     Ok(())
 }
