@@ -7,7 +7,8 @@ use Rattle.std.proofs.lemmas.Int.{ints}
 use Rattle.std.proofs.lemmas.List.{length-map}
 use Rattle.hu_kind.specs.declared.entry.Entry.{Entry}
 use Rattle.hu_kind.specs.Sequence.{sequence_entry, sequence_key, sequence_support, sequence_utility}
-use Rattle.hu_kind.proofs.lemmas.Members.{Member-from_contains, Contains-from_member}
+use Rattle.hu_kind.proofs.lemmas.Falling.{fall-later}
+use Rattle.hu_kind.proofs.lemmas.Members.{Member-from_contains, Contains-from_member, Member-past}
 use Rattle.hu_kind.proofs.lemmas.Occurring.{at_member}
 use Rattle.hu_kind.specs.declared.item.Item.{Item}
 use Rattle.hu_collect.specs.State.{State, offered, floor_in, IsInOrder, Reached, ReachedSome, Searches}
@@ -26,7 +27,7 @@ use Rattle.hu_span.specs.declared.search.Below.{Below}
 use Rattle.hu_span.specs.declared.child.Branch.{Branch}
 use Rattle.hu_span.specs.Branch.{IsBranch}
 use Rattle.hu_span.specs.Child.{child_entry, stepped, AreChildren, AreGathered, ArePlaces, IsChild, IsSpread}
-use Rattle.hu_span.proofs.BranchLemmas.{branch-of, fall-later, fall-past}
+use Rattle.hu_span.proofs.BranchLemmas.{branch-of}
 use Rattle.hu_span.proofs.Fronts.{contains-before, contains-cases, contains-front, contains-here, Member-parts}
 use Rattle.hu_span.specs.Gather.{AreGrown}
 use Rattle.hu_span.specs.Growing.{AreRecords, GrowsOn, GrowsOver, IsBegun, IsReached, Records}
@@ -296,10 +297,10 @@ module _ (records : Records) (keep : ℕ → Bool) (pattern : List (List ℕ)) w
                       grows = let copy = has.is in subst (λ (s : Step). GrowsOn records keep (stepped pattern s) e) (sym copy.step) on;
                     }
                     | inr later ↦ elim ends [
-                      | inl past ↦ absurd (fall-past kept at has.branch past later)
+                      | inl past ↦ absurd (Member-past has.branch at kept past later)
                       | inr next ↦
                           let low = next.1 in
-                          let falls = fall-later kept at next.0 has.branch best.fall later in
+                          let falls = fall-later (λ (b : Branch). b.bound) kept at next.0 has.branch best.fall later in
                           let copy = has.is in
                           let same_bound = copy.bound in
                           absurd (omega (arith, ints, under, high, falls, low, same_bound))

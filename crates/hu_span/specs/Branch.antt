@@ -1,6 +1,7 @@
 -- Children that are entered, each with places of its own.
 use Rattle.std.specs.Prelude.{◌≡◌, true, false, ◌<◌, ◌≤ℤ◌, ◌<ℤ◌, ◌⊎◌, ℕ, ℤ, Bool, List, [], ◌∷◌, ◌++◌}
-use Rattle.std.specs.List.{AllByRecursion, Contains}
+use Rattle.std.specs.List.{Contains}
+use Rattle.hu_kind.specs.Order.{FallBy}
 use Rattle.hu_kind.specs.Sequence.{sequence_support, sequence_utility}
 use Rattle.hu_chain.specs.Grown.{IsGrownFrom}
 use Rattle.hu_span.specs.declared.child.Branch.{Branch}
@@ -75,9 +76,7 @@ IsPushed false held old new child = new ≡ old
 
 -- bounds that fall
 abbrev pub Fall : List Branch → Type 0
-Fall [] = Unit {0}
-Fall (branch ∷ branches) =
-    AllByRecursion (λ later. later.bound ≤ℤ branch.bound) branches × Fall branches
+Fall branches = FallBy (λ branch. branch.bound) branches
 
 -- the branches of a kind of growth are those children of all that reach a floor
 pub record AreBranchesBy (records : Records) (keep : ℕ → Bool) (pattern : List (List ℕ))
