@@ -1,9 +1,9 @@
 -- Places of values and cells, and the nodes of a set's list.
-use Rattle.std.proofs.Common.{◌≡◌, ℕ, zero, suc, ◌<◌, ◌≤◌, ◌+◌, Bool, true, false, cond, not, ltb, nat_lt, int_lt, ◌&&◌, inl, inr, ℤ, pos, negsuc, ◌+ℤ◌, ◌≤ℤ◌}
-use Rattle.std.proofs.Common.{unsigned_abs, unwrap_or, List, [], ◌∷◌, ◌++◌, map, take, drop, length, get_or, insert, refl, sym, ap, ◌∙◌, subst, arith, one-add}
+use Rattle.std.proofs.Common.{◌≡◌, ℕ, zero, suc, ◌<◌, ◌≤◌, ◌+◌, Bool, true, false, cond, not, nat_lt, int_lt, ◌&&◌, ℤ, pos, negsuc, ◌+ℤ◌, ◌≤ℤ◌}
+use Rattle.std.proofs.Common.{unsigned_abs, List, [], ◌∷◌, ◌++◌, map, take, drop, length, get_or, insert, refl, sym, ap, ◌∙◌, subst, arith, one-add}
 use Rattle.std.proofs.Common.{sum_by}
-use Rattle.std.specs.List.{AllByRecursion, position, position_or_len, list_all}
-use Rattle.std.proofs.lemmas.Bool.{cases_lt, lt-ltb, le-ltb}
+use Rattle.std.specs.List.{AllByRecursion, position_or_len, list_all}
+use Rattle.std.proofs.lemmas.Bool.{lt-ltb, le-ltb}
 use Rattle.std.proofs.lemmas.Int.{ints}
 use Rattle.std.proofs.lemmas.List.{drop_more, get_or-map, length-map}
 use Rattle.std.specs.declared.vec.Vec.{Vec}
@@ -20,7 +20,6 @@ use Rattle.hu_totals.specs.View.{dense_pair, pairs_in}
 use Rattle.hu_list.specs.declared.list.Node.{Node}
 use Rattle.hu_list.specs.Nodes.{rest_after, nodes_from, weight_of}
 use Rattle.hu_list.proofs.lemmas.Windows.{Window, window-here, window-next, window-all}
-use Rattle.hu_list.proofs.lemmas.Positions.{position_or_len-le}
 use Rattle.hu_lengths.specs.Bound.{later_values, values_after, put, falling, sum_of, sized_most, sized_bound, most_at, most_of, IsNodeAt, IsList, IsSizedBound}
 use Rattle.hu_lengths.specs.Bound.{BoundsSized}
 use Rattle.hu_lengths.proofs.GreatestLemmas.{first_sum, falling-least, first_sum-least, first_sum-within, sum_of-falling, take-put}

@@ -1,18 +1,14 @@
 -- The lengths of keys that grow, and of the keys of sets of ranks.
-use Rattle.std.proofs.Common.{◌≡◌, ℕ, suc, ◌<◌, ◌≤◌, Bool, true, false, cond, ℤ, pos, List, [], ◌∷◌, ◌++◌, map, length, slice_index, Option, None, Some, inl}
-use Rattle.std.proofs.Common.{inr, refl, sym, ap, ◌∙◌, subst, arith}
+use Rattle.std.proofs.Common.{◌≡◌, ℕ, ◌<◌, ◌≤◌, Bool, true, false, cond, ℤ, pos, List, [], ◌∷◌, ◌++◌, length, slice_index, Option, None, Some, inl}
+use Rattle.std.proofs.Common.{inr, refl, ap, ◌∙◌, subst, arith}
 use Rattle.std.specs.List.{AllByRecursion}
-use Rattle.std.specs.declared.cmp.Ordering.{Ordering}
-use Rattle.std.specs.declared.cmp.Ordering.TheVariants.{Less, Equal, Greater}
 use Rattle.std.specs.Ordering.{nat_cmp, int_eq}
-use Rattle.std.specs.BTreeSet.{insert_key}
 use Rattle.std.proofs.lemmas.List.{length-map}
-use Rattle.std.proofs.lemmas.Map.Lookups.{exact_unsigned}
 use Rattle.hu_kind.specs.Order.{ranking, Ascend}
 use Rattle.hu_kind.proofs.lemmas.Members.{Member, Member-map, Member-from_map, Member-append_left, Member-append_right, Member-append_cases}
 use Rattle.hu_kind.proofs.lemmas.Occurring.{at_member, Member-ranking, Ascend-ranking}
 use Rattle.hu_totals.specs.Ranked.{Ranking, IsRanking}
-use Rattle.hu_totals.proofs.lemmas.SortedLists.{Once, Member-from_ranking, length-ranking}
+use Rattle.hu_totals.proofs.lemmas.SortedLists.{Member-from_ranking, length-ranking}
 use Rattle.hu_collect.specs.Ranks.{key_of, is_part, IsGrown}
 use Rattle.hu_search.proofs.lemmas.ItemsAt.{items_at, Once-items_at}
 

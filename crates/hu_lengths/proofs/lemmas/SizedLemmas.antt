@@ -9,8 +9,7 @@ use Rattle.hu_totals.specs.Ranked.{Ranking, IsRanking}
 use Rattle.hu_collect.specs.Rule.{Rule, passes}
 use Rattle.hu_collect.specs.Ranks.{IsShut, key_of}
 use Rattle.hu_collect.specs.State.{State, fresh, offered, floor_in, IsInOrder}
-use Rattle.hu_collect.proofs.lemmas.Made.{made-not_passing}
-use Rattle.hu_collect.proofs.lemmas.Searching.{state-equal, kept-in_order, offered-low}
+use Rattle.hu_collect.proofs.lemmas.Searching.{state-equal, offered-low}
 use Rattle.hu_list.specs.Lengths.{WantsUpto}
 use Rattle.hu_lengths.specs.Lengths.{has_length, of_lengths, sized_answer}
 use Rattle.hu_lengths.specs.LengthsOnly.{sized_rule, sized_state, Leaves, MakesSized}
