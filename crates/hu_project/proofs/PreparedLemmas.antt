@@ -10,7 +10,7 @@ use Rattle.hu_collect.proofs.lemmas.Searching.{reached-rule, reached-floor}
 use Rattle.hu_rows.specs.declared.tally.Tally.{Tally}
 use Rattle.hu_rows.specs.Rows.{RowOf, count_over}
 use Rattle.hu_rows.specs.Handed.{reaches, narrowed}
-use Rattle.hu_rows.specs.Places.{lists_in}
+use Rattle.hu_totals.specs.View.{lists_in}
 use Rattle.hu_rows.proofs.lemmas.Counted.{count-narrower}
 use Rattle.hu_search.specs.declared.child.Child.{Child}
 use Rattle.hu_search.specs.Growth.{Grows}

@@ -9,7 +9,7 @@ use Rattle.hu_totals.specs.Ranked.{Ranking}
 use Rattle.hu_collect.specs.State.{State, floor_in, IsInOrder, Reached, ReachedSome}
 use Rattle.hu_collect.proofs.lemmas.Searching.{reached-rule, reached-floor, reached-in_order, reached-none}
 use Rattle.hu_rows.specs.Handed.{handed, ArePlaces}
-use Rattle.hu_rows.specs.Places.{lists_in}
+use Rattle.hu_totals.specs.View.{lists_in}
 use Rattle.hu_search.specs.declared.child.Child.{Child}
 use Rattle.hu_search.specs.Growth.{Grows}
 use Rattle.hu_search.specs.Children.{IsBarren}

@@ -11,7 +11,7 @@ use Rattle.hu_rows.specs.Rows.{RowOf, AreRows, AreCounted, over, count_over}
 use Rattle.hu_rows.specs.Tally.{AreBelow, AreNoted, IsClear, tally_at, told, tail_told}
 use Rattle.hu_rows.specs.declared.places.Place.{Place}
 use Rattle.hu_rows.specs.Handed.{ArePlaces, AreEmpty, handed}
-use Rattle.hu_rows.specs.Places.{lists_in}
+use Rattle.hu_totals.specs.View.{lists_in}
 use Rattle.hu_search.specs.Growth.{InTable}
 use Rattle.hu_search.specs.declared.child.Child.{Child}
 use Rattle.hu_search.specs.Children.{AreEnough, IsOneOf, AreOpen, Fall, IsUpto}

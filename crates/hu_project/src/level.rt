@@ -7,7 +7,7 @@ ghost use Rattle.hu_collect.specs.State.{IsInOrder, ReachedSome};
 ghost use Rattle.hu_rows.specs.Rows.{AreCounted, count_over};
 ghost use Rattle.hu_rows.specs.Tally.{AreBelow};
 ghost use Rattle.hu_rows.specs.Handed.{AreEmpty, places_at};
-ghost use Rattle.hu_rows.specs.Places.{lists_in};
+ghost use Rattle.hu_totals.specs.View.{lists_in};
 ghost use Rattle.hu_search.specs.Growth.{Grows};
 ghost use Rattle.hu_search.specs.Children.{ranks_of};
 ghost use Rattle.hu_project.specs.Level.{IsLevel, IsBoard, IsPrepared, IsChoice};
@@ -20,6 +20,13 @@ use hu_rows::{Place, Places, Rows, Tallies, narrow};
 use hu_search::{Child, best_first, offer_children};
 use hu_totals::Ranked;
 use std::alloc::Global;
+
+/// What stays the same through a search: the allocator, and the records by the ranks of their items.
+#[derive(Drop)]
+pub(crate) struct Walk<'a> {
+    pub alloc: Global,
+    pub ranked: &'a Ranked,
+}
 
 /// What the levels of a search share: room for what rows say of each rank, and for where each rank stands.
 #[derive(Drop)]
@@ -66,24 +73,24 @@ impl<'a> Open<'a> {
 
 /// Offers the children of a set, and says what is open of it.
 pub(crate) fn open_children<'a, C: Collect>(
-    alloc: Global,
-    ranked: &Ranked,
+    walk: &Walk<'_>,
     rows: &Rows<'a>,
     arena: &'a Bump<Global>,
     ranks: &[u32],
     board: &mut Board,
     collect: &mut C,
 ) -> Result<Open<'a>, NoMemory>
-    requires rules { IsRanking ranked.now }
+    requires rules { IsRanking walk.now.ranked.now }
     requires ordered { IsInOrder (C.state collect.old) }
-    requires level { IsLevel (C.state collect.old) ranked.now ranks.now rows.now }
-    requires board { IsBoard (length ranked.now.items) board.old }
-    ensures board { OnOk result (IsBoard (length ranked.now.items) board.new) }
+    requires level { IsLevel (C.state collect.old) walk.now.ranked.now ranks.now rows.now }
+    requires board { IsBoard (length walk.now.ranked.now.items) board.old }
+    ensures board { OnOk result (IsBoard (length walk.now.ranked.now.items) board.new) }
     ensures ok { IfOk result
-        (IsPrepared (C.state collect.old) (C.state collect.new) ranked.now ranks.now) }
-    ensures err { OnErr result (ReachedSome (C.state collect.old) (Grows ranked.now ranks.now)
+        (IsPrepared (C.state collect.old) (C.state collect.new) walk.now.ranked.now ranks.now) }
+    ensures err { OnErr result (ReachedSome (C.state collect.old) (Grows walk.now.ranked.now ranks.now)
         (C.state collect.new)) }
 {
+    let Walk { alloc, ranked } = *walk;
     let met = board.tallies.tell(alloc, rows)?;
     let children = children_of(alloc, &met, &board.tallies)?;
     offer_children(alloc, ranked, ranks, &children, collect)?;

@@ -12,7 +12,7 @@ ghost use Rattle.hu_rows.specs.Handed.{ArePlaces, handed};
 ghost use Rattle.hu_search.specs.Growth.{Grows, InTable};
 ghost use Rattle.hu_project.specs.Level.{IsLevel, IsBoard, IsLater};
 
-use crate::level::{Board, open_children};
+use crate::level::{Board, Walk, open_children};
 use bumpalo::Bump;
 use hu_collect::Collect;
 use hu_kind::NoMemory;
@@ -41,8 +41,7 @@ pub fn mine<C: Collect>(alloc: Global, ranked: &Ranked, collect: &mut C) -> Resu
     let level = &*boxed;
     let rows = Rows::of(alloc, ranked, &level.arena)?;
     search(
-        alloc,
-        ranked,
+        &Walk { alloc, ranked },
         &rows,
         &level.arena,
         &mut Vec::new(alloc),
@@ -69,25 +68,24 @@ impl Level {
 /// Offers the sets that grow a set by later ranks.
 #[cycle(search)]
 fn search<'a, C: Collect>(
-    alloc: Global,
-    ranked: &Ranked,
+    walk: &Walk<'_>,
     rows: &Rows<'a>,
     arena: &'a Bump<Global>,
     ranks: &mut Vec<u32>,
     board: &mut Board,
     collect: &mut C,
 ) -> Result<(), NoMemory>
-    requires rules { IsRanking ranked.now }
+    requires rules { IsRanking walk.now.ranked.now }
     requires ordered { IsInOrder (C.state collect.old) }
-    requires level { IsLevel (C.state collect.old) ranked.now ranks.old.items rows.now }
-    requires board { IsBoard (length ranked.now.items) board.old }
-    requires rests { RestsOn (C.state collect.old).rule.table ranked.now.items }
+    requires level { IsLevel (C.state collect.old) walk.now.ranked.now ranks.old.items rows.now }
+    requires board { IsBoard (length walk.now.ranked.now.items) board.old }
+    requires rests { RestsOn (C.state collect.old).rule.table walk.now.ranked.now.items }
     ensures ranks { OnOk result (ranks.new.items ≡ ranks.old.items) }
-    ensures board { OnOk result (IsBoard (length ranked.now.items) board.new) }
-    ensures made { Searches (C.state collect.old) (Grows ranked.now ranks.old.items)
+    ensures board { OnOk result (IsBoard (length walk.now.ranked.now.items) board.new) }
+    ensures made { Searches (C.state collect.old) (Grows walk.now.ranked.now ranks.old.items)
         (C.state collect.new) result }
 {
-    let open = open_children(alloc, ranked, rows, arena, ranks, board, collect)?;
+    let open = open_children(walk, rows, arena, ranks, board, collect)?;
     'children: for at in 0..open.children.len() {
         let child = open.children[at];
         if child.bound < collect.floor() {
@@ -95,7 +93,7 @@ fn search<'a, C: Collect>(
         }
         let places = open.places[at].as_slice();
         enter(
-            alloc, ranked, &open.rows, places, child.rank, ranks, board, collect,
+            walk, &open.rows, places, child.rank, ranks, board, collect,
         )?;
     }
     Ok(())
@@ -104,8 +102,7 @@ fn search<'a, C: Collect>(
 /// Offers the sets that grow a set with one rank more, which is handed rows by places.
 #[cycle(search)]
 fn enter<C: Collect>(
-    alloc: Global,
-    ranked: &Ranked,
+    walk: &Walk<'_>,
     rows: &Rows<'_>,
     places: &[Place],
     rank: u32,
@@ -113,19 +110,20 @@ fn enter<C: Collect>(
     board: &mut Board,
     collect: &mut C,
 ) -> Result<(), NoMemory>
-    requires rules { IsRanking ranked.now }
+    requires rules { IsRanking walk.now.ranked.now }
     requires ordered { IsInOrder (C.state collect.old) }
-    requires later { IsLater ranked.now ranks.old.items rank }
+    requires later { IsLater walk.now.ranked.now ranks.old.items rank }
     requires places { ArePlaces rows.now (handed rank rows.now) places.now }
-    requires level { IsLevel (C.state collect.old) ranked.now (ranks.old.items ++ rank ∷ [])
+    requires level { IsLevel (C.state collect.old) walk.now.ranked.now (ranks.old.items ++ rank ∷ [])
         (handed rank rows.now) }
-    requires board { IsBoard (length ranked.now.items) board.old }
-    requires rests { RestsOn (C.state collect.old).rule.table ranked.now.items }
+    requires board { IsBoard (length walk.now.ranked.now.items) board.old }
+    requires rests { RestsOn (C.state collect.old).rule.table walk.now.ranked.now.items }
     ensures ranks { OnOk result (ranks.new.items ≡ ranks.old.items) }
-    ensures board { OnOk result (IsBoard (length ranked.now.items) board.new) }
-    ensures made { Searches (C.state collect.old) (Grows ranked.now (ranks.old.items ++ rank ∷ []))
+    ensures board { OnOk result (IsBoard (length walk.now.ranked.now.items) board.new) }
+    ensures made { Searches (C.state collect.old) (Grows walk.now.ranked.now (ranks.old.items ++ rank ∷ []))
         (C.state collect.new) result }
 {
+    let Walk { alloc, ranked } = *walk;
     if !opens(alloc, ranked, ranks, rank, collect)? {
         return Ok(());
     }
@@ -133,7 +131,7 @@ fn enter<C: Collect>(
     let level = &*boxed;
     let rows = rows_at(alloc, rows, places, &level.arena)?;
     ranks.push(rank)?;
-    search(alloc, ranked, &rows, &level.arena, ranks, board, collect)?;
+    search(walk, &rows, &level.arena, ranks, board, collect)?;
     ranks.pop();
     Ok(())
 }

@@ -22,29 +22,29 @@ pub offer_children-requires-clause-children : goal.offer_children-requires-claus
 offer_children-requires-clause-children g c =
     let is : AreTold c.args.rows.now c.tell.new.self c.in_ok-met.met.items = record { told = c.in_ok-met.ensures.value; noted = c.in_ok-met.ensures.met } in
     let kids = c.deref-2.ensures.value ∙ c.in_ok-children.ensures ∙ ap (flat_map (child_if c.tell.new.self)) c.deref.ensures.value in
-    subst (AreChildren c.args.ranked.now c.args.ranks.now) (sym kids) (AreChildren-told c.requires.level is)
+    subst (AreChildren c.args.walk.now.ranked.now c.args.ranks.now) (sym kids) (AreChildren-told c.requires.level is)
 
 pub returns-in_err-offer_children-clause-err : goal.returns-in_err-offer_children-clause-err
 returns-in_err-offer_children-clause-err g c =
     on_err c.from_residual-in_err-offer_children.result _
-    (offered-some c.args.ranked.now c.args.ranks.now (ranks_of c.deref-2.result.now) c.in_err-offer_children.ensures)
+    (offered-some c.args.walk.now.ranked.now c.args.ranks.now (ranks_of c.deref-2.result.now) c.in_err-offer_children.ensures)
 
 pub returns-in_err-kept-clause-err : goal.returns-in_err-kept-clause-err
 returns-in_err-kept-clause-err g c =
-    on_err c.from_residual-in_err-kept.result _ (some-offers c.args.ranked.now c.args.ranks.now (ranks_of c.deref-2.result.now) c.in_ok-offer_children.ensures)
+    on_err c.from_residual-in_err-kept.result _ (some-offers c.args.walk.now.ranked.now c.args.ranks.now (ranks_of c.deref-2.result.now) c.in_ok-offer_children.ensures)
 
 pub returns-in_err-rows-clause-err : goal.returns-in_err-rows-clause-err
 returns-in_err-rows-clause-err g c =
-    on_err c.from_residual-in_err-rows.result _ (some-offers c.args.ranked.now c.args.ranks.now (ranks_of c.deref-2.result.now) c.in_ok-offer_children.ensures)
+    on_err c.from_residual-in_err-rows.result _ (some-offers c.args.walk.now.ranked.now c.args.ranks.now (ranks_of c.deref-2.result.now) c.in_ok-offer_children.ensures)
 
 pub returns-clause-err : goal.returns-clause-err
 returns-clause-err g c =
-    on_err c.choose.result _ (some-offers c.args.ranked.now c.args.ranks.now (ranks_of c.deref-2.result.now) c.in_ok-offer_children.ensures)
+    on_err c.choose.result _ (some-offers c.args.walk.now.ranked.now c.args.ranks.now (ranks_of c.deref-2.result.now) c.in_ok-offer_children.ensures)
 
 -- what is known where the children to be entered are known
 offered_at : (g : Over) (c : In_ok-kept g)
     → AreOffered (g.C.Collect.state c.args.collect.now) (g.C.Collect.state c.offer_children.new.collect)
-    c.args.ranked.now c.args.ranks.now c.args.rows.now c.tell.new.self c.in_ok-met.met.items c.deref-2.result.now c.in_ok-kept.kept.items
+    c.args.walk.now.ranked.now c.args.ranks.now c.args.rows.now c.tell.new.self c.in_ok-met.met.items c.deref-2.result.now c.in_ok-kept.kept.items
     (to_z w128 (of_z w128 c.floor-floor.result))
 offered_at g c = record {
   level = c.requires.level;
@@ -68,9 +68,9 @@ returns-then-len-lt2-clause-ok g c =
 pub choose-requires-clause-below : goal.choose-requires-clause-below
 choose-requires-clause-below g c =
     let offered = offered_at g (goal.at.choose-requires-clause-below g c).In_ok-kept in
-    let n : length c.forget-2.new.tallies ≡ length c.args.ranked.now.items = c.forget-2.ensures.len ∙ c.in_ok-met.ensures.len ∙ c.requires.board.tallies in
+    let n : length c.forget-2.new.tallies ≡ length c.args.walk.now.ranked.now.items = c.forget-2.ensures.len ∙ c.in_ok-met.ensures.len ∙ c.requires.board.tallies in
     subst (λ m. AreBelow m c.in_ok-rows.rows) (sym n)
-    (subst (AreBelow (length c.args.ranked.now.items)) (sym c.in_ok-rows.ensures) (IsNarrow-kept offered).below)
+    (subst (AreBelow (length c.args.walk.now.ranked.now.items)) (sym c.in_ok-rows.ensures) (IsNarrow-kept offered).below)
 
 pub choose-requires-clause-counted : goal.choose-requires-clause-counted
 choose-requires-clause-counted g c =
@@ -92,7 +92,7 @@ choose-requires-clause-noted g c rank held =
 pub choose-requires-clause-kept : goal.choose-requires-clause-kept
 choose-requires-clause-kept g c =
     let offered = offered_at g (goal.at.choose-requires-clause-kept g c).In_ok-kept in
-    let n : length c.forget-2.new.tallies ≡ length c.args.ranked.now.items = c.forget-2.ensures.len ∙ c.in_ok-met.ensures.len ∙ c.requires.board.tallies in
+    let n : length c.forget-2.new.tallies ≡ length c.args.walk.now.ranked.now.items = c.forget-2.ensures.len ∙ c.in_ok-met.ensures.len ∙ c.requires.board.tallies in
     subst (λ xs. AllByRecursion (λ (child : Child). child.rank < length c.forget-2.new.tallies) xs) (sym c.deref-6.ensures.value)
     (subst (λ m. AllByRecursion (λ (child : Child). child.rank < m) c.in_ok-kept.kept.items) (sym n)
     (below-kept offered))
@@ -109,7 +109,7 @@ returns-clause-ok g c =
     let old = g.C.Collect.state c.args.collect.now in
     let mid = g.C.Collect.state c.offer_children.new.collect in
     IfOk-weaker c.choose.result (IsChoice c.in_ok-rows.rows c.deref-6.result.now (to_z w128 (of_z w128 c.floor-floor.result)))
-    (IsPrepared old mid c.args.ranked.now c.args.ranks.now)
+    (IsPrepared old mid c.args.walk.now.ranked.now c.args.ranks.now)
     (λ part choice. prepared-some offered c.in_ok-rows.rows c.in_ok-rows.ensures part
     (subst (λ ks. IsChoice c.in_ok-rows.rows ks (to_z w128 (of_z w128 c.floor-floor.result)) part) c.deref-6.ensures.value choice))
     c.choose.ensures.ok

@@ -1,6 +1,6 @@
 use Rattle.std.proofs.Common.{◌≡◌, map, take}
 use Rattle.hu_rows.specs.Handed.{places_at}
-use Rattle.hu_rows.specs.Places.{lists_in}
+use Rattle.hu_totals.specs.View.{lists_in}
 use Rattle.hu_project.proofs.level.places_of.Given as goal
 
 abbrev pub invariant-loop-child : goal.invariant-loop-child

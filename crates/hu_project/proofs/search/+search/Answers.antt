@@ -7,7 +7,7 @@ use Rattle.hu_collect.specs.State.{floor_in, IsInOrder, Reached, ReachedSome}
 use Rattle.hu_collect.specs.Ranks.{RestsOn}
 use Rattle.hu_rows.specs.declared.places.Place.{Place}
 use Rattle.hu_rows.specs.Handed.{handed, ArePlaces}
-use Rattle.hu_rows.specs.Places.{lists_in}
+use Rattle.hu_totals.specs.View.{lists_in}
 use Rattle.hu_search.specs.declared.child.Child.{Child}
 use Rattle.hu_search.specs.Growth.{Grows}
 use Rattle.hu_search.specs.Children.{IsBarren}
@@ -21,7 +21,7 @@ pub search-children-init : goal.search-children-init
 search-children-init g t c = record {
   ranks = refl;
   board = c.in_ok-open.ensures.board;
-  made = subst (λ set. IsSoFar (g.C.Collect.state c.args.collect.now) (g.C.Collect.state c.open_children.new.collect) c.args.ranked.now set c.in_ok-open.open
+  made = subst (λ set. IsSoFar (g.C.Collect.state c.args.collect.now) (g.C.Collect.state c.open_children.new.collect) c.args.walk.now.ranked.now set c.in_ok-open.open
       0) c.deref.ensures.value
       (so_far-none c.in_ok-open.ensures.ok);
 }
@@ -52,7 +52,7 @@ search-children-preserved g t c =
       ranks = c.in_ok-enter.ensures.ranks ∙ ranks;
       board = c.in_ok-enter.ensures.board;
       made = so_far-next so_far c.requires.ordered d inside
-          (subst (λ set. Reached (g.C.Collect.state c.children.collect) (Grows c.args.ranked.now set) (g.C.Collect.state c.enter.new.collect))
+          (subst (λ set. Reached (g.C.Collect.state c.children.collect) (Grows c.args.walk.now.ranked.now set) (g.C.Collect.state c.enter.new.collect))
           (λ j. ranks j ++ (same j).rank ∷ []) c.in_ok-enter.ensures.made);
     }
 
@@ -64,9 +64,9 @@ search-returns-in_err-enter-clause-made g t c =
     omega (arith, c.children-test.true, c.len-at-end.ensures, c.in_ok-open.open.children.ok) in
     let ranks = c.children.invariant.ranks in
     let so_far = c.children.invariant.made in
-    let some : ReachedSome (g.C.Collect.state c.args.collect.now) (Grows c.args.ranked.now c.args.ranks.now.items) (g.C.Collect.state c.enter.new.collect) =
+    let some : ReachedSome (g.C.Collect.state c.args.collect.now) (Grows c.args.walk.now.ranked.now c.args.ranks.now.items) (g.C.Collect.state c.enter.new.collect) =
     so_far-some so_far c.requires.ordered d inside
-    (subst (λ set. ReachedSome (g.C.Collect.state c.children.collect) (Grows c.args.ranked.now set) (g.C.Collect.state c.enter.new.collect))
+    (subst (λ set. ReachedSome (g.C.Collect.state c.children.collect) (Grows c.args.walk.now.ranked.now set) (g.C.Collect.state c.enter.new.collect))
     (λ j. ranks j ++ (same j).rank ∷ []) c.in_err-enter.ensures.made) in
     search rules
 
@@ -78,7 +78,7 @@ search-enter-requires g t c κs within =
     omega (arith, c.children-test.true, c.len-at-end.ensures, c.in_ok-open.open.children.ok) in
     let ranks = c.children.invariant.ranks in
     let so_far = c.children.invariant.made in
-    let r = c.args.ranked.now in
+    let r = c.args.walk.now.ranked.now in
     let s = g.C.Collect.state c.children.collect in
     let part = c.in_ok-open.open in
     let later : IsLater r c.children.ranks.items d.rank =
@@ -107,7 +107,7 @@ search-enter-requires g t c κs within =
 
 pub enter-search-requires : goal.enter-search-requires
 enter-search-requires g t c κs within =
-    let r = c.args.ranked.now in
+    let r = c.args.walk.now.ranked.now in
     let s = g.C.Collect.state c.args.collect.now in
     let pushed : c.push.new.self.items ≡ c.args.ranks.now.items ++ c.args.rank ∷ [] = c.in_ok-push.ensures.items in
     let rows : c.in_ok-rows.rows ≡ handed c.args.rank c.args.rows.now = c.in_ok-rows.ensures ∙ c.requires.places.give in
@@ -123,7 +123,7 @@ enter-search-requires g t c κs within =
 
 pub enter-returns-then-not-branch-clause-made : goal.enter-returns-then-not-branch-clause-made
 enter-returns-then-not-branch-clause-made g t c =
-    let barren : IsBarren (g.C.Collect.state c.args.collect.now) c.args.ranked.now (c.args.ranks.now.items ++ c.args.rank ∷ []) =
-    subst (λ set. IsBarren (g.C.Collect.state c.args.collect.now) c.args.ranked.now (set ++ c.args.rank ∷ [])) c.deref.ensures.value
+    let barren : IsBarren (g.C.Collect.state c.args.collect.now) c.args.walk.now.ranked.now (c.args.ranks.now.items ++ c.args.rank ∷ []) =
+    subst (λ set. IsBarren (g.C.Collect.state c.args.collect.now) c.args.walk.now.ranked.now (set ++ c.args.rank ∷ [])) c.deref.ensures.value
     (c.in_ok-opens.ensures c.if-not-branch.true) in
-    barren-reached (g.C.Collect.state c.args.collect.now) c.args.ranked.now (c.args.ranks.now.items ++ c.args.rank ∷ []) c.requires.ordered barren
+    barren-reached (g.C.Collect.state c.args.collect.now) c.args.walk.now.ranked.now (c.args.ranks.now.items ++ c.args.rank ∷ []) c.requires.ordered barren
