@@ -19,4 +19,3 @@ pub use gate::{Gate, NoGate};
 pub use laws::{law_of_floors, law_of_low_entries, law_of_members, law_of_turns};
 pub use limited::Limited;
 pub use top::Top;
-

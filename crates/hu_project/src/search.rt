@@ -92,9 +92,7 @@ fn search<'a, C: Collect>(
             return Ok(());
         }
         let places = open.places[at].as_slice();
-        enter(
-            walk, &open.rows, places, child.rank, ranks, board, collect,
-        )?;
+        enter(walk, &open.rows, places, child.rank, ranks, board, collect)?;
     }
     Ok(())
 }
