@@ -16,7 +16,6 @@ use Rattle.hu_kind.proofs.lemmas.Members.{Member, Member-map, Member-from_map, M
 use Rattle.hu_kind.proofs.lemmas.Members.{Member-from_contains, Contains-from_member}
 use Rattle.hu_kind.proofs.lemmas.Occurring.{by_members}
 use Rattle.hu_totals.specs.Ranked.{Ranking}
-use Rattle.hu_collect.specs.Rule.{passes}
 use Rattle.hu_collect.specs.State.{State, floor_in}
 use Rattle.hu_rows.specs.declared.tally.Tally.{Tally}
 use Rattle.hu_rows.specs.Rows.{RowOf, AreRows, count_over}

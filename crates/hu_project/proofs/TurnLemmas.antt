@@ -7,12 +7,11 @@ use Rattle.hu_kind.proofs.lemmas.Each.{each-get}
 use Rattle.hu_kind.proofs.lemmas.Ascending.{few-from}
 use Rattle.hu_totals.specs.Ranked.{Ranking}
 use Rattle.hu_collect.specs.State.{State, floor_in, IsInOrder, Reached, ReachedSome}
-use Rattle.hu_collect.proofs.lemmas.Searching.{reached-rule, reached-floor, reached-in_order, reached-none}
+use Rattle.hu_collect.proofs.lemmas.Searching.{reached-rule, reached-floor, reached-in_order}
 use Rattle.hu_rows.specs.Handed.{handed, ArePlaces}
 use Rattle.hu_totals.specs.View.{lists_in}
 use Rattle.hu_search.specs.declared.child.Child.{Child}
 use Rattle.hu_search.specs.Growth.{Grows}
-use Rattle.hu_search.specs.Children.{IsBarren}
 use Rattle.hu_search.proofs.lemmas.Children.{upto-none, upto-next, upto-some, upto-all}
 use Rattle.hu_project.specs.declared.level.Open.{Open}
 use Rattle.hu_project.specs.Level.{IsLater, IsLevel, IsPrepared, IsSoFar}

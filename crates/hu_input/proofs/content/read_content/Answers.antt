@@ -1,4 +1,4 @@
-use Rattle.std.proofs.Common.{◌≡◌, ℕ, ◌≤◌, sym, subst, arith, inl, inr, length}
+use Rattle.std.proofs.Common.{◌≡◌, ◌≤◌, sym, subst, arith, inl, inr, length}
 use Rattle.std.specs.Prelude.{◌⊎◌}
 use Rattle.hu_input.specs.Content.{HasContent}
 use Rattle.hu_input.proofs.ContentLemmas.{has-content}

@@ -1,4 +1,4 @@
-use Rattle.std.proofs.Common.{◌≡◌, ◌<◌, ◌∙◌, ℕ, [], ◌∷◌, int_le, length, ap, sym, subst, arith, to_z, of_z, Contains, Result, Ok, Err, OnErr, rules}
+use Rattle.std.proofs.Common.{◌≡◌, ◌<◌, ◌∙◌, ℕ, [], ◌∷◌, int_le, length, ap, sym, subst, arith, to_z, of_z, Contains, rules}
 use Rattle.std.specs.Int.{w128}
 use Rattle.std.specs.List.{AllByRecursion, filter, flat_map}
 use Rattle.std.proofs.lemmas.Int.{to_z-of_z}
