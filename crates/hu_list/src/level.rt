@@ -57,7 +57,8 @@ pub(crate) fn children<C: Collect, G: Gate>(
     requires rules { IsRanking walk.now.ranked.now }
     requires table { InTable walk.now.ranked.now ranks.now }
     requires left { IsLeft walk.now.ranked.now ranks.now (tails_of tails.now) }
-    requires enough { AreEnough (C.state collect.now) walk.now.ranked.now ranks.now board.old.kept.ranks }
+    requires enough { AreEnough
+        (C.state collect.now) walk.now.ranked.now ranks.now board.old.kept.ranks }
     requires floor { G.floor walk.now.gate.now ≤ℤ floor_in (C.state collect.now) }
     requires right { G.IsRightFor walk.now.gate.now walk.now.ranked.now.records }
     requires kept_room { board.old.kept.room ≡ length walk.now.ranked.now.items }

@@ -25,8 +25,8 @@ pub fn average_entries(
     requires fit { sum_by absolute_of (records_in batches.items) < 2 ^ 127 }
     requires least { pos 1 ≤ℤ wanted.least }
     requires some { IfSome wanted.top (λ k. 1 ≤ k) }
-    ensures { IfOk result
-        (λ entries. entries.items ≡ average_answer (records_in batches.items) wanted.least wanted.top) }
+    ensures { IfOk result (λ entries. entries.items
+        ≡ average_answer (records_in batches.items) wanted.least wanted.top) }
 {
     let base = joined(alloc, batches)?;
     match wanted.engine {
@@ -42,7 +42,8 @@ pub fn average_entries(
 fn ranked_average(alloc: Global, base: Base<Record>, wanted: Wanted) -> Result<Vec<Entry>, NoMemory>
     requires least { pos 1 ≤ℤ wanted.least }
     requires some { IfSome wanted.top (λ k. 1 ≤ k) }
-    ensures { IfOk result (λ entries. entries.items ≡ average_answer (records_of base) wanted.least wanted.top) }
+    ensures { IfOk result (λ entries. entries.items
+        ≡ average_answer (records_of base) wanted.least wanted.top) }
 {
     let totals = Totals::of(alloc, &base)?;
     let ranked = Ranked::ordered(alloc, &base, &totals, wanted.least, RankOrder::Value)?;

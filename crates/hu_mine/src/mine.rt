@@ -36,8 +36,8 @@ pub fn item_entries(
     requires fit { sum_by absolute_of (records_in batches.items) < 2 ^ 127 }
     requires least { pos 1 ≤ℤ wanted.least }
     requires some { IfSome wanted.top (λ k. 1 ≤ k) }
-    ensures { IfOk result
-        (λ entries. entries.items ≡ item_answer (records_in batches.items) wanted.least wanted.top) }
+    ensures { IfOk result (λ entries. entries.items
+        ≡ item_answer (records_in batches.items) wanted.least wanted.top) }
 {
     match wanted.engine {
         Engine::Kept => kept_entries(alloc, batches, wanted, false),
@@ -59,8 +59,8 @@ pub fn closed_entries(
     requires fit { sum_by absolute_of (records_in batches.items) < 2 ^ 127 }
     requires least { pos 1 ≤ℤ wanted.least }
     requires some { IfSome wanted.top (λ k. 1 ≤ k) }
-    ensures { IfOk result
-        (λ entries. entries.items ≡ closed_answer (records_in batches.items) wanted.least wanted.top) }
+    ensures { IfOk result (λ entries. entries.items
+        ≡ closed_answer (records_in batches.items) wanted.least wanted.top) }
 {
     match wanted.engine {
         Engine::Kept => kept_entries(alloc, batches, wanted, true),
@@ -81,8 +81,8 @@ pub fn sequence_entries(
         < 2 ^ 127 }
     requires least { pos 1 ≤ℤ wanted.least }
     requires some { IfSome wanted.top (λ k. 1 ≤ k) }
-    ensures { IfOk result (λ entries. entries.items ≡ sequence_answer
-        (records_in batches.items) wanted.least wanted.top) }
+    ensures { IfOk result (λ entries. entries.items
+        ≡ sequence_answer (records_in batches.items) wanted.least wanted.top) }
 {
     let base = joined(alloc, batches)?;
     let mut collect = Limited::new(alloc, wanted.top, wanted.least);
@@ -94,7 +94,8 @@ pub fn sequence_entries(
 fn plain_items(alloc: Global, base: &Base<Record>, wanted: Wanted) -> Result<Vec<Entry>, NoMemory>
     requires least { pos 1 ≤ℤ wanted.least }
     requires some { IfSome wanted.top (λ k. 1 ≤ k) }
-    ensures { IfOk result (λ entries. entries.items ≡ item_answer (records_of base.now) wanted.least wanted.top) }
+    ensures { IfOk result (λ entries. entries.items
+        ≡ item_answer (records_of base.now) wanted.least wanted.top) }
 {
     let mut collect = Limited::new(alloc, wanted.top, wanted.least);
     mine_items(alloc, base, &mut collect)?;
@@ -105,7 +106,8 @@ fn plain_items(alloc: Global, base: &Base<Record>, wanted: Wanted) -> Result<Vec
 fn ranked_items(alloc: Global, base: Base<Record>, wanted: Wanted) -> Result<Vec<Entry>, NoMemory>
     requires least { pos 1 ≤ℤ wanted.least }
     requires some { IfSome wanted.top (λ k. 1 ≤ k) }
-    ensures { IfOk result (λ entries. entries.items ≡ item_answer (records_of base) wanted.least wanted.top) }
+    ensures { IfOk result (λ entries. entries.items
+        ≡ item_answer (records_of base) wanted.least wanted.top) }
 {
     let totals = Totals::of(alloc, &base)?;
     let Wanted { engine, least, top } = wanted;
@@ -125,7 +127,8 @@ fn items_from(
     requires floor { ranked.now.floor ≤ℤ wanted.least }
     requires least { pos 1 ≤ℤ wanted.least }
     requires some { IfSome wanted.top (λ k. 1 ≤ k) }
-    ensures { IfOk result (λ entries. entries.items ≡ item_answer (records_of base) wanted.least wanted.top) }
+    ensures { IfOk result (λ entries. entries.items
+        ≡ item_answer (records_of base) wanted.least wanted.top) }
 {
     let mut collect = Limited::new(alloc, wanted.top, wanted.least);
     search(alloc, base, ranked, wanted.engine, &mut collect)?;
@@ -136,7 +139,8 @@ fn items_from(
 fn ranked_closed(alloc: Global, base: Base<Record>, wanted: Wanted) -> Result<Vec<Entry>, NoMemory>
     requires least { pos 1 ≤ℤ wanted.least }
     requires some { IfSome wanted.top (λ k. 1 ≤ k) }
-    ensures { IfOk result (λ entries. entries.items ≡ closed_answer (records_of base) wanted.least wanted.top) }
+    ensures { IfOk result (λ entries. entries.items
+        ≡ closed_answer (records_of base) wanted.least wanted.top) }
 {
     let totals = Totals::of(alloc, &base)?;
     let ranked = Ranked::ordered(alloc, &base, &totals, wanted.least, RankOrder::Value)?;
@@ -158,7 +162,8 @@ fn closed_from(
     requires floor { ranked.now.floor ≤ℤ wanted.least }
     requires least { pos 1 ≤ℤ wanted.least }
     requires some { IfSome wanted.top (λ k. 1 ≤ k) }
-    ensures { IfOk result (λ entries. entries.items ≡ closed_answer (records_of base) wanted.least wanted.top) }
+    ensures { IfOk result (λ entries. entries.items
+        ≡ closed_answer (records_of base) wanted.least wanted.top) }
 {
     let limited = Limited::new(alloc, wanted.top, wanted.least);
     let mut collect = ClosedOnly::new(limited, sets, ranked);

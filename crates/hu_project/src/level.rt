@@ -87,8 +87,8 @@ pub(crate) fn open_children<'a, C: Collect>(
     ensures board { OnOk result (IsBoard (length walk.now.ranked.now.items) board.new) }
     ensures ok { IfOk result
         (IsPrepared (C.state collect.old) (C.state collect.new) walk.now.ranked.now ranks.now) }
-    ensures err { OnErr result (ReachedSome (C.state collect.old) (Grows walk.now.ranked.now ranks.now)
-        (C.state collect.new)) }
+    ensures err { OnErr result (ReachedSome (C.state collect.old)
+        (Grows walk.now.ranked.now ranks.now) (C.state collect.new)) }
 {
     let Walk { alloc, ranked } = *walk;
     let met = board.tallies.tell(alloc, rows)?;

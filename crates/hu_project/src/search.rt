@@ -112,14 +112,14 @@ fn enter<C: Collect>(
     requires ordered { IsInOrder (C.state collect.old) }
     requires later { IsLater walk.now.ranked.now ranks.old.items rank }
     requires places { ArePlaces rows.now (handed rank rows.now) places.now }
-    requires level { IsLevel (C.state collect.old) walk.now.ranked.now (ranks.old.items ++ rank ∷ [])
-        (handed rank rows.now) }
+    requires level { IsLevel (C.state collect.old) walk.now.ranked.now
+        (ranks.old.items ++ rank ∷ []) (handed rank rows.now) }
     requires board { IsBoard (length walk.now.ranked.now.items) board.old }
     requires rests { RestsOn (C.state collect.old).rule.table walk.now.ranked.now.items }
     ensures ranks { OnOk result (ranks.new.items ≡ ranks.old.items) }
     ensures board { OnOk result (IsBoard (length walk.now.ranked.now.items) board.new) }
-    ensures made { Searches (C.state collect.old) (Grows walk.now.ranked.now (ranks.old.items ++ rank ∷ []))
-        (C.state collect.new) result }
+    ensures made { Searches (C.state collect.old)
+        (Grows walk.now.ranked.now (ranks.old.items ++ rank ∷ [])) (C.state collect.new) result }
 {
     let Walk { alloc, ranked } = *walk;
     if !opens(alloc, ranked, ranks, rank, collect)? {
