@@ -1,6 +1,6 @@
 -- Steps over the places of a prefix, and that their sums fit.
 use Rattle.std.proofs.Common.{◌≡◌, ℕ, zero, suc, ◌+◌, ◌<◌, ◌≤◌, ◌^◌, Bool, true, false, cond, eqb, ℤ, pos, ◌+ℤ◌, ◌≤ℤ◌, unsigned_abs, Option, None, Some, List}
-use Rattle.std.proofs.Common.{[], ◌∷◌, ◌++◌, length, take, drop, get_or, refl, sym, ap, ◌∙◌, subst, inl, inr, arith}
+use Rattle.std.proofs.Common.{[], ◌∷◌, ◌++◌, length, take, drop, get_or, refl, sym, ap, ◌∙◌, subst, sum_by, inl, inr, arith}
 use Rattle.std.proofs.lemmas.Bool.{eq-eqb, ne_eqb, cases_Bool, cases_eq}
 use Rattle.std.proofs.lemmas.Int.{ints}
 use Rattle.std.proofs.lemmas.List.{drop_more, take_more, map-append}
@@ -52,12 +52,22 @@ pub at-place : (later : List ℕ) (places : List Place) (i : ℕ) (d : Place) �
     → AtPlace later (place_of (get_or places i d))
 at-place later [] i d room within = absurd (omega arith)
 at-place later (p ∷ ps) zero d room within =
-    record { roomy = room.each.0; rises = room.rises.0; fits = omega (arith, room.sum, sum_by-cons (λ (q : PlaceOf). absolute_of q.0) (place_of p) (places_of ps)) }
+    record {
+      roomy = room.each.0;
+      rises = room.rises.0;
+      fits = omega (arith, room.sum, sum_by-cons (λ (q : PlaceOf). absolute_of q.0) (place_of p) (places_of ps));
+    }
 at-place later (p ∷ ps) (suc i) d room within = at-place later ps i d (HasRoom-tail later (place_of p) (places_of ps) room) (omega arith)
 
 pub places-drop : (places : List Place) (i : ℕ) (d : Place) → i < length places
     → places_of (drop i places) ≡ place_of (get_or places i d) ∷ places_of (drop (i + 1) places)
 places-drop places i d within = ap places_of (drop_more places i d within)
+
+pub sizes-drop : (places : List Place) (i : ℕ) (d : Place) → i < length places
+    → sum_by (λ (p : PlaceOf). absolute_of p.0) (places_of (drop i places))
+    ≡ absolute_of (place_of (get_or places i d)).0 + sum_by (λ (p : PlaceOf). absolute_of p.0) (places_of (drop (i + 1) places))
+sizes-drop places i d within = ap (sum_by (λ (p : PlaceOf). absolute_of p.0)) (places-drop places i d within)
+    ∙ sum_by-cons (λ (p : PlaceOf). absolute_of p.0) (place_of (get_or places i d)) (places_of (drop (i + 1) places))
 
 pub places-take : (places : List Place) (i : ℕ) (d : Place) → i < length places
     → places_of (take (i + 1) places) ≡ places_of (take i places) ++ place_of (get_or places i d) ∷ []

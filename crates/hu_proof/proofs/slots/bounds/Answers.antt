@@ -1,17 +1,15 @@
-use Rattle.std.proofs.Common.{◌≡◌, ◌+◌, ◌+ℤ◌, ◌<◌, ℕ, pos, [], get_or, drop, length, unsigned_abs, ap, ◌∙◌, sum_by, arith}
+use Rattle.std.proofs.Common.{◌≡◌, ◌+◌, ◌+ℤ◌, ◌<◌, ℕ, pos, [], get_or, drop, length, unsigned_abs, ap, ◌∙◌, arith}
 use Rattle.std.proofs.lemmas.Int.{ints}
 use Rattle.std.proofs.lemmas.List.{length-replicate, get_or-replicate}
-use Rattle.std.proofs.lemmas.List.Sums.{sum_by-cons}
-use Rattle.hu_kind.specs.Record.{absolute_of}
 use Rattle.hu_proof.specs.declared.place.Place.{Place}
-use Rattle.hu_proof.specs.Places.{PlaceOf, place_of, places_of}
+use Rattle.hu_proof.specs.Places.{place_of, places_of}
 use Rattle.hu_proof.specs.Slots.{bound_at, share_at, shares_at}
-use Rattle.hu_proof.proofs.PlaceLemmas.{at-place, places-drop}
+use Rattle.hu_proof.proofs.PlaceLemmas.{at-place, places-drop, sizes-drop}
 use Rattle.hu_proof.proofs.SlotLemmas.{share-within}
 use Rattle.hu_proof.proofs.slots.bounds.Goals as goal
 
 -- a place past the end
-no_place : Place
+abbrev no_place : Place
 no_place = record { cells = record { ref_ptr = (0, 0); now = [] }; own = pos 0 }
 
 pub loop-place-init : goal.loop-place-init
@@ -28,47 +26,35 @@ loop-place-init c =
     }
 
 pub add_place-requires-clause-ascending : goal.add_place-requires-clause-ascending
-unfolding no_place
 add_place-requires-clause-ascending c =
-    let at = at-place c.args.named.now c.args.places.now c.loop-place.place-index no_place c.requires.room c.loop-place-test.true in
-    at.rises
+    (at-place c.args.named.now c.args.places.now c.loop-place.place-index no_place c.requires.room c.loop-place-test.true).rises
 
 pub add_place-requires-clause-roomy : goal.add_place-requires-clause-roomy
-unfolding no_place
 add_place-requires-clause-roomy c =
-    let at = at-place c.args.named.now c.args.places.now c.loop-place.place-index no_place c.requires.room c.loop-place-test.true in
-    at.roomy
+    (at-place c.args.named.now c.args.places.now c.loop-place.place-index no_place c.requires.room c.loop-place-test.true).roomy
 
 pub add_place-requires-clause-small : goal.add_place-requires-clause-small
-unfolding no_place
 add_place-requires-clause-small c =
-    let at = at-place c.args.named.now c.args.places.now c.loop-place.place-index no_place c.requires.room c.loop-place-test.true in
-    at.fits
+    (at-place c.args.named.now c.args.places.now c.loop-place.place-index no_place c.requires.room c.loop-place-test.true).fits
 
 pub add_place-requires-clause-fits : goal.add_place-requires-clause-fits
-unfolding no_place
 add_place-requires-clause-fits c slot low =
     let places = c.args.places.now in
     let i = c.loop-place.place-index in
-    let same = places-drop places i no_place c.loop-place-test.true in
-    let sizes = ap (sum_by (λ (p : PlaceOf). absolute_of p.0)) same
-    ∙ sum_by-cons (λ (p : PlaceOf). absolute_of p.0) (place_of (get_or places i no_place)) (places_of (drop (i + 1) places)) in
+    let sizes = sizes-drop places i no_place c.loop-place-test.true in
     omega (arith, sizes, c.loop-place.invariant.fits slot low)
 
 pub loop-place-preserved : goal.loop-place-preserved
-unfolding no_place
 loop-place-preserved c =
     let named = c.args.named.now in
     let places = c.args.places.now in
     let i = c.loop-place.place-index in
     let at = at-place named places i no_place c.requires.room c.loop-place-test.true in
     let place = place_of (get_or places i no_place) in
-    let same = places-drop places i no_place c.loop-place-test.true in
-    let sizes = ap (sum_by (λ (p : PlaceOf). absolute_of p.0)) same
-    ∙ sum_by-cons (λ (p : PlaceOf). absolute_of p.0) place (places_of (drop (i + 1) places)) in
+    let sizes = sizes-drop places i no_place c.loop-place-test.true in
     let more : (slot : ℕ) → shares_at named (places_of (drop i places)) slot
     ≡ share_at named place slot +ℤ shares_at named (places_of (drop (i + 1) places)) slot =
-    λ slot. ap (λ ps. shares_at named ps slot) same in
+    λ slot. ap (λ ps. shares_at named ps slot) (places-drop places i no_place c.loop-place-test.true) in
     record {
       len = c.in_ok-add_place.ensures.len;
       value = λ slot low. omega (arith, ints, more slot, c.in_ok-add_place.ensures.value slot low, c.loop-place.invariant.value slot low);
