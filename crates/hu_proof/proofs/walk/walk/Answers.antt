@@ -20,6 +20,7 @@ use Rattle.hu_proof.specs.Words.{numbers_of}
 use Rattle.hu_proof.proofs.LineLemmas.{judged-same}
 use Rattle.hu_proof.proofs.TurnLemmas.{root-node, room-node, walk-end, walk-fault, judges-err, some-pieces}
 use Rattle.hu_proof.proofs.TurnLemmas.{length-numbers, passed, turned, entry-held, offered-more}
+use Rattle.hu_proof.proofs.walk.walk.Goals.{At-lines, In-Some-cut}
 use Rattle.hu_proof.proofs.walk.walk.Goals as goal
 
 pub lines-init : goal.lines-init
@@ -45,6 +46,31 @@ lines-init c =
       found = ([], c.new-3.ensures, refl);
     }
 
+-- the fault of what is left is that of the text
+left_at : (c : At-lines)
+    → let path = numbers_of c.lines.progress.path.items in
+    let stack = stack_of c.lines.progress.waiting.items in
+    walk (records_of c.args.base.now) c.args.least c.lines.number (nodes_now c.args.order.now path stack c.lines.current) (pieces c.lines.rest.now)
+    ≡ walk (records_of c.args.base.now) c.args.least 3 (root c.args.order.now ∷ []) (pieces c.args.text.now)
+left_at c =
+    let records = records_of c.args.base.now in
+    let nodes = nodes_now c.args.order.now (numbers_of c.lines.progress.path.items) (stack_of c.lines.progress.waiting.items) c.lines.current in
+    subst (λ m. walk records m c.lines.number nodes (pieces c.lines.rest.now) ≡ walk records m 3 (root c.args.order.now ∷ []) (pieces c.args.text.now))
+    (to_z-of_z w128 c.args.least c.ranges.least) c.lines.invariant.walks
+
+-- the same of the line that is cut off, at the node at hand, with what follows it
+line_at : (c : In-Some-cut)
+    → let path = numbers_of c.lines.progress.path.items in
+    let nodes = nodes_of c.args.order.now path (stack_of c.lines.progress.waiting.items) in
+    walk (records_of c.args.base.now) c.args.least c.lines.number (node_at c.args.order.now path c.in-Some.node.from ∷ nodes)
+    (c.in-Some-cut.text.now ∷ pieces c.in-Some-cut.more.now)
+    ≡ walk (records_of c.args.base.now) c.args.least 3 (root c.args.order.now ∷ []) (pieces c.args.text.now)
+line_at c =
+    let nodes = nodes_now c.args.order.now (numbers_of c.lines.progress.path.items) (stack_of c.lines.progress.waiting.items) in
+    let walked = walk (records_of c.args.base.now) c.args.least c.lines.number in
+    sym (ap (λ current. walked (nodes current) (pieces c.lines.rest.now)) c.in-Some.is ∙ ap (walked (nodes (Some c.in-Some.node))) c.in-Some-cut.ensures.found)
+    ∙ left_at (goal.at.In-Some-cut c).At-lines
+
 pub visit-requires-clause-room : goal.visit-requires-clause-room
 visit-requires-clause-room c =
     let records = records_of c.args.base.now in
@@ -61,24 +87,16 @@ returns-in_err-visit-clause-fault c =
     let least = c.args.least in
     let node = c.in-Some.node in
     let places = places_of node.places.items in
-    let xs = c.lines.progress.path.items in
+    let path = numbers_of c.lines.progress.path.items in
     let stack = stack_of c.lines.progress.waiting.items in
-    let whole = walk records least 3 (root order ∷ []) (pieces c.args.text.now) in
-    let back = to_z-of_z w128 least c.ranges.least in
     let e = c.in_err-visit.field-0.0 in
-    let stands = subst (Stands records order (numbers_of xs) stack) c.in-Some.is c.lines.invariant.stands in
-    let before = subst (λ m. walk records m c.lines.number (nodes_now order (numbers_of xs) stack c.lines.current) (pieces c.lines.rest.now) ≡ walk records
-    m 3 (root order ∷ []) (pieces c.args.text.now)) back c.lines.invariant.walks in
-    let here = subst (λ current. walk records least c.lines.number (nodes_now order (numbers_of xs) stack current) (pieces c.lines.rest.now) ≡ whole)
-    c.in-Some.is before in
-    let line = subst (λ ps. walk records least c.lines.number (node_at order (numbers_of xs) node.from ∷ nodes_of order (numbers_of xs) stack) ps ≡ whole)
-    c.in-Some-cut.ensures.found here in
-    let same = subst (λ m. (e ≡ NoMemory) ⊎ (line_fault_at m c.lines.number (node_at order (numbers_of xs) node.from) places
-    (said_of c.in-Some-cut.text.now) ≡ Some e)) back c.in_err-visit.ensures.fault in
-    let walked = walk-fault records least c.lines.number order (numbers_of xs) node.from places (nodes_of order (numbers_of xs) stack)
-    c.in-Some-cut.text.now (pieces c.in-Some-cut.more.now) e stands.0
-    (some-pieces c.in-Some-cut.more.now) same in
-    judges-err c.from_residual-in_err-visit.result e whole c.from_residual-in_err-visit.ensures (judged-same e whole _ (sym line) walked)
+    let stands = subst (Stands records order path stack) c.in-Some.is c.lines.invariant.stands in
+    let same = subst (λ m. (e ≡ NoMemory) ⊎ (line_fault_at m c.lines.number (node_at order path node.from) places (said_of c.in-Some-cut.text.now) ≡ Some e))
+    (to_z-of_z w128 least c.ranges.least) c.in_err-visit.ensures.fault in
+    let walked = walk-fault records least c.lines.number order path node.from places (nodes_of order path stack) c.in-Some-cut.text.now
+    (pieces c.in-Some-cut.more.now) e stands.0 (some-pieces c.in-Some-cut.more.now) same in
+    judges-err c.from_residual-in_err-visit.result e _ c.from_residual-in_err-visit.ensures
+    (judged-same e _ _ (sym (line_at (goal.at.returns-in_err-visit-clause-fault c).In-Some-cut)) walked)
 
 pub lines-preserved : goal.lines-preserved
 lines-preserved c =
@@ -93,15 +111,8 @@ lines-preserved c =
     let stack1 = stack_of c.visit.new.progress.waiting.items in
     let text = c.in-Some-cut.text.now in
     let more = c.in-Some-cut.more.now in
-    let whole = walk records least 3 (root order ∷ []) (pieces c.args.text.now) in
     let back = to_z-of_z w128 least c.ranges.least in
     let stands = subst (Stands records order path stack) c.in-Some.is c.lines.invariant.stands in
-    let before = subst (λ m. walk records m c.lines.number (nodes_now order path stack c.lines.current) (pieces c.lines.rest.now) ≡ walk records m 3
-    (root order ∷ []) (pieces c.args.text.now)) back c.lines.invariant.walks in
-    let here = subst (λ current. walk records least c.lines.number (nodes_now order path stack current) (pieces c.lines.rest.now) ≡ whole) c.in-Some.is
-    before in
-    let line = subst (λ ps. walk records least c.lines.number (node_at order path node.from ∷ nodes_of order path stack) ps ≡ whole)
-    c.in-Some-cut.ensures.found here in
     let none = subst (λ m. line_fault_at m c.lines.number (node_at order path node.from) places (said_of text) ≡ None) back
     c.in_ok-visit.ensures.fault in
     let told = c.in_ok-visit.ensures.pushed in
@@ -119,7 +130,8 @@ lines-preserved c =
       stands = turn.stands;
       walks = subst (λ m. walk records m (c.lines.number + 1) (nodes_now order path2 stack2 c.in_ok-current.current) (pieces more)
           ≡ walk records m 3 (root order ∷ []) (pieces c.args.text.now)) (sym back)
-          (ap (λ ns. walk records least (c.lines.number + 1) ns (pieces more)) (sym turn.nodes) ∙ (sym pass.walks ∙ line));
+          (ap (λ ns. walk records least (c.lines.number + 1) ns (pieces more)) (sym turn.nodes)
+          ∙ (sym pass.walks ∙ line_at (goal.at.lines-preserved c).In-Some-cut));
       found = (
         done ++ path ∷ [],
         subst (λ found. all_state found ≡ offered (fresh (to_z w128 (of_z w128 least)) None) (map (prefix_entry records) (done ++ path ∷ [])))
@@ -140,12 +152,8 @@ returns-else-is_empty-clause-fault c =
     let least = c.args.least in
     let path = numbers_of c.lines.progress.path.items in
     let stack = stack_of c.lines.progress.waiting.items in
-    let whole = walk records least 3 (root order ∷ []) (pieces c.args.text.now) in
-    let back = to_z-of_z w128 least c.ranges.least in
     let empty : stack ≡ [] = subst (Stands records order path stack) c.in_default.is c.lines.invariant.stands in
-    let before = subst (λ m. walk records m c.lines.number (nodes_now order path stack c.lines.current) (pieces c.lines.rest.now) ≡ walk records m 3
-    (root order ∷ []) (pieces c.args.text.now)) back c.lines.invariant.walks in
-    let here = subst (λ current. walk records least c.lines.number (nodes_now order path stack current) (pieces c.lines.rest.now) ≡ whole) c.in_default.is
-    before in
-    let line = subst (λ s. walk records least c.lines.number (nodes_of order path s) (pieces c.lines.rest.now) ≡ whole) empty here in
-    inr (sym line ∙ walk-end records least c.lines.number c.lines.rest.now (eqb-false (length c.lines.rest.now) 0 (sym c.if-is_empty.ensures)))
+    let none : nodes_now order path stack c.lines.current ≡ [] = ap (nodes_now order path stack) c.in_default.is ∙ ap (nodes_of order path) empty in
+    inr (sym (left_at (goal.at.returns-else-is_empty-clause-fault c).At-lines)
+    ∙ ap (λ nodes. walk records least c.lines.number nodes (pieces c.lines.rest.now)) none
+    ∙ walk-end records least c.lines.number c.lines.rest.now (eqb-false (length c.lines.rest.now) 0 (sym c.if-is_empty.ensures)))
