@@ -1,7 +1,6 @@
 mod SpotLemmas
 mod SlotLemmas
 mod ListLemmas
-mod OrderLemmas
 mod RankLemmas
 mod TextLemmas
 mod NodeLemmas

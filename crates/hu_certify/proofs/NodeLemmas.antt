@@ -15,7 +15,7 @@ use Rattle.hu_kind.specs.Record.{has, holds, value_of, values_of, gain, positive
 use Rattle.hu_kind.proofs.lemmas.Members.{Member, Member-append_left, Member-append_right, Member-append_cases}
 use Rattle.hu_kind.proofs.lemmas.Occurring.{at_member, by_members, holds-append, values_of-append}
 use Rattle.hu_proof.specs.Bounds.{is_among, later_gain, cut_bound, stands_with}
-use Rattle.hu_proof.proofs.lemmas.OrderMembers.{among-member, not_among}
+use Rattle.hu_proof.proofs.lemmas.OrderMembers.{not_among}
 use Rattle.hu_totals.specs.Ranked.{cells_from, item_at}
 use Rattle.hu_totals.proofs.lemmas.DenseLemmas.{ranks_from}
 use Rattle.hu_totals.proofs.lemmas.RecordCells.{has-below}
