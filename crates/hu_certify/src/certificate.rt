@@ -18,6 +18,20 @@ use hu_kind::{Item, Record};
 use hu_totals::{RankOrder, Totals, items_by_weight};
 use std::alloc::Global;
 
+/// What every line is written by: the items by rank, and the minimum.
+#[derive(Clone, Copy)]
+struct Terms<'a> {
+    items: &'a [Item],
+    least: i128,
+}
+
+/// The text so far, and the prefix whose lines are to come, with a space in front of each item.
+#[derive(Drop)]
+struct Draft {
+    text: Vec<u8>,
+    prefix: Vec<u8>,
+}
+
 /// The certificate of a base at a minimum: a text from which hu_proof's check finds that the answer of the task `items` over
 /// the base is whole. It is refused where it has more than 268,435,456 bytes.
 ///
@@ -41,51 +55,57 @@ pub fn certify(alloc: Global, base: &Base<Record>, least: i128) -> Result<Vec<u8
     let mut text = Vec::new(alloc);
     push_minimum(&mut text, least)?;
     push_order(&mut text, items.as_slice())?;
-    let mut prefix = Vec::new(alloc);
+    let mut draft = Draft {
+        text,
+        prefix: Vec::new(alloc),
+    };
     let mut table = table_of(alloc, items.len())?;
-    put_prefix(
-        alloc,
-        &mut text,
-        &mut prefix,
-        &mut table,
-        items.as_slice(),
-        &places,
+    let terms = Terms {
+        items: items.as_slice(),
         least,
-    )?;
-    Ok(text)
+    };
+    put_prefix(alloc, terms, &mut draft, &mut table, &places)?;
+    Ok(draft.text)
 }
 
-/// Writes the line of a prefix and all lines below it. The prefix is written with a space in front of each item.
+/// Writes the line of the draft's prefix and all lines below it.
 fn put_prefix<'a>(
     alloc: Global,
-    text: &mut Vec<u8>,
-    prefix: &mut Vec<u8>,
+    terms: Terms<'_>,
+    draft: &mut Draft,
     table: &mut Table<'a>,
-    items: &[Item],
     places: &[Place<'a>],
-    least: i128,
 ) -> Result<(), CertFault>
     requires room { HasRoom (spots_of places.now) }
-    requires ranks { AreRanks (length items.now) (spots_of places.now) }
+    requires ranks { AreRanks (length terms.items.now) (spots_of places.now) }
     requires ascending { AreAscending (spots_of places.now) }
-    requires rest { IsAtRest (length items.now) table.old }
-    ensures rest { OnOk result (IsAtRest (length items.now) table.new) }
-    ensures prefix { OnOk result (prefix.new.items ≡ prefix.old.items) }
-    ensures short { OnOk result (length text.new.items ≤ 268435456) }
+    requires rest { IsAtRest (length terms.items.now) table.old }
+    ensures rest { OnOk result (IsAtRest (length terms.entry.items.now) table.new) }
+    ensures prefix { OnOk result (draft.new.prefix.items ≡ draft.old.prefix.items) }
+    ensures short { OnOk result (length draft.new.text.items ≤ 268435456) }
     ensures text { (records : List (List (ℕ × ℤ))) (from : ℕ) (path : List ℕ)
-        → IsNode records (numbers_of items.now) from path prefix.old.items (spots_of places.now)
-        → Writes text.old.items text.new.items
-        (lines_text (lines_from records least path (drop from (numbers_of items.now))))
-        result }
+        → IsNode records (numbers_of terms.entry.items.now) from path draft.old.prefix.items
+        (spots_of places.now)
+        → Writes draft.old.text.items draft.new.text.items
+        (lines_text (lines_from records terms.entry.least path
+        (drop from (numbers_of terms.entry.items.now)))) result }
 {
+    let Terms { items, least } = terms;
     let below = below_of(alloc, table, places, least)?;
-    put_line(text, prefix, earned(places), items, &below.children, least)?;
-    let length = prefix.len();
+    put_line(
+        &mut draft.text,
+        &draft.prefix,
+        earned(places),
+        items,
+        &below.children,
+        least,
+    )?;
+    let length = draft.prefix.len();
     'children: for (at, child) in below.children.iter().enumerate() {
         if child.bound >= least {
-            push_spaced(prefix, items[child.rank as usize])?;
-            put_prefix(alloc, text, prefix, table, items, &below.places[at], least)?;
-            prefix.truncate(length);
+            push_spaced(&mut draft.prefix, items[child.rank as usize])?;
+            put_prefix(alloc, terms, draft, table, &below.places[at])?;
+            draft.prefix.truncate(length);
         }
     }
     Ok(())

@@ -11,11 +11,11 @@ decreases-put_prefix l = cells_left (spots_of l.places.now)
 
 abbrev pub invariant-children : goal.invariant-children
 invariant-children l = record {
-  prefix : l.prefix.items ≡ l.fn.prefix.items;
+  prefix : l.draft.prefix.items ≡ l.fn.draft.prefix.items;
   rest : IsAtRest (length l.items) l.table;
-  short : length l.text.items ≤ 268435456;
-  text : (records : List (List (ℕ × ℤ))) (from : ℕ) (path : List ℕ) → IsNode records (numbers_of l.items) from path l.fn.prefix.items (spots_of l.places)
-      → l.text.items ≡ l.fn.text.items
-      ++ lines_text (line_of records l.least path (drop from (numbers_of l.items)) ∷ opened_lines records l.least (numbers_of l.items) path
+  short : length l.draft.text.items ≤ 268435456;
+  text : (records : List (List (ℕ × ℤ))) (from : ℕ) (path : List ℕ) → IsNode records (numbers_of l.items) from path l.fn.draft.prefix.items (spots_of l.places)
+      → l.draft.text.items ≡ l.fn.draft.text.items
+      ++ lines_text (line_of records l.fn.terms.least path (drop from (numbers_of l.items)) ∷ opened_lines records l.fn.terms.least (numbers_of l.items) path
       (map rank_pair (take l.at l.child-items)));
 }

@@ -69,7 +69,7 @@ returns-in_err-put_prefix-clause-long c = λ e.
     c.in_ok-items.ensures.value c.as_slice-2.ensures.keys c.records.ensures c.in_ok-records.ensures.value c.in_ok-records.ensures.rules c.deref.ensures.value
     c.in_ok-places.ensures c.deref-2.ensures.value (omega (arith, c.sum-sum.ensures.fits)) in
     let node = root-node records order c.in_ok-records.records.items
-    (spots_of c.deref-2.result.now) begins c.new-prefix.result.items c.new-prefix.ensures.items in
+    (spots_of c.deref-2.result.now) begins c.new.result.items c.new.ensures.items in
     let fault = fault-is c.from_residual-in_err-put_prefix.result c.in_err-put_prefix.field-0.0 c.from_residual-in_err-put_prefix.ensures.1 e in
     let long : c.in_err-put_prefix.field-0.0 ≡ TooLong
     → 268435456 < length (c.push_order.new.text.items ++ lines_text (lines_from records (to_z w128 (of_z w128 c.args.least)) [] (drop 0 order))) =
@@ -91,8 +91,8 @@ returns-clause-text c =
     c.in_ok-items.ensures.value c.as_slice-2.ensures.keys c.records.ensures c.in_ok-records.ensures.value c.in_ok-records.ensures.rules c.deref.ensures.value
     c.in_ok-places.ensures c.deref-2.ensures.value (omega (arith, c.sum-sum.ensures.fits)) in
     let node = root-node records order c.in_ok-records.records.items
-    (spots_of c.deref-2.result.now) begins c.new-prefix.result.items c.new-prefix.ensures.items in
-    let written : c.put_prefix.new.text.items ≡ c.push_order.new.text.items
+    (spots_of c.deref-2.result.now) begins c.new.result.items c.new.ensures.items in
+    let written : c.put_prefix.new.draft.text.items ≡ c.push_order.new.text.items
     ++ lines_text (lines_from records (to_z w128 (of_z w128 c.args.least)) [] (drop 0 order)) =
     (c.in_ok-put_prefix.ensures.text records 0 [] node).0 in
     let whole = certificate-is records c.args.least (to_z w128 (of_z w128 c.args.least)) order
