@@ -36,7 +36,7 @@ use Rattle.hu_span.specs.declared.trail.TrailCell.{TrailCell}
 use Rattle.hu_chain.specs.declared.chain.Growth.{Growth}
 use Rattle.hu_span.specs.Child.{ArePlaces}
 use Rattle.hu_span.specs.Gather.{AreGrown}
-use Rattle.hu_span.specs.Growing.{AreRecords, IsReached, Records}
+use Rattle.hu_span.specs.Growing.{AreRecords, IsReached, Pattern, Records}
 use Rattle.hu_span.specs.Kept.{weighed_of}
 use Rattle.hu_span.specs.Mark.{record_at}
 
@@ -100,6 +100,17 @@ pub record AreHeld (keep : ℕ → Bool) (records : Records) (trail : List Trail
   pub reached : IsReached pattern
   pub places : ArePlaces (weighed_of keep records) pattern (last_item pattern) held.marks.items
   pub spans : AreSpans keep records trail held.marks.items held.spans.items
+
+-- the places of a pattern are held
+abbrev pub HoldsPlaces : List TrailCell → Held → Type 0
+HoldsPlaces trail held =
+    (keep : ℕ → Bool) × (records : Records) × (p : Pattern) × AreHeld keep records trail p held
+
+-- something holds of each pattern whose places are
+abbrev pub OfHeld : List TrailCell → Held → ((ℕ → Bool) → Records → Pattern → Type 0) → Type 0
+OfHeld trail held P =
+    (keep : ℕ → Bool) → (records : Records) → (p : Pattern)
+    → AreHeld keep records trail p held → P keep records p
 
 -- the cells at the front that are of an element, and the others
 abbrev pub in_element : ℕ → List TrailCell → List TrailCell

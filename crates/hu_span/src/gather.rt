@@ -5,8 +5,7 @@ ghost use Rattle.std.specs.List.{AllByRecursion};
 ghost use Rattle.hu_kind.specs.Sequence.{IsSequence};
 ghost use Rattle.hu_chain.specs.Place.{totals};
 ghost use Rattle.hu_span.specs.Gather.{front_of};
-ghost use Rattle.hu_span.specs.Growing.{Pattern, Records};
-ghost use Rattle.hu_span.specs.Trail.{cells_from, trail_marks, trail_spans, AreHeld, AreReached};
+ghost use Rattle.hu_span.specs.Trail.{cells_from, trail_marks, trail_spans, AreReached, HoldsPlaces, OfHeld};
 
 use crate::mark::Mark;
 use crate::trail::{Held, TrailCell, push_record};
@@ -24,14 +23,11 @@ pub(crate) struct Grown {
 
 /// The marks of a pattern with an item more.
 pub(crate) fn gathered(alloc: Global, trail: &[TrailCell], held: &Held) -> Result<Grown, NoMemory>
-    requires { (keep : ℕ → Bool) × (records : Records) × (p : Pattern)
-        × AreHeld keep records trail.now p held.now }
-    ensures into { (keep : ℕ → Bool) → (records : Records) → (p : Pattern)
-        → AreHeld keep records trail.now p held.now
-        → IfOk result (λ grown. AreReached keep records trail.now p Growth.IntoLast grown.into) }
-    ensures after { (keep : ℕ → Bool) → (records : Records) → (p : Pattern)
-        → AreHeld keep records trail.now p held.now
-        → IfOk result (λ grown. AreReached keep records trail.now p Growth.AfterLast grown.after) }
+    requires { HoldsPlaces trail.now held.now }
+    ensures into { OfHeld trail.now held.now (λ keep records p.
+        IfOk result (λ grown. AreReached keep records trail.now p Growth.IntoLast grown.into)) }
+    ensures after { OfHeld trail.now held.now (λ keep records p.
+        IfOk result (λ grown. AreReached keep records trail.now p Growth.AfterLast grown.after)) }
 {
     let into = held_into(alloc, trail, held)?;
     let after = held_after(alloc, trail, held)?;
@@ -93,11 +89,9 @@ fn push_first(
 
 /// The marks of a pattern with an item more in its last itemset.
 fn held_into(alloc: Global, trail: &[TrailCell], held: &Held) -> Result<Held, NoMemory>
-    requires { (keep : ℕ → Bool) × (records : Records) × (p : Pattern)
-        × AreHeld keep records trail.now p held.now }
-    ensures { (keep : ℕ → Bool) → (records : Records) → (p : Pattern)
-        → AreHeld keep records trail.now p held.now
-        → IfOk result (AreReached keep records trail.now p Growth.IntoLast) }
+    requires { HoldsPlaces trail.now held.now }
+    ensures { OfHeld trail.now held.now (λ keep records p.
+        IfOk result (AreReached keep records trail.now p Growth.IntoLast)) }
 {
     let mut grown = Held::new(alloc);
     'marks: for (number, mark) in held.marks.iter().enumerate() {
@@ -109,11 +103,9 @@ fn held_into(alloc: Global, trail: &[TrailCell], held: &Held) -> Result<Held, No
 
 /// The marks of a pattern with an item in a new last itemset.
 fn held_after(alloc: Global, trail: &[TrailCell], held: &Held) -> Result<Held, NoMemory>
-    requires { (keep : ℕ → Bool) × (records : Records) × (p : Pattern)
-        × AreHeld keep records trail.now p held.now }
-    ensures { (keep : ℕ → Bool) → (records : Records) → (p : Pattern)
-        → AreHeld keep records trail.now p held.now
-        → IfOk result (AreReached keep records trail.now p Growth.AfterLast) }
+    requires { HoldsPlaces trail.now held.now }
+    ensures { OfHeld trail.now held.now (λ keep records p.
+        IfOk result (AreReached keep records trail.now p Growth.AfterLast)) }
 {
     let mut grown = Held::new(alloc);
     let mut left = held.marks.as_slice();

@@ -1,11 +1,10 @@
 //! The children of a pattern, told row by row while its marks are gathered.
 
-ghost use Rattle.std.specs.Prelude.{ℕ, Bool, IfOk};
+ghost use Rattle.std.specs.Prelude.{IfOk};
 ghost use Rattle.std.specs.List.{AllByRecursion};
 ghost use Rattle.hu_span.specs.Child.{AreAllTold, AreChildren, IsSpread};
-ghost use Rattle.hu_span.specs.Growing.{Pattern, Records};
 ghost use Rattle.hu_span.specs.Kept.{weighed_of};
-ghost use Rattle.hu_span.specs.Trail.{AreHeld};
+ghost use Rattle.hu_span.specs.Trail.{HoldsPlaces, OfHeld};
 
 use crate::child::{Child, children_told, tell_all};
 use crate::gather::row_len;
@@ -24,15 +23,12 @@ pub(crate) fn scanned(
     held: &Held,
     reaches: &[i128],
 ) -> Result<Vec<Child>, NoMemory>
-    requires { (keep : ℕ → Bool) × (records : Records) × (p : Pattern)
-        × AreHeld keep records trail.now p held.now }
-    ensures children { (keep : ℕ → Bool) → (records : Records) → (p : Pattern)
-        → AreHeld keep records trail.now p held.now
-        → IfOk result (λ children. AreChildren (weighed_of keep records) keep p children.items) }
-    ensures spreads { (keep : ℕ → Bool) → (records : Records) → (p : Pattern)
-        → AreHeld keep records trail.now p held.now
-        → IfOk result (λ children. AllByRecursion
-        (IsSpread reaches.now (weighed_of keep records) p) children.items) }
+    requires { HoldsPlaces trail.now held.now }
+    ensures children { OfHeld trail.now held.now (λ keep records p.
+        IfOk result (λ children. AreChildren (weighed_of keep records) keep p children.items)) }
+    ensures spreads { OfHeld trail.now held.now (λ keep records p.
+        IfOk result (λ children. AllByRecursion
+        (IsSpread reaches.now (weighed_of keep records) p) children.items)) }
 {
     let room = cells_behind(&held.spans);
     let mut children = scanned_into(alloc, trail, held, reaches, room)?;
@@ -62,12 +58,10 @@ fn scanned_into(
     reaches: &[i128],
     room: usize,
 ) -> Result<Vec<Child>, NoMemory>
-    requires { (keep : ℕ → Bool) × (records : Records) × (p : Pattern)
-        × AreHeld keep records trail.now p held.now }
-    ensures { (keep : ℕ → Bool) → (records : Records) → (p : Pattern)
-        → AreHeld keep records trail.now p held.now
-        → IfOk result (λ children. AreAllTold (weighed_of keep records) keep p
-        Growth.IntoLast reaches.now children.items) }
+    requires { HoldsPlaces trail.now held.now }
+    ensures { OfHeld trail.now held.now (λ keep records p.
+        IfOk result (λ children. AreAllTold (weighed_of keep records) keep p
+        Growth.IntoLast reaches.now children.items)) }
 {
     let mut links = Links::new(alloc, room)?;
     let mut tells = Vec::new(alloc);
@@ -89,12 +83,10 @@ fn scanned_after(
     reaches: &[i128],
     room: usize,
 ) -> Result<Vec<Child>, NoMemory>
-    requires { (keep : ℕ → Bool) × (records : Records) × (p : Pattern)
-        × AreHeld keep records trail.now p held.now }
-    ensures { (keep : ℕ → Bool) → (records : Records) → (p : Pattern)
-        → AreHeld keep records trail.now p held.now
-        → IfOk result (λ children. AreAllTold (weighed_of keep records) keep p
-        Growth.AfterLast reaches.now children.items) }
+    requires { HoldsPlaces trail.now held.now }
+    ensures { OfHeld trail.now held.now (λ keep records p.
+        IfOk result (λ children. AreAllTold (weighed_of keep records) keep p
+        Growth.AfterLast reaches.now children.items)) }
 {
     let mut links = Links::new(alloc, room)?;
     let mut tells = Vec::new(alloc);

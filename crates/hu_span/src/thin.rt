@@ -6,7 +6,7 @@ ghost use Rattle.hu_span.specs.declared.trail.TrailCell.{TrailCell};
 ghost use Rattle.hu_span.specs.Growing.{Pattern, Records};
 ghost use Rattle.hu_span.specs.Kept.{keeps, AreKept};
 ghost use Rattle.hu_span.specs.Thin.{resting, stretch, IsRun};
-ghost use Rattle.hu_span.specs.Trail.{is_held, values_in, AreHeld};
+ghost use Rattle.hu_span.specs.Trail.{is_held, values_in, AreHeld, OfHeld};
 
 use crate::kept::{Kept, counted};
 use crate::mark::Mark;
@@ -33,11 +33,10 @@ pub(crate) fn thinned(
     requires { (keep : ℕ → Bool) × (records : Records) × (p : Pattern)
         × AreHeld keep records trail.now p held.now
         × ((item : ℕ) → keeps kept.now item ≡ true → keep item ≡ true) }
-    ensures { (keep : ℕ → Bool) → (records : Records) → (p : Pattern)
-        → AreHeld keep records trail.now p held.now → AreKept keep p → AreKept (keeps kept.now) p
+    ensures { OfHeld trail.now held.now (λ keep records p.
+        AreKept keep p → AreKept (keeps kept.now) p
         → ((item : ℕ) → keeps kept.now item ≡ true → keep item ≡ true)
-        → IfOk result (λ thin.
-        AreHeld (keeps kept.now) records thin.trail.items p thin.held) }
+        → IfOk result (λ thin. AreHeld (keeps kept.now) records thin.trail.items p thin.held)) }
 {
     let mut thin = Vec::new(alloc);
     let mut back = Held::new(alloc);
