@@ -2,7 +2,6 @@ use Rattle.std.proofs.Common.{◌≡◌, ◌∙◌, ◌<◌, length, None, pos, 
 use Rattle.std.specs.List.{AllByRecursion}
 use Rattle.std.proofs.lemmas.Bool.{cases_eq}
 use Rattle.hu_kind.proofs.lemmas.Each.{each-push}
-use Rattle.hu_span.specs.declared.mark.Mark.{Mark}
 use Rattle.hu_span.specs.declared.step.Step.{Step}
 use Rattle.hu_span.specs.declared.tally.Told.{Told}
 use Rattle.hu_span.specs.Child.{AreLasting, HasStep, IsChild, IsSpread, IsStep}
@@ -10,10 +9,8 @@ use Rattle.hu_span.specs.Links.{at}
 use Rattle.hu_span.specs.Mark.{marks_with}
 use Rattle.hu_span.proofs.FamilyLemmas.{has-here, has-push, last-told, lasting-push, number-told, step-told}
 use Rattle.hu_span.proofs.LinkLemmas.{at-any}
+use Rattle.hu_span.proofs.MarkLemmas.{no_mark}
 use Rattle.hu_span.proofs.child.children_told.Goals as goal
-
-no_mark : Mark
-no_mark = record { item = record { 0 = 0 }; row = 0; place = record { element = 0; cell = 0; best = pos 0; rest = pos 0 } }
 
 no_told : Told
 no_told = record { tally = record { row = 0; rows = 0; best = pos 0; bests = pos 0; reach = pos 0; reaches = pos 0 }; spread = None }

@@ -1,11 +1,8 @@
-use Rattle.std.proofs.Common.{◌++◌, ◌∷◌, [], ◌∙◌, pos, take, get_or, sym, ap, subst, arith, append_assoc, append-nil}
+use Rattle.std.proofs.Common.{◌++◌, ◌∷◌, [], ◌∙◌, take, get_or, sym, ap, subst, arith, append_assoc, append-nil}
 use Rattle.std.proofs.lemmas.List.{take_all, take_more}
-use Rattle.hu_span.specs.declared.mark.Mark.{Mark}
 use Rattle.hu_span.specs.Child.{AreTold}
+use Rattle.hu_span.proofs.MarkLemmas.{no_mark}
 use Rattle.hu_span.proofs.child.tell_all.Goals as goal
-
-abbrev no_mark : Mark
-no_mark = record { item = record { 0 = 0 }; row = 0; place = record { element = 0; cell = 0; best = pos 0; rest = pos 0 } }
 
 pub marks-init : goal.marks-init
 marks-init c before is = subst (AreTold c.args.reaches.now c.args.links.now c.args.tells.now.items) (sym (append-nil before)) is

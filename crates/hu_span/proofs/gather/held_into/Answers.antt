@@ -1,12 +1,12 @@
-use Rattle.std.proofs.Common.{◌∙◌, ◌++◌, ℕ, Bool, List, pos, flat_map, get_or, length, reverse, take, sym, ap, subst, arith}
+use Rattle.std.proofs.Common.{◌∙◌, ◌++◌, ℕ, Bool, List, flat_map, get_or, length, reverse, take, sym, ap, subst, arith}
 use Rattle.std.proofs.lemmas.List.{take_all}
 use Rattle.hu_chain.specs.declared.chain.Growth.TheVariants.{IntoLast}
 use Rattle.hu_chain.specs.Pattern.{last_item}
-use Rattle.hu_span.specs.declared.mark.Mark.{Mark}
 use Rattle.hu_span.specs.Growing.{Records}
 use Rattle.hu_span.specs.Kept.{weighed_of}
 use Rattle.hu_span.specs.Trail.{span_of, AreHeld, AreSpans}
 use Rattle.hu_span.proofs.GrownLemmas.{met, IsBeside}
+use Rattle.hu_span.proofs.MarkLemmas.{no_mark}
 use Rattle.hu_span.proofs.RowsLemmas.{beside_kept, beside-all, grown-kept}
 use Rattle.hu_span.proofs.ScanLemmas.{map-next}
 use Rattle.hu_span.proofs.SpanLemmas.{spans-append}
@@ -14,15 +14,6 @@ use Rattle.hu_span.proofs.WalkLemmas.{stays-fit}
 use Rattle.hu_span.proofs.WeighedLemmas.{weighed-rules}
 use Rattle.hu_span.proofs.gather.held_into.Goals.{After-behind-stretch}
 use Rattle.hu_span.proofs.gather.held_into.Goals as goal
-
-abbrev no_mark : Mark
-no_mark = record { item = record { 0 = 0 }; row = 0; place = record { element = 0; cell = 0; best = pos 0; rest = pos 0 } }
-
-pub behind-stretch-requires-clause-number : goal.behind-stretch-requires-clause-number
-behind-stretch-requires-clause-number c = omega (arith, c.marks-test.true, ap length c.deref-mark-items.ensures.value)
-
-pub behind-stretch-requires-clause-spans : goal.behind-stretch-requires-clause-spans
-behind-stretch-requires-clause-spans c = (c.requires.0, c.requires.1, c.requires.3.spans)
 
 -- what the pattern grows by beside the mark
 own_at : (c : After-behind-stretch) (keep : ℕ → Bool) (records : Records) (p : List (List ℕ)) (are : AreHeld keep records c.args.trail.now p c.args.held.now)

@@ -1,14 +1,12 @@
-use Rattle.std.proofs.Common.{◌≡◌, ◌∙◌, ◌+◌, ◌-◌, ◌<◌, ℕ, Bool, pos, drop, get_or, length, reverse, rules, take, sym, ap, subst, arith}
+use Rattle.std.proofs.Common.{◌≡◌, ◌∙◌, ◌+◌, ◌-◌, ◌<◌, ℕ, Bool, drop, get_or, length, reverse, rules, take, sym, ap, subst, arith}
 use Rattle.hu_span.specs.declared.mark.Mark.{Mark}
 use Rattle.hu_span.specs.declared.trail.Span.{Span}
 use Rattle.hu_span.specs.Growing.{Records}
 use Rattle.hu_span.specs.Trail.{AreSpans, IsSpan}
+use Rattle.hu_span.proofs.MarkLemmas.{no_mark}
 use Rattle.hu_span.proofs.SpanLemmas.{span-get, span-size}
 use Rattle.hu_span.proofs.trail.Held.behind.Goals.{After-index-span, After-of}
 use Rattle.hu_span.proofs.trail.Held.behind.Goals as goal
-
-abbrev no_mark : Mark
-no_mark = record { item = record { 0 = 0 }; row = 0; place = record { element = 0; cell = 0; best = pos 0; rest = pos 0 } }
 
 abbrev no_span : Span
 no_span = record { low = 0; high = 0 }
