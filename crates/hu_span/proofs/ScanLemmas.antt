@@ -17,16 +17,20 @@ use Rattle.hu_chain.proofs.lemmas.Growing.{chain_of-rules}
 use Rattle.hu_span.specs.declared.links.Links.{Links}
 use Rattle.hu_span.specs.declared.mark.Mark.{Mark}
 use Rattle.hu_span.specs.declared.tally.Told.{Told}
+use Rattle.hu_span.specs.declared.trail.Held.{Held}
+use Rattle.hu_span.specs.declared.trail.TrailCell.{TrailCell}
 use Rattle.hu_span.specs.Child.{ArePlaces, AreTold, IsGathered, MayTellEach}
 use Rattle.hu_span.specs.Gather.{beside_marks, row_marks}
 use Rattle.hu_span.specs.Growing.{AreRecords, IsReached, Records}
-use Rattle.hu_span.specs.Kept.{takes}
-use Rattle.hu_span.specs.Mark.{mark_at, marks_from, places_of}
+use Rattle.hu_span.specs.Kept.{takes, weighed_of}
+use Rattle.hu_span.specs.Mark.{mark_at, marks_from, marks_of, places_of}
+use Rattle.hu_span.specs.Trail.{AreHeld}
 use Rattle.hu_span.proofs.FamilyLemmas.{may-tell-each}
 use Rattle.hu_span.proofs.GatherLemmas.{grown_from}
 use Rattle.hu_span.proofs.ReachLemmas.{Ends-reached}
 use Rattle.hu_span.proofs.RowsLemmas.{beside_kept, beside-all, fit-each, grown-kept, AreRowsLeft}
 use Rattle.hu_span.proofs.WalkLemmas.{beside-fit, fit-taken, later-fit, stays-fit}
+use Rattle.hu_span.proofs.WeighedLemmas.{weighed-records}
 
 -- ---- all marks fit
 
@@ -76,6 +80,13 @@ all-gathered growth keep records pattern marks are is places =
           (fit-taken (takes keep) (grown_from growth pattern 0 records) fits);
     }
 
+-- of a pattern whose places are held
+pub held-gathered : (growth : Growth) {keep : ℕ → Bool} {records : Records} {trail : List TrailCell} {pattern : List (List ℕ)} {held : Held}
+    → AreHeld keep records trail pattern held
+    → IsGathered (weighed_of keep records) keep pattern growth (all_grown growth keep (weighed_of keep records) pattern)
+held-gathered growth {keep} {records} {trail} {pattern} {held} are =
+    all-gathered growth keep (weighed_of keep records) pattern held.marks.items (weighed-records keep records are.are) are.reached are.places
+
 -- ---- beside each place
 
 pub map-next : {X A : Type 0} (f : X → List A) (xs : List X) (i : ℕ) (d : X) → i < length xs
@@ -91,14 +102,15 @@ map-split f xs i d within =
     ap (flat_map f) (sym (take-append-drop (i + 1) xs)) ∙ flat_map-append f (take (i + 1) xs) (drop (i + 1) xs)
     ∙ ap (λ ys. ys ++ flat_map f (drop (i + 1) xs)) (sym (map-next f xs i d within))
 
-pub beside-may : (keep : ℕ → Bool) (records : Records) (pattern : List (List ℕ)) (marks : List Mark) (i : ℕ) (d : Mark) → AreRecords records
-    → IsReached pattern → ArePlaces records pattern (last_item pattern) marks → i < length marks
+pub beside-may : (keep : ℕ → Bool) (records : Records) (pattern : List (List ℕ)) (marks : List Mark) (i : ℕ) (d : Mark)
+    → IsGathered records keep pattern IntoLast (all_grown IntoLast keep records pattern) → marks ≡ marks_of records pattern (last_item pattern)
+    → i < length marks
     → MayTellEach (flat_map (beside_kept keep records) (take i marks)) (beside_kept keep records (get_or marks i d))
-beside-may keep records pattern marks i d are is places within =
+beside-may keep records pattern marks i d all is within =
     let f = beside_kept keep records in
-    may-tell-each records keep pattern IntoLast (all_grown IntoLast keep records pattern) (all-gathered IntoLast keep records pattern marks are is places)
+    may-tell-each records keep pattern IntoLast (all_grown IntoLast keep records pattern) all
     (flat_map f (take i marks)) (f (get_or marks i d)) (flat_map f (drop (i + 1) marks))
-    (sym (beside-all keep records pattern (last_item pattern)) ∙ ap (flat_map f) (sym places.is) ∙ map-split f marks i d within)
+    (sym (beside-all keep records pattern (last_item pattern)) ∙ ap (flat_map f) (sym is) ∙ map-split f marks i d within)
 
 -- ---- row by row
 

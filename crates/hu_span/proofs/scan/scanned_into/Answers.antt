@@ -1,31 +1,21 @@
-use Rattle.std.proofs.Common.{◌≡◌, ◌∙◌, ◌<◌, ◌++◌, ℕ, Bool, List, pos, take, get_or, flat_map, length, reverse, sym, ap, subst, arith}
+use Rattle.std.proofs.Common.{◌≡◌, ◌∙◌, ◌<◌, ◌++◌, ℕ, Bool, List, take, get_or, flat_map, length, reverse, sym, ap, subst, arith}
 use Rattle.std.proofs.lemmas.List.{take_all}
 use Rattle.hu_chain.specs.declared.chain.Growth.TheVariants.{IntoLast}
 use Rattle.hu_chain.specs.Pattern.{last_item}
-use Rattle.hu_span.specs.declared.mark.Mark.{Mark}
 use Rattle.hu_span.specs.Child.{AreTold, MayTellEach}
 use Rattle.hu_span.specs.Growing.{Records}
 use Rattle.hu_span.specs.Kept.{weighed_of}
 use Rattle.hu_span.specs.Trail.{span_of, AreHeld}
 use Rattle.hu_span.proofs.FamilyLemmas.{told-first}
 use Rattle.hu_span.proofs.GrownLemmas.{met, IsBeside}
+use Rattle.hu_span.proofs.MarkLemmas.{no_mark}
 use Rattle.hu_span.proofs.RowsLemmas.{beside_kept, beside-all}
-use Rattle.hu_span.proofs.ScanLemmas.{all_grown, all-gathered, beside-may, map-next}
-use Rattle.hu_span.proofs.WeighedLemmas.{weighed-records}
+use Rattle.hu_span.proofs.ScanLemmas.{all_grown, beside-may, held-gathered, map-next}
 use Rattle.hu_span.proofs.scan.scanned_into.Goals.{After-behind-stretch, After-deref, After-deref-2}
 use Rattle.hu_span.proofs.scan.scanned_into.Goals as goal
 
-abbrev no_mark : Mark
-no_mark = record { item = record { 0 = 0 }; row = 0; place = record { element = 0; cell = 0; best = pos 0; rest = pos 0 } }
-
 pub marks-init : goal.marks-init
 marks-init c keep records p are = let links = c.in_ok-links.ensures in told-first c.args.reaches.now _ _ links.rules links.none c.new-tells.ensures.items
-
-pub behind-stretch-requires-clause-number : goal.behind-stretch-requires-clause-number
-behind-stretch-requires-clause-number c = omega (arith, c.marks-test.true, ap length c.deref-mark-items.ensures.value)
-
-pub behind-stretch-requires-clause-spans : goal.behind-stretch-requires-clause-spans
-behind-stretch-requires-clause-spans c = (c.requires.0, c.requires.1, c.requires.3.spans)
 
 -- what the pattern grows by beside the mark
 beside_at : (c : After-behind-stretch) (keep : ℕ → Bool) (records : Records) (p : List (List ℕ)) (are : AreHeld keep records c.args.trail.now p c.args.held.now)
@@ -50,17 +40,17 @@ own_at c keep records p are =
 
 pub tell_all-requires : goal.tell_all-requires
 tell_all-requires c =
-    let keep = c.requires.0 in
-    let records = c.requires.1 in
-    let are = c.requires.3 in
+    let r = c.requires in
+    let are = r.3 in
+    let rs = weighed_of r.0 r.1 in
     let i = c.marks.number in
     let marks = c.args.held.now.marks.items in
-    let within : c.marks.number < length c.args.held.now.marks.items = omega (arith, c.marks-test.true, ap length c.deref-mark-items.ensures.value) in
-    let before = flat_map (beside_kept keep (weighed_of keep records)) (take i marks) in (
+    let within : i < length marks = omega (arith, c.marks-test.true, ap length c.deref-mark-items.ensures.value) in
+    let before = flat_map (beside_kept r.0 rs) (take i marks) in (
       before,
-      c.marks.invariant keep records c.requires.2 are,
-      subst (MayTellEach before) (sym (own_at c keep records c.requires.2 are))
-          (beside-may keep (weighed_of keep records) c.requires.2 marks i no_mark (weighed-records keep records are.are) are.reached are.places within),
+      c.marks.invariant r.0 r.1 r.2 are,
+      subst (MayTellEach before) (sym (own_at c r.0 r.1 r.2 are))
+          (beside-may r.0 rs r.2 marks i no_mark (held-gathered IntoLast are) are.places.is within),
     )
 
 pub marks-preserved : goal.marks-preserved
@@ -89,14 +79,11 @@ told_at c keep records p are =
 pub children_told-requires : goal.children_told-requires
 children_told-requires c =
     let r = c.requires in
-    let are = r.3 in
     let rs = weighed_of r.0 r.1 in
-    let gathered = all-gathered IntoLast r.0 rs r.2 c.args.held.now.marks.items (weighed-records r.0 r.1 are.are) are.reached are.places in
-    (rs, r.0, r.2, all_grown IntoLast r.0 rs r.2, c.args.reaches.now, gathered, told_at c r.0 r.1 r.2 are)
+    (rs, r.0, r.2, all_grown IntoLast r.0 rs r.2, c.args.reaches.now, held-gathered IntoLast r.3, told_at c r.0 r.1 r.2 r.3)
 
 pub returns : goal.returns
 returns c keep records p are =
     let rs = weighed_of keep records in
-    c.children_told.ensures.all rs keep p (all_grown IntoLast keep rs p) c.args.reaches.now
-    (all-gathered IntoLast keep rs p c.args.held.now.marks.items (weighed-records keep records are.are) are.reached are.places)
+    c.children_told.ensures.all rs keep p (all_grown IntoLast keep rs p) c.args.reaches.now (held-gathered IntoLast are)
     (told_at (goal.at.returns c).After-deref-2 keep records p are)
