@@ -5,9 +5,10 @@ use Rattle.std.specs.List.{flat_map, AllByRecursion}
 use Rattle.std.proofs.lemmas.Bool.{eq-eqb, eqb-true, ne_eqb}
 use Rattle.std.proofs.lemmas.List.Concat.{flat_map-append}
 use Rattle.std.proofs.lemmas.List.Elements.{filter-append}
+use Rattle.std.proofs.Math.Seq.{drop-append_seam, take-append_seam}
 use Rattle.hu_kind.specs.Order.{Ascend}
 use Rattle.hu_kind.specs.Record.{has, items_in}
-use Rattle.hu_kind.proofs.lemmas.Each.{each-append, each-drop, each-take, each-weaker}
+use Rattle.hu_kind.proofs.lemmas.Each.{each-append, each-weaker}
 use Rattle.hu_kind.specs.Sequence.{IsSequence}
 use Rattle.hu_chain.specs.declared.chain.Growth.{Growth}
 use Rattle.hu_chain.specs.declared.chain.Growth.TheVariants.{IntoLast, AfterLast}
@@ -20,11 +21,13 @@ use Rattle.hu_chain.specs.Search.{IsPlaceOf, IsPlain}
 use Rattle.hu_chain.proofs.lemmas.Bounds.{plain-rules}
 use Rattle.hu_chain.proofs.lemmas.Growing.{chain_of-rules}
 use Rattle.hu_span.specs.declared.mark.Mark.{Mark}
+use Rattle.hu_span.specs.declared.rows.Row.{Row}
 use Rattle.hu_span.specs.Child.{ArePlaces}
 use Rattle.hu_span.specs.Gather.{beside_marks, front_of, later_marks, row_marks, tail_marks, walk_marks, AreGrown, IsGrowth, MayTake}
 use Rattle.hu_span.specs.Growing.{IsReached, Records}
 use Rattle.hu_span.specs.Kept.{takes}
 use Rattle.hu_span.specs.Mark.{mark_at, marks_from, marks_of, marks_with, places_of, record_at, IsMark}
+use Rattle.hu_span.specs.Trail.{AreLeft, IsFrontRow}
 use Rattle.hu_span.proofs.GatherLemmas.{first-found, first_from, grown-found, grown_from}
 use Rattle.hu_span.proofs.TrailLemmas.{chain-from, AreFrom}
 use Rattle.hu_span.proofs.MarkLemmas.{each-filter, taken-flat_map, taken-kept, taken-with}
@@ -264,12 +267,20 @@ no-marks (m ∷ ms) none = absurd (omega (arith, none))
 
 -- the rows that are left, and what was gathered of the others
 pub record AreRowsLeft (records : Records) (keep : ℕ → Bool) (pattern : List (List ℕ)) (left grown : List Mark) : Type 0 where
-  pub row : ℕ
-  pub left_is : left ≡ marks_from pattern (last_item pattern) row (drop row records)
-  pub each : AllByRecursion (IsMark records (last_item pattern)) left
-  pub so_far : grown ++ filter (takes keep) (grown_from AfterLast pattern row (drop row records)) ≡ filter (takes keep)
+  pub rest : AreLeft records pattern left
+  pub so_far : grown ++ filter (takes keep) (grown_from AfterLast pattern rest.row (drop rest.row records)) ≡ filter (takes keep)
       (grown_from AfterLast pattern 0 records)
   pub fit : AllByRecursion IsFit (places_of grown)
+
+-- the marks from a row on stand behind those of the rows before it
+pub marks-behind : (pattern : List (List ℕ)) (item n m row : ℕ) (rs : Records) → m ≡ n + row
+    → (front : List Mark) × (marks_from pattern item n rs ≡ front ++ marks_from pattern item m (drop row rs))
+marks-behind pattern item n m zero rs at = let same : n ≡ m = omega (arith, at) in ([], ap (λ k. marks_from pattern item k rs) same)
+marks-behind pattern item n m (suc row) [] at = ([], refl)
+marks-behind pattern item n m (suc row) (r ∷ rs) at =
+    let rest = marks-behind pattern item (suc n) m row rs (omega (arith, at)) in
+    let own = map (mark_at n item) (chain_of pattern r) in
+    (own ++ rest.0, ap (λ ms. own ++ ms) rest.1 ∙ sym (append_assoc own rest.0 (marks_from pattern item m (drop row rs))))
 
 drop-drop : {A : Type 0} (n k : ℕ) (xs : List A) → drop (suc k) (drop n xs) ≡ drop (suc (n + k)) xs
 drop-drop zero k xs = let same : k ≡ 0 + k = omega arith in ap (λ m. drop (suc m) xs) same
@@ -285,9 +296,7 @@ pub rows-first : (records : Records) (keep : ℕ → Bool) (pattern : List (List
     (last_item pattern) marks → grown ≡ []
     → AreRowsLeft records keep pattern marks grown
 rows-first records keep pattern marks grown is none = record {
-  row = 0;
-  left_is = is.is;
-  each = is.each;
+  rest = record { row = 0; is = is.is };
   so_far = ap (λ ms. ms ++ filter (takes keep) (grown_from AfterLast pattern 0 records)) none;
   fit = subst (λ ms. AllByRecursion IsFit (places_of ms)) (sym none) tt;
 }
@@ -296,59 +305,70 @@ pub fit-each : (records : Records) (item : ℕ) (ms : List Mark) → AllByRecurs
 fit-each records item [] all = tt
 fit-each records item (m ∷ ms) all = let first = all.0 in (first.fit, fit-each records item ms all.1)
 
-module _ (records : Records) (keep : ℕ → Bool) (pattern : List (List ℕ)) (first : Mark) (later grown : List Mark)
-    (is : AreRowsLeft records keep pattern (first ∷ later) grown) where
-  abbrev pub n : ℕ
-  n = front_of first.row later
+-- the next row of the marks that are left
+module _ (records : Records) (pattern : List (List ℕ)) (row : Row) (left : List Mark) (front : IsFrontRow left row) (rest : AreLeft records pattern left) where
+  abbrev first : Mark
+  first = row.first.now
 
-  here : IsFirstRow pattern (last_item pattern) is.row (drop is.row records) first later
-  here = first-row pattern (last_item pattern) is.row (drop is.row records) first later is.left_is
+  abbrev others : List Mark
+  others = row.others.now
 
-  at_row : record_at (drop is.row records) here.skipped ≡ record_at records first.row
-  at_row = record_at-drop is.row here.skipped records ∙ ap (record_at records) (sym here.row_is)
+  abbrev later : List Mark
+  later = others ++ row.left.now
 
-  pub rows-places : Ends pattern → AllByRecursion (IsPlaceOf (record_at records first.row) (last_item pattern)) (places_of (first ∷ take n later))
+  here : IsFirstRow pattern (last_item pattern) rest.row (drop rest.row records) first later
+  here = first-row pattern (last_item pattern) rest.row (drop rest.row records) first later (sym front.parts ∙ rest.is)
+
+  at_row : record_at (drop rest.row records) here.skipped ≡ record_at records first.row
+  at_row = record_at-drop rest.row here.skipped records ∙ ap (record_at records) (sym here.row_is)
+
+  places : places_of (first ∷ others) ≡ chain_of pattern (record_at (drop rest.row records) here.skipped)
+  places = ap (λ ms. places_of (first ∷ ms)) (sym (ap (λ k. take k later) (sym front.all) ∙ take-append_seam others row.left.now)) ∙ here.places
+
+  pub rows-places : Ends pattern → AllByRecursion (IsPlaceOf (record_at records first.row) (last_item pattern)) (places_of (first ∷ others))
   rows-places ends =
-      let all = chain_of-rules pattern (record_at (drop is.row records) here.skipped) ends in
-      let seen = subst (AllByRecursion (IsPlaceOf (record_at (drop is.row records) here.skipped) (last_item pattern))) (sym here.places) all in
-      subst (λ r. AllByRecursion (IsPlaceOf r (last_item pattern)) (places_of (first ∷ take n later))) at_row seen
+      let all = chain_of-rules pattern (record_at (drop rest.row records) here.skipped) ends in
+      let seen = subst (AllByRecursion (IsPlaceOf (record_at (drop rest.row records) here.skipped) (last_item pattern))) (sym places) all in
+      subst (λ r. AllByRecursion (IsPlaceOf r (last_item pattern)) (places_of (first ∷ others))) at_row seen
 
-  pub rows-from : AreFrom 0 (places_of (first ∷ take n later))
+  pub rows-from : AreFrom 0 (places_of (first ∷ others))
   rows-from =
-      let elements = record_at (drop is.row records) here.skipped in
-      subst (AreFrom 0) (sym here.places) (chain-from pattern elements 0 elements)
+      let elements = record_at (drop rest.row records) here.skipped in
+      subst (AreFrom 0) (sym places) (chain-from pattern elements 0 elements)
 
-  pub rows-fit : AllByRecursion IsFit (places_of (first ∷ take n later))
-  rows-fit = fit-each records (last_item pattern) (first ∷ take n later) (is.each.0, each-take (IsMark records (last_item pattern)) n later is.each.1)
-
-  pub rows-next : (more : List Mark) → more ≡ grown ++ filter (takes keep) (later_marks (record_at records first.row) first.row (places_of
-      (first ∷ take n later)))
-      → AllByRecursion IsFit (places_of more)
-      → AreRowsLeft records keep pattern (drop n later) more
-  rows-next more more_is fit =
-      let k = here.skipped in
-      let next = suc (is.row + k) in
-      let ahead = grown_from AfterLast pattern next (drop next records) in
-      let left = ap (λ rs. grown_from AfterLast pattern next rs) (drop-drop is.row k records) in
-      let row = later_marks (record_at records first.row) first.row (places_of (first ∷ take n later)) in
-      let row_is : later_marks (record_at (drop is.row records) k) (is.row + k) (chain_of pattern (record_at (drop is.row records) k)) ≡ row =
-      (λ j. later_marks (at_row j) (sym here.row_is j) (sym here.places j)) in
-      record {
-        row = next;
-        left_is = here.left ∙ ap (marks_from pattern (last_item pattern) next) (drop-drop is.row k records);
-        each = each-drop (IsMark records (last_item pattern)) n later is.each.1;
-        so_far = ap (λ ms. ms ++ filter (takes keep) ahead) more_is
-            ∙ append_assoc grown (filter (takes keep) row) (filter (takes keep) ahead)
-            ∙ ap (λ ms. grown ++ ms) (sym (filter-append (takes keep) row ahead))
-            ∙ ap (λ ms. grown ++ filter (takes keep) ms) (sym (here.grown ∙ (λ j. row_is j ++ left j)))
-            ∙ is.so_far;
-        fit = fit;
-      }
+-- those behind it
+pub rows-next : (records : Records) (keep : ℕ → Bool) (pattern : List (List ℕ)) (row : Row) (left grown more : List Mark) → IsFrontRow left row
+    → AreRowsLeft records keep pattern left grown
+    → more ≡ grown ++ filter (takes keep) (later_marks (record_at records row.first.now.row) row.first.now.row (places_of (row.first.now ∷ row.others.now)))
+    → AllByRecursion IsFit (places_of more)
+    → AreRowsLeft records keep pattern row.left.now more
+rows-next records keep pattern row left grown more front is more_is fit =
+    let first = row.first.now in
+    let later = row.others.now ++ row.left.now in
+    let from = is.rest.row in
+    let here' = here records pattern row left front is.rest in
+    let k = here'.skipped in
+    let next = suc (from + k) in
+    let ahead = grown_from AfterLast pattern next (drop next records) in
+    let behind = ap (λ n. drop n later) (sym front.all) ∙ drop-append_seam row.others.now row.left.now in
+    let past = ap (λ rs. grown_from AfterLast pattern next rs) (drop-drop from k records) in
+    let own = later_marks (record_at records first.row) first.row (places_of (first ∷ row.others.now)) in
+    let own_is : later_marks (record_at (drop from records) k) (from + k) (chain_of pattern (record_at (drop from records) k)) ≡ own =
+    (λ j. later_marks (at_row records pattern row left front is.rest j) (sym here'.row_is j) (sym (places records pattern row left front is.rest) j)) in
+    record {
+      rest = record { row = next; is = sym behind ∙ here'.left ∙ ap (marks_from pattern (last_item pattern) next) (drop-drop from k records) };
+      so_far = ap (λ ms. ms ++ filter (takes keep) ahead) more_is
+          ∙ append_assoc grown (filter (takes keep) own) (filter (takes keep) ahead)
+          ∙ ap (λ ms. grown ++ ms) (sym (filter-append (takes keep) own ahead))
+          ∙ ap (λ ms. grown ++ filter (takes keep) ms) (sym (here'.grown ∙ (λ j. own_is j ++ past j)))
+          ∙ is.so_far;
+      fit = fit;
+    }
 
 pub rows-end : (records : Records) (keep : ℕ → Bool) (pattern : List (List ℕ)) (grown : List Mark) → AreRowsLeft records keep pattern [] grown
     → grown ≡ filter (takes keep) (grown_from AfterLast pattern 0 records)
 rows-end records keep pattern grown is =
-    let none = grown-none pattern (last_item pattern) is.row (drop is.row records) is.left_is in
+    let none = grown-none pattern (last_item pattern) is.rest.row (drop is.rest.row records) is.rest.is in
     sym (append-nil grown) ∙ ap (λ ms. grown ++ filter (takes keep) ms) (sym none) ∙ is.so_far
 
 -- ---- the first marks

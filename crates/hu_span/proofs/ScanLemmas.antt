@@ -121,9 +121,9 @@ pub record AreHeard (records : Records) (keep : ℕ → Bool) (pattern : List (L
   pub rows : AreRowsLeft records keep pattern left done
   pub told : AreTold reaches links tells done
 
-pub rows-may : (keep : ℕ → Bool) (records : Records) (pattern : List (List ℕ)) (marks left done more : List Mark) → AreRecords records
-    → IsReached pattern → ArePlaces records pattern (last_item pattern) marks → AreRowsLeft records keep pattern left (done ++ more)
+pub rows-may : (keep : ℕ → Bool) (records : Records) (pattern : List (List ℕ)) (left done more : List Mark)
+    → IsGathered records keep pattern AfterLast (all_grown AfterLast keep records pattern) → AreRowsLeft records keep pattern left (done ++ more)
     → MayTellEach done more
-rows-may keep records pattern marks left done more are is places next =
-    may-tell-each records keep pattern AfterLast (all_grown AfterLast keep records pattern) (all-gathered AfterLast keep records pattern marks are is places)
-    done more (filter (takes keep) (grown_from AfterLast pattern next.row (drop next.row records))) (sym next.so_far)
+rows-may keep records pattern left done more all next =
+    may-tell-each records keep pattern AfterLast (all_grown AfterLast keep records pattern) all done more
+    (filter (takes keep) (grown_from AfterLast pattern next.rest.row (drop next.rest.row records))) (sym next.so_far)

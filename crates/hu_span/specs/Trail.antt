@@ -29,16 +29,17 @@ use Rattle.hu_chain.specs.declared.place.Place.{Place}
 use Rattle.hu_chain.specs.Pattern.{last_item}
 use Rattle.hu_chain.specs.Place.{element_at}
 use Rattle.hu_span.specs.declared.mark.Mark.{Mark}
+use Rattle.hu_span.specs.declared.rows.Row.{Row}
 use Rattle.hu_span.specs.declared.trail.Held.{Held}
 use Rattle.hu_span.specs.declared.trail.Span.{Span}
 use Rattle.hu_span.specs.declared.trail.Stretch.{Stretch}
 use Rattle.hu_span.specs.declared.trail.TrailCell.{TrailCell}
 use Rattle.hu_chain.specs.declared.chain.Growth.{Growth}
 use Rattle.hu_span.specs.Child.{ArePlaces}
-use Rattle.hu_span.specs.Gather.{AreGrown}
+use Rattle.hu_span.specs.Gather.{front_of, later_marks, AreGrown}
 use Rattle.hu_span.specs.Growing.{AreRecords, IsReached, Pattern, Records}
-use Rattle.hu_span.specs.Kept.{weighed_of}
-use Rattle.hu_span.specs.Mark.{record_at}
+use Rattle.hu_span.specs.Kept.{takes, weighed_of}
+use Rattle.hu_span.specs.Mark.{marks_from, places_of, record_at}
 
 -- the cells of an element, of which the first has a number
 abbrev pub numbered : ℕ → ℕ → List (ℕ × ℤ) → List TrailCell
@@ -168,6 +169,35 @@ trail_later row [] cells = []
 trail_later row (place ∷ places) cells =
     trail_marks row place.best (place.rest -ℤ values_in (in_element place.element cells)) places
     (behind_element place.element cells)
+
+-- the marks of a pattern that are left, from a row on
+pub record AreLeft (records : Records) (pattern : List (List ℕ)) (left : List Mark) : Type 0 where
+  pub row : ℕ
+  pub is : left ≡ marks_from pattern (last_item pattern) row (drop row records)
+
+-- marks begin with a row, and with all of it
+pub record IsFrontRow (marks : List Mark) (row : Row) : Type 0 where
+  pub parts : marks ≡ row.first.now ∷ row.others.now ++ row.left.now
+  pub all : length row.others.now ≡ front_of row.first.now.row (row.others.now ++ row.left.now)
+
+-- the marks beside the first one of a row, those in the elements behind it, and the spans of these
+abbrev pub row_beside : Row → List Mark
+row_beside row = trail_beside row.first.now.row row.first.now.place (reverse row.stretch.cells.now)
+
+abbrev pub row_later : Row → List Mark
+row_later row =
+    trail_later row.first.now.row (places_of (row.first.now ∷ row.others.now)) (reverse row.stretch.cells.now)
+
+abbrev pub row_spans : Row → List Span
+row_spans row =
+    trail_spans row.stretch.low 0 (behind_element row.first.now.place.element (reverse row.stretch.cells.now))
+
+-- those in the elements behind it are all marks of kept items there, with the cells behind each
+pub record IsWalked (keep : ℕ → Bool) (records : Records) (trail : List TrailCell) (row : Row) : Type 0 where
+  pub marks : row_later row ≡ filter (takes keep)
+      (later_marks (record_at (weighed_of keep records) row.first.now.row) row.first.now.row
+      (places_of (row.first.now ∷ row.others.now)))
+  pub spans : AreSpans keep records trail (row_later row) (row_spans row)
 
 -- marks of all kept items by which a pattern can grow, with the cells behind each
 pub record AreReached (keep : ℕ → Bool) (records : Records) (trail : List TrailCell)

@@ -4,10 +4,9 @@ ghost use Rattle.std.specs.Prelude.{◌≡◌, ◌++◌, ℕ, pos, Bool, [], len
 ghost use Rattle.std.specs.List.{AllByRecursion};
 ghost use Rattle.hu_kind.specs.Sequence.{IsSequence};
 ghost use Rattle.hu_chain.specs.Place.{totals};
-ghost use Rattle.hu_span.specs.Gather.{front_of};
 ghost use Rattle.hu_span.specs.Trail.{cells_from, trail_marks, trail_spans, AreReached, HoldsPlaces, OfHeld};
 
-use crate::mark::Mark;
+use crate::rows::next_row;
 use crate::trail::{Held, TrailCell, push_record};
 use crate::walk::{Walk, push_beside, push_later, push_walk};
 use hu_chain::Growth;
@@ -109,23 +108,9 @@ fn held_after(alloc: Global, trail: &[TrailCell], held: &Held) -> Result<Held, N
 {
     let mut grown = Held::new(alloc);
     let mut left = held.marks.as_slice();
-    'rows: while let Some((first, later)) = left.split_first() {
-        let stretch = held.behind(held.marks.len() - left.len(), trail);
-        let (row, next) = later.split_at(row_len(later, first.row));
-        push_later(&mut grown, stretch.cells, stretch.low, first, row)?;
-        left = next;
+    'rows: while let Some(row) = next_row(held, trail, left) {
+        push_later(&mut grown, row)?;
+        left = row.left;
     }
     Ok(grown)
-}
-
-/// How many marks at the front are of a row.
-pub(crate) fn row_len(marks: &[Mark], row: usize) -> usize
-    ensures { result ≡ front_of row marks.now }
-{
-    for (number, mark) in marks.iter().enumerate() {
-        if mark.row != row {
-            return number;
-        }
-    }
-    marks.len()
 }

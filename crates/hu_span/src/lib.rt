@@ -18,6 +18,7 @@ mod gather;
 mod kept;
 mod links;
 mod mark;
+mod rows;
 mod scan;
 mod search;
 mod step;

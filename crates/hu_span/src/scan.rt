@@ -7,8 +7,8 @@ ghost use Rattle.hu_span.specs.Kept.{weighed_of};
 ghost use Rattle.hu_span.specs.Trail.{HoldsPlaces, OfHeld};
 
 use crate::child::{Child, children_told, tell_all};
-use crate::gather::row_len;
 use crate::links::Links;
+use crate::rows::next_row;
 use crate::trail::{Held, Span, TrailCell};
 use crate::walk::{push_beside, push_later};
 use hu_chain::Growth;
@@ -92,13 +92,11 @@ fn scanned_after(
     let mut tells = Vec::new(alloc);
     let mut later = Held::new(alloc);
     let mut left = held.marks.as_slice();
-    'rows: while let Some((first, others)) = left.split_first() {
-        let stretch = held.behind(held.marks.len() - left.len(), trail);
-        let (row, next) = others.split_at(row_len(others, first.row));
+    'rows: while let Some(row) = next_row(held, trail, left) {
         later.clear();
-        push_later(&mut later, stretch.cells, stretch.low, first, row)?;
+        push_later(&mut later, row)?;
         tell_all(&mut links, &mut tells, &later.marks, reaches)?;
-        left = next;
+        left = row.left;
     }
     children_told(alloc, &links, &tells, Growth::AfterLast)
 }

@@ -1,12 +1,13 @@
 //! Walks over the cells of a trail behind a place, by which a pattern grows.
 
-ghost use Rattle.std.specs.Prelude.{◌≡◌, ◌++◌, ◌^◌, ◌+◌, ◌<◌, ◌+ℤ◌, ◌-ℤ◌, length, reverse, ◌∷◌, OnOk};
+ghost use Rattle.std.specs.Prelude.{◌≡◌, ◌++◌, ◌^◌, ◌+◌, ◌<◌, ◌+ℤ◌, ◌-ℤ◌, length, reverse, OnOk};
 ghost use Rattle.std.specs.List.{AllByRecursion};
 ghost use Rattle.hu_chain.specs.Bound.{IsFit};
 ghost use Rattle.hu_span.specs.Mark.{places_of};
-ghost use Rattle.hu_span.specs.Trail.{behind_element, best_before, in_element, left_before, mark_of, trail_beside, trail_later, trail_marks, trail_spans, values_in};
+ghost use Rattle.hu_span.specs.Trail.{behind_element, best_before, in_element, left_before, mark_of, row_beside, row_later, row_spans, trail_beside, trail_marks, trail_spans, values_in};
 
 use crate::mark::Mark;
+use crate::rows::Row;
 use crate::trail::{Held, Span, TrailCell};
 use hu_chain::Place;
 use hu_kind::NoMemory;
@@ -45,31 +46,23 @@ pub(crate) fn push_beside(
     Ok(())
 }
 
-/// Appends the marks of the cells in the elements behind the first mark of a row, of which others are left.
-pub(crate) fn push_later(
-    held: &mut Held,
-    cells: &[TrailCell],
-    low: usize,
-    first: &Mark,
-    left: &[Mark],
-) -> Result<(), NoMemory>
-    requires within { low + length cells.now < 2 ^ 64 }
-    requires beside { AllByRecursion IsFit (places_of
-        (trail_beside first.now.row first.now.place (reverse cells.now))) }
-    requires fit { AllByRecursion IsFit (places_of
-        (trail_later first.now.row (places_of (first.now ∷ left.now)) (reverse cells.now))) }
-    ensures marks { OnOk result (held.new.marks.items ≡ held.old.marks.items
-        ++ trail_later first.now.row (places_of (first.now ∷ left.now)) (reverse cells.now)) }
-    ensures spans { OnOk result (held.new.spans.items ≡ held.old.spans.items
-        ++ trail_spans low 0 (behind_element first.now.place.element (reverse cells.now))) }
+/// Appends the marks of the cells in the elements behind the first mark of a row.
+pub(crate) fn push_later(held: &mut Held, row: Row<'_>) -> Result<(), NoMemory>
+    requires within { row.stretch.low + length row.stretch.cells.now < 2 ^ 64 }
+    requires beside { AllByRecursion IsFit (places_of (row_beside row)) }
+    requires later { AllByRecursion IsFit (places_of (row_later row)) }
+    ensures marks { OnOk result
+        (held.new.marks.items ≡ held.old.marks.items ++ row_later row.entry) }
+    ensures spans { OnOk result
+        (held.new.spans.items ≡ held.old.spans.items ++ row_spans row.entry) }
 {
-    let Later { cells, ahead } = behind(cells, first);
+    let Later { cells, ahead } = behind(row.stretch.cells, row.first);
     let walk = Walk {
-        best: first.place.best,
+        best: row.first.place.best,
         ahead,
-        left,
+        left: row.others,
     };
-    push_walk(held, cells, low, first.row, walk)
+    push_walk(held, cells, row.stretch.low, row.first.row, walk)
 }
 
 /// The cells behind an element, and the sum of their values.
