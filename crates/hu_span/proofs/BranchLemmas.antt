@@ -1,15 +1,10 @@
 -- Branches: children with places of their own, in the order of their falling bounds.
-use Rattle.std.proofs.Common.{◌≡◌, ℕ, zero, suc, ◌+◌, ◌<◌, ◌≤◌, Bool, true, false, ℤ, ◌≤ℤ◌, ◌<ℤ◌, int_le, List, [], ◌∷◌, length, get_or, take, drop}
-use Rattle.std.proofs.Common.{sym, ap, ◌∙◌, subst, inl, inr, arith, Contains, IsPermutation}
-use Rattle.std.specs.declared.cmp.Ordering.TheVariants.{Less}
-use Rattle.std.specs.Cmp.{int_cmp_is, IsStrictWeakOrder}
+use Rattle.std.proofs.Common.{◌≡◌, ℕ, ◌+◌, ◌<◌, Bool, true, false, ℤ, ◌≤ℤ◌, ◌<ℤ◌, int_le, List, [], ◌∷◌, length, get_or, take}
+use Rattle.std.proofs.Common.{sym, subst, inl, inr, arith, Contains, IsPermutation}
 use Rattle.std.specs.List.{AllByRecursion}
-use Rattle.std.specs.List.Sorted.{IsSortedBy}
-use Rattle.std.specs.Ordering.{int_cmp, is_lt, flip_args}
-use Rattle.std.proofs.lemmas.Cmp.{back_total, int_cmp_total}
-use Rattle.std.proofs.lemmas.Int.{ints, by_lt_z}
+use Rattle.std.proofs.lemmas.Int.{ints}
 use Rattle.std.proofs.lemmas.List.Elements.{Contains-append_left, Contains-push, Contains-push_cases}
-use Rattle.std.proofs.lemmas.List.Sorted.{ranks_by, sorted_far, Contains-permutation, IsPermutation-sym}
+use Rattle.std.proofs.lemmas.List.Sorted.{Contains-permutation, IsPermutation-sym}
 use Rattle.hu_kind.specs.Sequence.{sequence_support, sequence_utility}
 use Rattle.hu_kind.proofs.lemmas.Members.{Member}
 use Rattle.hu_kind.proofs.lemmas.Occurring.{at_member}
@@ -25,7 +20,7 @@ use Rattle.hu_chain.specs.declared.chain.Growth.{Growth}
 use Rattle.hu_kind.proofs.lemmas.Members.{Contains-from_member, Member-append_left, Member-append_right, Member-from_contains}
 use Rattle.hu_kind.proofs.lemmas.Each.{each-append, each-push, each-weaker}
 use Rattle.hu_span.specs.declared.trail.Held.{Held}
-use Rattle.hu_span.specs.Branch.{AreBranchesBy, AreCopies, Fall, HasPlaces, IsBranch, IsCopy, IsPart, IsPushed}
+use Rattle.hu_span.specs.Branch.{AreBranchesBy, AreCopies, HasPlaces, IsBranch, IsCopy, IsPart, IsPushed}
 use Rattle.hu_span.specs.Child.{stepped, AreChildrenBy, ArePlaces, IsChild}
 use Rattle.hu_span.specs.Gather.{MayTake}
 use Rattle.hu_span.specs.Growing.{Records}
